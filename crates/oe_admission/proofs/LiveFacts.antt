@@ -65,7 +65,7 @@ served_stay : (w : World system) (i : theory.Step system) (a : theory.Answer sys
     → AreServing w → Next system w i a w' → AreServing w'
 served_stay w _ _ _ b h (begins t q m) = placed t (Some (begun system w t q)) w.active h (starts q b, starts q b)
 served_stay w _ _ _ b h (goes_on t o c p e g r room) =
-    placed t (Some (moved system o _ c p (tables system w))) w.active h (
+    placed t (Some (moved system w.layout o _ c p (tables system w))) w.active h (
       (goes (tx_of system t o) o.now.position (tables system w) c p (here w h t o e).0 r).0,
       marked
           (marks o.now.position) o.now o.mark (here w h t o e).0 (here w h t o e).1,
@@ -119,7 +119,7 @@ falls_by : (w : World system) (i : theory.Step system) (a : theory.Answer system
     → IsLive (Some w) → Next system w i a w' → i ≡ Advance t → a ≡ More → left w' t < left w t
 falls_by w _ _ _ t l (goes_on u o c p e g r room) i a =
     let same : u ≡ t = cc in
-    let next : Open system = moved system o (ask (tx_of system u o) o.now.position (tables system w)) c p
+    let next : Open system = moved system w.layout o (ask (tx_of system u o) o.now.position (tables system w)) c p
     (tables system w) in
     let before : Rows = tables system w in
     let after : Rows = with_change system (Go c p) before in

@@ -38,7 +38,7 @@ change_back-of (change.DeleteNewOrder k) = refl
 pub changes_are_told_apart : Changes_are_told_apart
 changes_are_told_apart c d e = sym (change_back-of c) ∙ ap change_back e ∙ change_back-of d
 
--- the row before an update is found where there is one, or else another's is taken
+-- what a record has of the row before an update is found where it is there, or else another record is taken
 abbrev or_else : {A B : Type 0} → (A → B) → B → Option A → B
 or_else f b None = b
 or_else f b (Some x) = f x
@@ -55,6 +55,12 @@ record_back d (model.UpdatedOrder k v) = or_else (own.UpdatedOrder k) d v
 record_back d (model.UpdatedOrderLine k v) = or_else (own.UpdatedOrderLine k) d v
 record_back d (model.UpdatedStock k v) = or_else (own.UpdatedStock k) d v
 record_back d (model.DeletedNewOrder k v) = own.DeletedNewOrder k
+record_back d (model.ChangedWarehouse k v) = or_else (own.ChangedWarehouse k) d v
+record_back d (model.ChangedDistrict k v) = or_else (own.ChangedDistrict k) d v
+record_back d (model.ChangedCustomer k v) = or_else (own.ChangedCustomer k) d v
+record_back d (model.ChangedOrder k v) = or_else (own.ChangedOrder k) d v
+record_back d (model.ChangedOrderLine k v) = or_else (own.ChangedOrderLine k) d v
+record_back d (model.ChangedStock k v) = or_else (own.ChangedStock k) d v
 
 record_back-of : (d b : OwnRecord) → record_back d (record_of_own b) ≡ b
 record_back-of d (own.InsertedHistory k) = refl
@@ -68,6 +74,12 @@ record_back-of d (own.UpdatedOrder k x) = refl
 record_back-of d (own.UpdatedOrderLine k x) = refl
 record_back-of d (own.UpdatedStock k x) = refl
 record_back-of d (own.DeletedNewOrder k) = refl
+record_back-of d (own.ChangedWarehouse k x) = refl
+record_back-of d (own.ChangedDistrict k x) = refl
+record_back-of d (own.ChangedCustomer k x) = refl
+record_back-of d (own.ChangedOrder k x) = refl
+record_back-of d (own.ChangedOrderLine k x) = refl
+record_back-of d (own.ChangedStock k x) = refl
 
 pub records_are_told_apart : Records_are_told_apart
 records_are_told_apart b d e = sym (record_back-of b b) ∙ ap (record_back b) e ∙ record_back-of b d

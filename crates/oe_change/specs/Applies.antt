@@ -1,26 +1,27 @@
 -- What a change makes of the tables, and why one is refused.
 use Rattle.std.specs.Prelude.{◌≡◌, true, Some, is_some, is_none, not}
 use Rattle.std.specs.List.{find}
+use Rattle.oe_rows.specs.declared.layouts.Layout.{Layout}
 use Rattle.oe_requests.specs.declared.refusals.Refusal.{Refusal}
 use Rattle.oe_requests.specs.declared.refusals.Refusal.TheVariants.{Reference, NoMemory}
 use Rattle.oe_model.specs.Rows.{Rows, row_at}
-use Rattle.oe_model.specs.Changes.{Change, key_of, changed, Record, record_of}
+use Rattle.oe_model.specs.Changes.{Change, key_of, changed, Record, record_in}
 use Rattle.oe_model.specs.Meets.{Accepts, Cause, is_insert, referred}
 use Rattle.oe_layout.specs.declared.records.OwnRecord.{OwnRecord}
 use Rattle.oe_layout.specs.Records.{record_of_own}
 use Rattle.oe_store.specs.Places.{Places, rows, HasPlace, AddsPlace}
 
--- the tables accept the change, and it is made; `b` is its undo record
-pub record Applies (c : Change) (old new : Places) (b : Record) : Type 0 where
+-- the tables accept the change, and it is made; `b` is its undo record in the layout
+pub record Applies (l : Layout) (c : Change) (old new : Places) (b : Record) : Type 0 where
   pub accepted : Accepts c (rows old)
   pub changes : rows new ≡ changed c (rows old)
-  pub before : b ≡ record_of c (row_at (rows old) (key_of c))
+  pub before : b ≡ record_in l c (row_at (rows old) (key_of c))
   -- each key that had a place has one, and the change's key
   pub places : AddsPlace old new (key_of c)
 
 -- it has applied the change, with a record as it is kept
-abbrev pub HasApplied : Change → Places → Places → OwnRecord → Type 0
-HasApplied c old new b = Applies c old new (record_of_own b)
+abbrev pub HasApplied : Layout → Change → Places → Places → OwnRecord → Type 0
+HasApplied l c old new b = Applies l c old new (record_of_own b)
 
 -- why a change is refused: the cause is there, or, for an insert that the tables accept, its key has no place and takes
 -- memory

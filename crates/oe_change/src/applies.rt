@@ -14,17 +14,18 @@ use crate::updates::{
 };
 use oe_layout::OwnRecord;
 use oe_requests::Refusal;
+use oe_rows::Layout;
 use oe_store::Tables;
 
-/// Makes a change of one row and answers its undo record, or says why not.
+/// Makes a change of one row and answers its undo record in the layout, or says why not.
 ///
 /// `NoSuchRow`: the key of an update or a delete is absent. `RowExists`: the key of an insert is
 /// there. `Reference`: what the new row refers to is absent (clauses 1.3 and 1.4). `KeyColumn`: an
 /// update changes C_LAST, C_FIRST or O_C_ID. `NoMemory`: the tables accept the insert, but its key
 /// takes a new place, and its memory was refused. A column can't leave its range, since rows are in
 /// their ranges by type.
-pub fn apply(tables: &mut Tables, change: Change) -> Result<OwnRecord, Refusal>
-    ensures applied { IfOk result (HasApplied (change_of change) tables.old tables.new) }
+pub fn apply(tables: &mut Tables, layout: Layout, change: Change) -> Result<OwnRecord, Refusal>
+    ensures applied { IfOk result (HasApplied layout (change_of change) tables.old tables.new) }
 
     // A refusal has its cause, and the tables are as before.
     ensures refused { IfErr result (λ e. Refuses (change_of change) tables.old e) }
@@ -40,12 +41,12 @@ pub fn apply(tables: &mut Tables, change: Change) -> Result<OwnRecord, Refusal>
         Change::InsertNewOrder(key) => insert_new_order(tables, &key),
         Change::InsertOrder(key, row) => insert_order(tables, &key, row),
         Change::InsertOrderLine(key, row) => insert_order_line(tables, &key, row),
-        Change::UpdateWarehouse(key, row) => update_warehouse(tables, &key, row),
-        Change::UpdateDistrict(key, row) => update_district(tables, &key, row),
-        Change::UpdateCustomer(key, row) => update_customer(tables, &key, row),
-        Change::UpdateOrder(key, row) => update_order(tables, &key, row),
-        Change::UpdateOrderLine(key, row) => update_order_line(tables, &key, row),
-        Change::UpdateStock(key, row) => update_stock(tables, &key, row),
+        Change::UpdateWarehouse(key, row) => update_warehouse(tables, layout, &key, row),
+        Change::UpdateDistrict(key, row) => update_district(tables, layout, &key, row),
+        Change::UpdateCustomer(key, row) => update_customer(tables, layout, &key, row),
+        Change::UpdateOrder(key, row) => update_order(tables, layout, &key, row),
+        Change::UpdateOrderLine(key, row) => update_order_line(tables, layout, &key, row),
+        Change::UpdateStock(key, row) => update_stock(tables, layout, &key, row),
         Change::DeleteNewOrder(key) => delete_new_order(tables, &key),
     }
 }

@@ -1,5 +1,7 @@
-//! Inserts of rows that the tables accept. A key without a place takes memory.
+//! Inserts of rows that the tables accept. A key without a place takes memory. The undo record is
+//! the same in each layout.
 ghost use Rattle.std.specs.Prelude.{◌≡◌, IfOk, IfErr, OnErr};
+ghost use Rattle.oe_rows.specs.declared.layouts.Layout.{Layout};
 ghost use Rattle.oe_model.specs.Changes.{InsertHistory, InsertNewOrder, InsertOrder, InsertOrderLine};
 ghost use Rattle.oe_store.specs.Places.{rows};
 ghost use Rattle.oe_change.specs.Applies.{HasApplied, Refuses, IsFirst};
@@ -23,7 +25,8 @@ pub fn insert_history(
     key: &HistoryKey,
     row: History,
 ) -> Result<OwnRecord, Refusal>
-    ensures applied { IfOk result (HasApplied (InsertHistory key.now row) tables.old tables.new) }
+    ensures applied { (l : Layout) → IfOk result
+        (HasApplied l (InsertHistory key.now row) tables.old tables.new) }
     ensures refused { IfErr result (λ e. Refuses (InsertHistory key.now row) tables.old e) }
     ensures first { IfErr result (λ e. IsFirst (InsertHistory key.now row) (rows tables.old) e) }
     ensures unchanged { OnErr result (tables.new ≡ tables.old) }
@@ -44,8 +47,8 @@ pub fn insert_history(
 /// changed then.
 #[inline(always)]
 pub fn insert_new_order(tables: &mut Tables, key: &NewOrderKey) -> Result<OwnRecord, Refusal>
-    ensures applied { IfOk result (
-        HasApplied (InsertNewOrder key.now (record {})) tables.old tables.new) }
+    ensures applied { (l : Layout) → IfOk result (
+        HasApplied l (InsertNewOrder key.now (record {})) tables.old tables.new) }
     ensures refused { IfErr result (Refuses (InsertNewOrder key.now (record {})) tables.old) }
     ensures first { IfErr result (IsFirst (InsertNewOrder key.now (record {})) (rows tables.old)) }
     ensures unchanged { OnErr result (tables.new ≡ tables.old) }
@@ -66,7 +69,8 @@ pub fn insert_new_order(tables: &mut Tables, key: &NewOrderKey) -> Result<OwnRec
 /// changed then.
 #[inline(always)]
 pub fn insert_order(tables: &mut Tables, key: &OrderKey, row: Order) -> Result<OwnRecord, Refusal>
-    ensures applied { IfOk result (HasApplied (InsertOrder key.now row) tables.old tables.new) }
+    ensures applied { (l : Layout) → IfOk result
+        (HasApplied l (InsertOrder key.now row) tables.old tables.new) }
     ensures refused { IfErr result (λ e. Refuses (InsertOrder key.now row) tables.old e) }
     ensures first { IfErr result (λ e. IsFirst (InsertOrder key.now row) (rows tables.old) e) }
     ensures unchanged { OnErr result (tables.new ≡ tables.old) }
@@ -92,7 +96,8 @@ pub fn insert_order_line(
     key: &OrderLineKey,
     row: OrderLine,
 ) -> Result<OwnRecord, Refusal>
-    ensures applied { IfOk result (HasApplied (InsertOrderLine key.now row) tables.old tables.new) }
+    ensures applied { (l : Layout) → IfOk result
+        (HasApplied l (InsertOrderLine key.now row) tables.old tables.new) }
     ensures refused { IfErr result (λ e. Refuses (InsertOrderLine key.now row) tables.old e) }
     ensures first { IfErr result (λ e. IsFirst (InsertOrderLine key.now row) (rows tables.old) e) }
     ensures unchanged { OnErr result (tables.new ≡ tables.old) }

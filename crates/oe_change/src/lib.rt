@@ -7,6 +7,7 @@ pub mod applies;
 pub mod changes;
 pub mod inserts;
 pub mod laws;
+mod made;
 pub mod records;
 pub mod updates;
 pub mod writes;

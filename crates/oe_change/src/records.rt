@@ -11,7 +11,8 @@ use oe_rows::NewOrder;
 use oe_store::Tables;
 
 /// Puts the row before a change back: an inserted row goes, the row before an update comes back
-/// whole, and so does a deleted row. It takes no memory and can't fail.
+/// whole or the columns that changed do, on the row that stands, and a deleted row comes back. It
+/// takes no memory and can't fail.
 pub fn undo(tables: &mut Tables, before: OwnRecord)
     requires { CanPutBack tables.old (record_of_own before) }
     ensures rows { rows tables.new ≡ put_back (record_of_own before) (rows tables.old) }
@@ -29,6 +30,12 @@ pub fn undo(tables: &mut Tables, before: OwnRecord)
         OwnRecord::UpdatedOrderLine(key, row) => drop(tables.put_back_order_line(key, row)),
         OwnRecord::UpdatedStock(key, row) => drop(tables.put_back_stock(key, row)),
         OwnRecord::DeletedNewOrder(key) => tables.refill_new_order(key, NewOrder),
+        OwnRecord::ChangedWarehouse(key, old) => tables.put_back_warehouse_columns(key, old),
+        OwnRecord::ChangedDistrict(key, old) => tables.put_back_district_columns(key, old),
+        OwnRecord::ChangedCustomer(key, old) => tables.put_back_customer_columns(key, old),
+        OwnRecord::ChangedOrder(key, old) => tables.put_back_order_columns(key, old),
+        OwnRecord::ChangedOrderLine(key, old) => tables.put_back_order_line_columns(key, old),
+        OwnRecord::ChangedStock(key, old) => tables.put_back_stock_columns(key, old),
     }
 }
 

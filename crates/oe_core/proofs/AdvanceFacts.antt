@@ -56,7 +56,7 @@ has_room : (v : View) (f : ℕ → Option WorkState) (t : ℕ) (c : Option Chang
 has_room v f t None room = tt
 has_room v f t (Some c) room =
     let filled_to = (filled system (lengths_of system (v.undo.active t))).1 in
-    elim (cases_lt filled_to (system.size_of (record_on system c v.rows))) [
+    elim (cases_lt filled_to (system.size_of (record_on system v.layout c v.rows))) [
       | inl over ↦ elim (cases_lt (used_of system v.undo) v.extents) [
         | inl free ↦ inr free
         | inr all ↦ absurd (room (over, all))
@@ -398,7 +398,15 @@ kept_here {s} {t} {y} {w} h w' e' ws x kept why b name same q =
     let own = own_work h in
     worked h (Advance t) (refusal_in (step.Advance t) x) w (Some (slot_of v t w)) e' v
     (subst (λ (f : ℕ → Option (Slot system)). Leads system (store_of s) (Advance t) (refusal_in (step.Advance t) x)
-    (record { tables = v.rows; undo = v.undo; slots = f; seals = v.seals; counts = v.counts; extents = v.extents }))
+    (record {
+      tables = v.rows;
+      undo = v.undo;
+      slots = f;
+      seals = v.seals;
+      counts = v.counts;
+      extents = v.extents;
+      layout = v.layout;
+    }))
     (sym (set_idle t (Some (slot_of v t w)) (store_of s).slots (slot_here h))) (kept_lead s t y w h x kept why))
     b name (record { counts = λ u n. refl; held = λ u n. refl; is_open = λ u n. refl })
     refl

@@ -50,6 +50,7 @@ module _ (s : CoreState) (o : IsOrderly s) (ts : stands.Places) (u : undo.Segmen
     seals = seals_of (log i);
     counts = counts_of (log i);
     extents = (log i).extents;
+    layout = (log i).layout;
   }
 
   pub stand_here : Stand ts u

@@ -108,10 +108,10 @@ last_popped e e' ws ys (Some x) r h k =
     (in_slot ws) t None (in_slot ws t) (last_taken ys (Some x)) kept in
     let same : dropped system t (store_of before) ≡ store_of after =
     sym (ap (λ (z : View). store_with z (work_at after)) now
-    ∙ same_parts _ _ _ _ _ _ _ _ _ _ _ _ refl refl
+    ∙ same_parts _ _ _ _ _ _ _ _ _ _ _ _ _ _ refl refl
     (slots_set v (rolled_back t v) (work_at before) (work_at after) t None None left (λ u n. refl)
     (λ u n. set_other t _ v.held u n) refl)
-    refl refl refl) in
+    refl refl refl refl) in
     record {
       works = works_set e e' (in_slot before.txs) (in_slot ys) (in_slot ws) (in_slot ws) t None (in_slot ws t)
           (last_taken ys (Some x)) kept h.1

@@ -17,6 +17,7 @@ use Rattle.oe_theory.proofs.StoreTheorems.{steps_of_the_store}
 use Rattle.oe_theory.proofs.StoreClosing.{store_is_orderly}
 use Rattle.oe_requests.specs.declared.requests.Request.{Request}
 use Rattle.oe_model.specs.Rows.{Rows}
+use Rattle.oe_rows.specs.declared.layouts.Layout.{Layout}
 use Rattle.oe_model.specs.Requests.{IsRequest, rejection, number_rejection}
 use Rattle.oe_model.specs.System.{system, start_of, terminal_limit}
 use Rattle.oe_model.proofs.SystemLaws.{laws}
@@ -71,12 +72,28 @@ below_limit t h = h
 
 -- two stores are the same where their parts are
 pub same_parts : (r r' : Rows) (u u' : Undo system) (f f' : ℕ → Option (Slot system)) (d d' : List (Seal system))
-    (c c' : ℕ → ℕ) (n n' : ℕ)
-    → r ≡ r' → u ≡ u' → f ≡ f' → d ≡ d' → c ≡ c' → n ≡ n'
-    → ◌≡◌ {A = Store system} (record { tables = r; undo = u; slots = f; seals = d; counts = c; extents = n })
-    (record { tables = r'; undo = u'; slots = f'; seals = d'; counts = c'; extents = n' })
-same_parts r r' u u' f f' d d' c c' n n' p q e g x y =
-    λ i. record { tables = p i; undo = q i; slots = e i; seals = g i; counts = x i; extents = y i }
+    (c c' : ℕ → ℕ) (n n' : ℕ) (l l' : Layout)
+    → r ≡ r' → u ≡ u' → f ≡ f' → d ≡ d' → c ≡ c' → n ≡ n' → l ≡ l'
+    → ◌≡◌ {A = Store system} (record {
+      tables = r;
+      undo = u;
+      slots = f;
+      seals = d;
+      counts = c;
+      extents = n;
+      layout = l;
+    })
+    (record {
+      tables = r';
+      undo = u';
+      slots = f';
+      seals = d';
+      counts = c';
+      extents = n';
+      layout = l';
+    })
+same_parts r r' u u' f f' d d' c c' n n' l l' p q e g x y z =
+    λ i. record { tables = p i; undo = q i; slots = e i; seals = g i; counts = x i; extents = y i; layout = z i }
 
 -- the slots, where one terminal's has changed
 pub slots_set : (v v' : View) (f g : ℕ → Option WorkState) (t : ℕ) (x : Option WorkState) (y : Option (Slot system))
@@ -266,6 +283,7 @@ pub replaced : (s : CoreState) → IsOrderly s → (i : Step system) (a : Answer
       seals = v'.seals;
       counts = v'.counts;
       extents = v'.extents;
+      layout = v'.layout;
     })
     → view_of e' ≡ v' → e'.name ≡ s.engine.name → LeavesOthers t (view_of s.engine) v' → open_at v' t (work_of x w) ≡ y
     → Works e' t x w
@@ -281,9 +299,9 @@ replaced s o i a t h x w y e' v' lead now name left slot works xs ws p q =
     (in_slot ws) t x w txs work in
     closed s s' i a _ lead
     (ap (λ (z : View). store_with z (work_at s')) now
-    ∙ same_parts _ _ _ _ _ _ _ _ _ _ _ _ refl refl
+    ∙ same_parts _ _ _ _ _ _ _ _ _ _ _ _ _ _ refl refl
     (slots_set (view_of s.engine) v' (work_at s) (work_at s') t (work_of x w) y at left.counts left.held slot) refl refl
-    refl)
+    refl refl)
     (ap (λ (z : List (Option Handle)). length z) p ∙ (length-set s.txs t x ∙ o.tx_slots))
     (ap (λ (z : List (Option WorkState)). length z) q ∙ (length-set s.works t w ∙ o.work_slots))
     (works_set s.engine e' (in_slot s.txs) (in_slot xs) (in_slot s.works) (in_slot ws) t x w txs work name
@@ -301,6 +319,7 @@ pub worked : {s : CoreState} {t : ℕ} {x : Handle} {w : WorkState} → HasOpen 
       seals = v'.seals;
       counts = v'.counts;
       extents = v'.extents;
+      layout = v'.layout;
     })
     → view_of e' ≡ v' → e'.name ≡ s.engine.name → LeavesOthers t (view_of s.engine) v' → Some (slot_of v' t w') ≡ y
     → IsTx e' t x
@@ -321,6 +340,7 @@ pub emptied : {s : CoreState} {t : ℕ} {x : Handle} {w : WorkState} → HasOpen
       seals = v'.seals;
       counts = v'.counts;
       extents = v'.extents;
+      layout = v'.layout;
     })
     → view_of e' ≡ v' → e'.name ≡ s.engine.name → LeavesOthers t (view_of s.engine) v' → v'.is_open t ≡ false
     → (xs : List (Option Handle)) (ws : List (Option WorkState)) (z : Option WorkState) → xs ≡ slice_set s.txs t None

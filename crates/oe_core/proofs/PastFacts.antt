@@ -59,8 +59,8 @@ purged_here s o e' m kept now name =
     (stored.purged_to system m (store_of s))
     (the_steps.purges (store_of s) m (standing s o) kept.old kept.new)
     (ap (λ (z : View). store_with z (work_at s)) now
-    ∙ same_parts _ _ _ _ _ _ _ _ _ _ _ _ refl refl
-    (fun_ext (λ u. same_slot v (purged_to m v) u (work_at s u) refl refl)) refl refl refl)
+    ∙ same_parts _ _ _ _ _ _ _ _ _ _ _ _ _ _ refl refl
+    (fun_ext (λ u. same_slot v (purged_to m v) u (work_at s u) refl refl)) refl refl refl refl)
     o.tx_slots o.work_slots
     (λ u. works_still s.engine e' (ap (λ (z : View). z.is_open) now) name u (in_slot s.txs u) (in_slot s.works u)
     (o.works u))
@@ -95,8 +95,8 @@ rewound_here s o e' m quiet kept now name =
     (stored.rewound_to system m (store_of s))
     (the_steps.rewinds (store_of s) m (standing s o) (λ t. is_shut s o t (quiet t)) kept.old kept.new)
     (ap (λ (z : View). store_with z (work_at s)) now
-    ∙ same_parts _ _ _ _ _ _ _ _ _ _ _ _ refl refl
-    (fun_ext (λ u. ap (open_at (rewound_to m v) u) (none u) ∙ sym (ap (open_at v u) (none u)))) refl refl refl)
+    ∙ same_parts _ _ _ _ _ _ _ _ _ _ _ _ _ _ refl refl
+    (fun_ext (λ u. ap (open_at (rewound_to m v) u) (none u) ∙ sym (ap (open_at v u) (none u)))) refl refl refl refl)
     o.tx_slots o.work_slots
     (λ u. works_still s.engine e' (ap (λ (z : View). z.is_open) now) name u (in_slot s.txs u) (in_slot s.works u)
     (o.works u))

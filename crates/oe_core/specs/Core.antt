@@ -70,6 +70,7 @@ store_with v f = record {
   seals = v.seals;
   counts = v.counts;
   extents = v.extents;
+  layout = v.layout;
 }
 
 abbrev pub store_of : CoreState → Store system

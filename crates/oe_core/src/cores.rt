@@ -27,7 +27,7 @@ use crate::works::Work;
 use oe_admission::{ranges_hold, rejection};
 use oe_engine::{Engine, Lock, Progress, Tx};
 use oe_requests::{Answer, Condition, Query, Refusal, ReplyRef, Request, Step};
-use oe_rows::{Mode, Name};
+use oe_rows::{Layout, Mode, Name};
 use oe_store::Tables;
 use oe_values::{ExtentCount, Moment, NoMemory, PerTerminal, Terminal};
 use std::alloc::Global;
@@ -58,13 +58,18 @@ impl Model for Core {
 }
 
 impl Core {
-    /// Opens a core on a population, with that number of undo extents. `NoMemory` where memory was
+    /// Opens a core on a population, with that number of undo extents and records of that layout. `NoMemory` where memory was
     /// refused.
-    pub fn open(alloc: Global, tables: Tables, extents: ExtentCount) -> Result<Core, NoMemory>
+    pub fn open(
+        alloc: Global,
+        tables: Tables,
+        extents: ExtentCount,
+        layout: Layout,
+    ) -> Result<Core, NoMemory>
         requires { IsPopulation (rows tables) }
-        ensures { IfOk result (λ c. world_of c ≡ opened system (rows tables) extents) }
+        ensures { IfOk result (λ c. world_of c ≡ opened system (rows tables) extents layout) }
     {
-        let engine = Engine::open(alloc, tables, extents, 0)?;
+        let engine = Engine::open(alloc, tables, extents, layout, 0)?;
         let Ok((works, txs)) = empty_places(alloc) else {
             engine.close().discard();
             return Err(NoMemory);

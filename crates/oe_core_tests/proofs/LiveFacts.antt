@@ -7,6 +7,7 @@ use Rattle.std.proofs.lemmas.List.Elements.{All-cons, All-nil}
 use Rattle.oe_theory.specs.Theorems.{opened}
 use Rattle.oe_theory.proofs.Theorems.{opening_is_reached}
 use Rattle.oe_model.specs.Rows.{Rows}
+use Rattle.oe_rows.specs.declared.layouts.Layout.TheVariants.{WholeRows}
 use Rattle.oe_model.specs.Conditions.{IsPopulation}
 use Rattle.oe_model.specs.System.{system}
 use Rattle.oe_model.proofs.SystemLaws.{laws, population_is_good}
@@ -19,10 +20,10 @@ use Rattle.oe_core.specs.Steps.{begins_with}
 use Rattle.oe_script.specs.Session.{state_of}
 use Rattle.oe_admission.specs.Programs.{IsLive}
 
-pub opened_is_live : (c : CoreState) (r : Rows) (n : ℕ) → world_of c ≡ opened system r n → IsPopulation r
+pub opened_is_live : (c : CoreState) (r : Rows) (n : ℕ) → world_of c ≡ opened system r n WholeRows → IsPopulation r
     → IsLive (state_of (Some c))
 opened_is_live c r n e p = subst (λ w. IsLive (Some w)) (sym e)
-    (opening_is_reached system laws r n (population_is_good r p), λ t. tt)
+    (opening_is_reached system laws r n WholeRows (population_is_good r p), λ t. tt)
 
 abbrev Begins : Step → Type 0
 Begins i = IfSome (begins_with i) HasProgram

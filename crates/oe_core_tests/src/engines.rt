@@ -3,7 +3,7 @@
 use crate::made::{district_key, payment, populated};
 use oe_engine::{Engine, Savepoint, Tx};
 use oe_requests::{DistrictDelivery, Refusal, Reply, Request};
-use oe_rows::{DistrictKey, Key, Mode, Name, Row};
+use oe_rows::{DistrictKey, Key, Layout, Mode, Name, Row};
 use oe_values::{ExtentCount, LastName, Terminal};
 use std::alloc::Global;
 use std::process::Abort;
@@ -74,7 +74,7 @@ fn engine_on(rt: &impl Abort, alloc: Global, name: u32) -> Engine {
     let Some(tables) = populated(alloc, 10, 20) else {
         panic!(rt; "no population")
     };
-    match Engine::open(alloc, tables, extents, name) {
+    match Engine::open(alloc, tables, extents, Layout::ChangedColumns, name) {
         Ok(engine) => engine,
         Err(_) => panic!(rt; "no memory"),
     }

@@ -11,6 +11,7 @@ use crate::sessions::sum_of;
 use oe_audit::is_population;
 use oe_core::Core;
 use oe_requests::{Answer, Condition, Refusal, Request, Step};
+use oe_rows::Layout;
 use oe_runs::run;
 use oe_values::{ExtentCount, Moment, Terminal};
 use std::alloc::Global;
@@ -23,7 +24,7 @@ fn opened_once(rt: &impl Abort, alloc: Global) -> Option<Core> {
     if !is_population(&tables) {
         panic!(rt; "no population");
     }
-    Core::open(alloc, tables, extents).ok()
+    Core::open(alloc, tables, extents, Layout::ChangedColumns).ok()
 }
 
 /// Opens one, and again where memory was refused.

@@ -1,7 +1,7 @@
 //! Faults of a population, as data: a column with another value, a row more, or a row less.
 use crate::made::{district_key, history_key, order_key};
 use oe_change::{Change, apply};
-use oe_rows::{OrderKey, OrderLineKey, StockCounters, StockKey};
+use oe_rows::{Layout, OrderKey, OrderLineKey, StockCounters, StockKey};
 use oe_store::Tables;
 use oe_values::{Balance, Count, LineNumber, Number, StockYtd, YearToDate};
 
@@ -97,7 +97,7 @@ fn set_stock(tables: &mut Tables, columns: &[u32; 2], ends: &[u32; 3]) -> Option
 
 /// Makes a change that the tables take.
 fn amend(tables: &mut Tables, change: Change) -> Option<()> {
-    match apply(tables, change) {
+    match apply(tables, Layout::ChangedColumns, change) {
         Ok(before) => {
             drop(before);
             Some(())

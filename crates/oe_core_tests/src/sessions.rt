@@ -11,7 +11,7 @@ use oe_core::Core;
 use oe_ports::dumps::dump;
 use oe_ports::output::flush;
 use oe_ports::ports::{Failed, Outlet};
-use oe_rows::Table;
+use oe_rows::{Layout, Table};
 use oe_script::listeners::Quiet;
 use oe_script::session::Session;
 use oe_store::Tables;
@@ -84,7 +84,7 @@ pub(crate) fn core_on(rt: &impl Abort, alloc: Global, tables: Tables) -> Core
     if !is_population(&tables) {
         panic!(rt; "no population");
     }
-    match Core::open(alloc, tables, extents) {
+    match Core::open(alloc, tables, extents, Layout::WholeRows) {
         Ok(core) => core,
         Err(_) => panic!(rt; "no memory"),
     }

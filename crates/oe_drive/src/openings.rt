@@ -11,6 +11,7 @@ use oe_hall::{Naming, Seats, Shop};
 use oe_model::populations::population_is_one;
 use oe_numbers::DriveNumbers;
 use oe_population::populate;
+use oe_rows::Layout;
 use oe_values::NoMemory;
 use std::alloc::Global;
 use std::sync::Wait;
@@ -33,7 +34,7 @@ fn opened<J: Naming>(
     let Ok(tables) = populate(alloc, numbers.scale) else {
         return Err(NoMemory);
     };
-    Shop::open(alloc, tables, numbers.extents, seats)
+    Shop::open(alloc, tables, numbers.extents, Layout::WholeRows, seats)
 }
 
 /// Runs the plans in a shop on a new population. `NoMemory` where memory or a thread is refused.

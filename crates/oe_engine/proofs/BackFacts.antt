@@ -14,7 +14,7 @@ use Rattle.oe_model.specs.Changes.{Record, put_back, record_key}
 use Rattle.oe_model.specs.System.{system, terminal_limit}
 use Rattle.oe_store.specs.Places.{rows, HasPlace}
 use Rattle.oe_store.specs.Places as tables
-use Rattle.oe_change.specs.PutBack.{CanPutBack}
+use Rattle.oe_change.specs.PutBack.{CanPutBack, Stands}
 use Rattle.oe_log.specs.Records.{Logged, newest_of}
 use Rattle.oe_log.specs.Log.{SegmentLog, Open, active_at, records_at, with_records, popped}
 use Rattle.oe_log.specs.Stands.{model_records, undo_of, seals_of, counts_of}
@@ -102,7 +102,8 @@ goes ts ts' ts'' v v' t count o (r ∷ rs) left b size is e put back h =
     ∙ sym (put_twice t (model_records rs) (model_records (r ∷ rs)) (undo_of v))
     ∙ ap (put_records system t (model_records rs)) (sym (ap undo_of h.log ∙ (records_stand v t o (r ∷ rs) is).undo)) in
     let sized : length (popped v' t).terminals ≡ terminal_limit = records_size v' t (drop 1 (records_at v' t)) ∙ size in
-    let step = one_given_up b ts' ts'' v' (popped v' t) t (model_records rs) sized active after put back in
+    let step = one_given_up b ts' ts'' v' (popped v' t) t (model_records rs) sized active after
+    (subst (λ z. Stands z (rows ts')) same h.can.0) put back in
     record {
       log = gone;
       rest = h.rest;
@@ -160,6 +161,7 @@ ends ts ts' v v' t count o rs is h =
         counts = ap counts_of h.log ∙ stands.counts;
         size = ap (λ (z : SegmentLog). length z.terminals) h.log ∙ records_size v t rs;
         extents = ap (λ (z : SegmentLog). z.extents) h.log;
+        layout = ap (λ (z : SegmentLog). z.layout) h.log;
         places = h.given_up;
         own = subst (HavePlaces ts') (sym records) h.own;
       };

@@ -18,6 +18,8 @@ use Rattle.oe_theory.specs.World.{set}
 use Rattle.oe_theory.specs.Next.{record_on}
 use Rattle.oe_theory.specs.Undo.{unwind, unwind_commits}
 use Rattle.oe_theory.proofs.Sets.{set_same, set_other, set_swap}
+use Rattle.oe_rows.specs.Before.{warehouse_before, district_before, customer_before, order_before, order_line_before}
+use Rattle.oe_rows.specs.Before.{stock_before, with_district, with_customer, with_stock}
 use Rattle.oe_model.specs.Keys.{order_of_new_order, order_of_line, customer_of_order, supply_of_line}
 use Rattle.oe_model.specs.Rows.{Rows, is_key, row_at, as_warehouse, as_district, as_customer, as_order, as_order_line}
 use Rattle.oe_model.specs.Rows.{as_stock}
@@ -26,7 +28,11 @@ use Rattle.oe_model.specs.Changes.{UpdateDistrict, UpdateCustomer, UpdateOrder, 
 use Rattle.oe_model.specs.Changes.{DeleteNewOrder, key_of, row_of, changed, Record, InsertedHistory, InsertedNewOrder}
 use Rattle.oe_model.specs.Changes.{InsertedOrder, InsertedOrderLine, UpdatedWarehouse, UpdatedDistrict, UpdatedCustomer}
 use Rattle.oe_model.specs.Changes.{UpdatedOrder, UpdatedOrderLine, UpdatedStock, DeletedNewOrder, record_of, record_key}
-use Rattle.oe_model.specs.Changes.{row_before, put_back}
+use Rattle.oe_model.specs.Changes.{restore, put_back, record_in, columns_before, with_columns}
+use Rattle.oe_model.specs.Changes.{ChangedWarehouse, ChangedDistrict, ChangedCustomer, ChangedOrder, ChangedOrderLine}
+use Rattle.oe_model.specs.Changes.{ChangedStock}
+use Rattle.oe_rows.specs.declared.layouts.Layout.{Layout}
+use Rattle.oe_rows.specs.declared.layouts.Layout.TheVariants.{WholeRows, ChangedColumns}
 use Rattle.oe_model.specs.Meets.{Meets, Accepts}
 use Rattle.oe_model.specs.System.{system}
 use Rattle.oe_model.proofs.RowFacts.{key_true, key_refl, at_changed, at_put_back, same_rows, out-map, undone, un_order}
@@ -50,7 +56,7 @@ at_other_changed : (c : Change) (r : Rows) (k : Key) → k ≢ key_of c → row_
 at_other_changed c r k ne = at_changed c r k ∙ ap (λ z. cond z (row_of c) (row_at r k)) (is_other k (key_of c) ne)
 
 at_other_put_back : (b : Record) (r : Rows) (k : Key) → k ≢ record_key b → row_at (put_back b r) k ≡ row_at r k
-at_other_put_back b r k ne = at_put_back b r k ∙ ap (λ z. cond z (row_before b) (row_at r k))
+at_other_put_back b r k ne = at_put_back b r k ∙ ap (λ z. cond z (restore b (row_at r k)) (row_at r k))
     (is_other k (record_key b) ne)
 
 -- a change and the undo of another row's change come in any order
@@ -58,14 +64,14 @@ commutes : (b : Record) (c : Change) (r : Rows) → record_key b ≢ key_of c
     → put_back b (changed c r) ≡ changed c (put_back b r)
 commutes b c r ne = same_rows _ _ (λ k.
     at_put_back b (changed c r) k
-    ∙ ap (cond (is_key k (record_key b)) (row_before b)) (at_changed c r k)
+    ∙ ap (λ o. cond (is_key k (record_key b)) (restore b o) o) (at_changed c r k)
     ∙ go k (is_key k (record_key b)) (is_key k (key_of c)) refl refl
     ∙ sym (ap (cond (is_key k (key_of c)) (row_of c)) (at_put_back b r k))
     ∙ sym (at_changed c (put_back b r) k))
   where
     go : (k : Key) (x y : Bool) → is_key k (record_key b) ≡ x → is_key k (key_of c) ≡ y
-        → cond x (row_before b) (cond y (row_of c) (row_at r k)) ≡ cond y (row_of c)
-        (cond x (row_before b) (row_at r k))
+        → cond x (restore b (cond y (row_of c) (row_at r k))) (cond y (row_of c) (row_at r k)) ≡ cond y (row_of c)
+        (cond x (restore b (row_at r k)) (row_at r k))
     go k true true e d = absurd (ne (sym (key_true k (record_key b) e) ∙ key_true k (key_of c) d))
     go k true false e d = refl
     go k false true e d = refl
@@ -85,6 +91,12 @@ stands_same (UpdatedCustomer k v) r s e h = subst (λ (o : Option Row). IsSome o
 stands_same (UpdatedOrder k v) r s e h = subst (λ (o : Option Row). IsSome o) e h
 stands_same (UpdatedOrderLine k v) r s e h = subst (λ (o : Option Row). IsSome o) e h
 stands_same (UpdatedStock k v) r s e h = subst (λ (o : Option Row). IsSome o) e h
+stands_same (ChangedWarehouse k v) r s e h = subst (λ (o : Option Row). IsSome o) e h
+stands_same (ChangedDistrict k v) r s e h = subst (λ (o : Option Row). IsSome o) e h
+stands_same (ChangedCustomer k v) r s e h = subst (λ (o : Option Row). IsSome o) e h
+stands_same (ChangedOrder k v) r s e h = subst (λ (o : Option Row). IsSome o) e h
+stands_same (ChangedOrderLine k v) r s e h = subst (λ (o : Option Row). IsSome o) e h
+stands_same (ChangedStock k v) r s e h = subst (λ (o : Option Row). IsSome o) e h
 
 -- and where a change was just made its record finds it
 stands_left : (c : Change) (v : Option Row) (r : Rows) → row_at r (key_of c) ≡ row_of c → Stands (record_of c v) r
@@ -100,9 +112,24 @@ stands_left (UpdateOrderLine k x) v r e = ap is_some e
 stands_left (UpdateStock k x) v r e = ap is_some e
 stands_left (DeleteNewOrder k) v r e = mapped_absent row.NewOrder _ e
 
-pub stands_made : (c : Change) (r : Rows) → Stands (record_on system c r) (changed c r)
-stands_made c r =
-    stands_left c (row_at r (key_of c)) (changed c r)
+stands_in : (l : Layout) (c : Change) (v : Option Row) (r : Rows) → row_at r (key_of c) ≡ row_of c
+    → Stands (record_in l c v) r
+stands_in WholeRows c v r e = stands_left c v r e
+stands_in ChangedColumns (InsertHistory k x) v r e = ap is_some e
+stands_in ChangedColumns (InsertNewOrder k x) v r e = ap is_some e
+stands_in ChangedColumns (InsertOrder k x) v r e = ap is_some e
+stands_in ChangedColumns (InsertOrderLine k x) v r e = ap is_some e
+stands_in ChangedColumns (UpdateWarehouse k x) v r e = ap is_some e
+stands_in ChangedColumns (UpdateDistrict k x) v r e = ap is_some e
+stands_in ChangedColumns (UpdateCustomer k x) v r e = ap is_some e
+stands_in ChangedColumns (UpdateOrder k x) v r e = ap is_some e
+stands_in ChangedColumns (UpdateOrderLine k x) v r e = ap is_some e
+stands_in ChangedColumns (UpdateStock k x) v r e = ap is_some e
+stands_in ChangedColumns (DeleteNewOrder k) v r e = mapped_absent row.NewOrder _ e
+
+pub stands_made : (l : Layout) (c : Change) (r : Rows) → Stands (record_on system l c r) (changed c r)
+stands_made l c r =
+    stands_in l c (row_at r (key_of c)) (changed c r)
     (at_changed c r (key_of c) ∙ ap (λ z. cond z (row_of c) (row_at r (key_of c))) (key_refl (key_of c)))
 
 -- an accepted update has its row before
@@ -110,44 +137,85 @@ there_as : {A : Type 0} (f : A → Row) (out : Row → Option A) → ((x : A) �
     → IsSome o → IsSome (option_and_then out (option_map f o))
 there_as {A = A} f out h o is = subst (λ (z : Option A). IsSome z) (sym (out-map f out h o)) is
 
-pub whole_made : (c : Change) (r : Rows) → Accepts c r → IsWhole (record_on system c r)
-whole_made (InsertHistory k x) r a = tt
-whole_made (InsertNewOrder k x) r a = tt
-whole_made (InsertOrder k x) r a = tt
-whole_made (InsertOrderLine k x) r a = tt
-whole_made (UpdateWarehouse k x) r a = there_as row.Warehouse as_warehouse (λ _. refl) (get r.warehouses k) a
-whole_made (UpdateDistrict k x) r a = there_as row.District as_district (λ _. refl) (get r.districts k) a
-whole_made (UpdateCustomer k x) r a = there_as row.Customer as_customer (λ _. refl) (get r.customers k) (ap is_some a.1)
-whole_made (UpdateOrder k x) r a = there_as row.Order as_order (λ _. refl) (get r.orders k) (ap is_some a.1)
-whole_made (UpdateOrderLine k x) r a = there_as row.OrderLine as_order_line (λ _. refl) (get r.order_lines k) a.0
-whole_made (UpdateStock k x) r a = there_as row.Stock as_stock (λ _. refl) (get r.stocks k) a
-whole_made (DeleteNewOrder k) r a = tt
+-- and so are its columns
+columns_there : {X C : Type 0} (old : X → X → C) (f : X → Row) (out : Row → Option X) → ((x : X) → out (f x) ≡ Some x)
+    → (o : Option X) (x : X) → IsSome o → IsSome (columns_before old out (option_map f o) x)
+columns_there old f out h o x is =
+    some-map (λ y. old y x) (option_and_then out (option_map f o)) ∙ there_as f out h o is
+
+pub whole_made : (l : Layout) (c : Change) (r : Rows) → Accepts c r → IsWhole (record_on system l c r)
+whole_made WholeRows (InsertHistory k x) r a = tt
+whole_made WholeRows (InsertNewOrder k x) r a = tt
+whole_made WholeRows (InsertOrder k x) r a = tt
+whole_made WholeRows (InsertOrderLine k x) r a = tt
+whole_made WholeRows (UpdateWarehouse k x) r a = there_as row.Warehouse as_warehouse (λ _. refl) (get r.warehouses k) a
+whole_made WholeRows (UpdateDistrict k x) r a = there_as row.District as_district (λ _. refl) (get r.districts k) a
+whole_made WholeRows (UpdateCustomer k x) r a =
+    there_as row.Customer as_customer (λ _. refl) (get r.customers k) (ap is_some a.1)
+whole_made WholeRows (UpdateOrder k x) r a = there_as row.Order as_order (λ _. refl) (get r.orders k) (ap is_some a.1)
+whole_made WholeRows (UpdateOrderLine k x) r a =
+    there_as row.OrderLine as_order_line (λ _. refl) (get r.order_lines k) a.0
+whole_made WholeRows (UpdateStock k x) r a = there_as row.Stock as_stock (λ _. refl) (get r.stocks k) a
+whole_made WholeRows (DeleteNewOrder k) r a = tt
+whole_made ChangedColumns (InsertHistory k x) r a = tt
+whole_made ChangedColumns (InsertNewOrder k x) r a = tt
+whole_made ChangedColumns (InsertOrder k x) r a = tt
+whole_made ChangedColumns (InsertOrderLine k x) r a = tt
+whole_made ChangedColumns (UpdateWarehouse k x) r a =
+    columns_there warehouse_before row.Warehouse as_warehouse (λ _. refl) (get r.warehouses k) x a
+whole_made ChangedColumns (UpdateDistrict k x) r a =
+    columns_there district_before row.District as_district (λ _. refl) (get r.districts k) x a
+whole_made ChangedColumns (UpdateCustomer k x) r a =
+    columns_there customer_before row.Customer as_customer (λ _. refl) (get r.customers k) x (ap is_some a.1)
+whole_made ChangedColumns (UpdateOrder k x) r a =
+    columns_there order_before row.Order as_order (λ _. refl) (get r.orders k) x (ap is_some a.1)
+whole_made ChangedColumns (UpdateOrderLine k x) r a =
+    columns_there order_line_before row.OrderLine as_order_line (λ _. refl) (get r.order_lines k) x a.0
+whole_made ChangedColumns (UpdateStock k x) r a =
+    columns_there stock_before row.Stock as_stock (λ _. refl) (get r.stocks k) x a
+whole_made ChangedColumns (DeleteNewOrder k) r a = tt
 
 -- Rows that other rows refer to are there while whole records are put back. Customers, districts and stocks
-stays_there : (b : Record) (r : Rows) (k : Key) → IsSome (row_before b) → IsSome (row_at r k)
-    → IsSome (row_at (put_back b r) k)
+stays_there : (b : Record) (r : Rows) (k : Key) → (IsSome (row_at r k) → IsSome (restore b (row_at r k)))
+    → IsSome (row_at r k) → IsSome (row_at (put_back b r) k)
 stays_there b r k before here = subst (λ (o : Option Row). IsSome o) (sym (at_put_back b r k))
     (go (is_key k (record_key b)))
   where
-    go : (x : Bool) → IsSome (cond x (row_before b) (row_at r k))
-    go true = before
+    go : (x : Bool) → IsSome (cond x (restore b (row_at r k)) (row_at r k))
+    go true = before here
     go false = here
+
+-- columns are put back on a row that is there
+columns_on : {X C : Type 0} (put : C → X → X) (f : X → Row) (out : Row → Option X) → ((x : X) → out (f x) ≡ Some x)
+    → (v : Option C) (o : Option X) → IsSome v → IsSome (option_map f o)
+    → IsSome (option_map f (with_columns put v (option_and_then out (option_map f o))))
+columns_on put f out h None o v is = let no : ⊥ = cc in absurd no
+columns_on put f out h (Some c) None v is = let no : ⊥ = cc in absurd no
+columns_on put f out h (Some c) (Some x) v is =
+    subst (λ z. IsSome (option_map f (with_columns put (Some c) z))) (sym (h x)) refl
 
 customer_stays : (b : Record) (r : Rows) (k : CustomerKey) → IsWhole b → IsSome (row_at r (key.Customer k))
     → IsSome (row_at (put_back b r) (key.Customer k))
 customer_stays (UpdatedCustomer j v) r k w h = stays_there (UpdatedCustomer j v) r (key.Customer k)
-    (some-map row.Customer v ∙ w) h
+    (λ _. some-map row.Customer v ∙ w) h
+customer_stays (ChangedCustomer j v) r k w h = stays_there (ChangedCustomer j v) r (key.Customer k)
+    (columns_on with_customer row.Customer as_customer (λ _. refl) v (get r.customers k) w) h
 customer_stays _ r k w h = h
 
 district_stays : (b : Record) (r : Rows) (k : DistrictKey) → IsWhole b → IsSome (row_at r (key.District k))
     → IsSome (row_at (put_back b r) (key.District k))
 district_stays (UpdatedDistrict j v) r k w h = stays_there (UpdatedDistrict j v) r (key.District k)
-    (some-map row.District v ∙ w) h
+    (λ _. some-map row.District v ∙ w) h
+district_stays (ChangedDistrict j v) r k w h = stays_there (ChangedDistrict j v) r (key.District k)
+    (columns_on with_district row.District as_district (λ _. refl) v (get r.districts k) w) h
 district_stays _ r k w h = h
 
 stock_stays : (b : Record) (r : Rows) (k : StockKey) → IsWhole b → IsSome (row_at r (key.Stock k))
     → IsSome (row_at (put_back b r) (key.Stock k))
-stock_stays (UpdatedStock j v) r k w h = stays_there (UpdatedStock j v) r (key.Stock k) (some-map row.Stock v ∙ w) h
+stock_stays (UpdatedStock j v) r k w h = stays_there (UpdatedStock j v) r (key.Stock k)
+    (λ _. some-map row.Stock v ∙ w) h
+stock_stays (ChangedStock j v) r k w h = stays_there (ChangedStock j v) r (key.Stock k)
+    (columns_on with_stock row.Stock as_stock (λ _. refl) v (get r.stocks k) w) h
 stock_stays _ r k w h = h
 
 -- and an order that is not the record's
@@ -269,22 +337,25 @@ module _ (ss : List (List Record)) where
   UnwindsAll f r = (ts : List ℕ) → Unwinds ss f r ts
 
   -- also with a change on it that no other terminal's work is about
-  abbrev MadeUnwinds : Change → ℕ → List ℕ → Type 0
-  MadeUnwinds c t ts =
+  abbrev MadeUnwinds : Layout → Change → ℕ → List ℕ → Type 0
+  MadeUnwinds l c t ts =
       (f : ℕ → List Record) (r : Rows) → Accepts c r → ((u : ℕ) → u ≢ t → AreApart c (f u)) → UnwindsAll f r
-      → Unwinds ss (set t (record_on system c r ∷ f t) f) (changed c r) ts
+      → Unwinds ss (set t (record_on system l c r ∷ f t) f) (changed c r) ts
 
-  made_own : (c : Change) (t : ℕ) (ts : List ℕ) (f : ℕ → List Record) (r : Rows) → UnwindsAll f r
-      → Unwinds ss (set t (record_on system c r ∷ f t) f) (changed c r) (t ∷ ts)
-  made_own c t ts f r h =
-      let there : set t (record_on system c r ∷ f t) f t ≡ record_on system c r ∷ f t =
-      set_at t (record_on system c r ∷ f t) f in
-      let same : set t (f t) (set t (record_on system c r ∷ f t) f) ≡ f =
-      set_twice t (f t) (record_on system c r ∷ f t) f ∙ set_own t f in
-      at_head ss (set t (record_on system c r ∷ f t) f) t (record_on system c r ∷ f t) (changed c r) ts there
-      (stands_made c r)
-      (subst (λ (z : ℕ → List Record). Unwinds ss z (put_back (record_on system c r) (changed c r)) ts) (sym same)
-      (subst (λ (z : Rows). Unwinds ss f z ts) (sym (undone c r)) (h ts)))
+  made_own : (l : Layout) (c : Change) (t : ℕ) (ts : List ℕ) (f : ℕ → List Record) (r : Rows) → UnwindsAll f r
+      → Unwinds ss (set t (record_on system l c r ∷ f t) f) (changed c r) (t ∷ ts)
+  made_own l c t ts f r h =
+      let there : set t (record_on system l c r ∷ f t) f t ≡ record_on system l c r ∷ f t =
+      set_at t (record_on system l c r ∷ f t) f in
+      let same : set t (f t) (set t (record_on system l c r ∷ f t) f) ≡ f =
+      set_twice t (f t) (record_on system l c r ∷ f t) f ∙ set_own t f in
+      at_head ss (set t (record_on system l c r ∷ f t) f) t (record_on system l c r ∷ f t)
+      (changed c r) ts
+      there
+      (stands_made l c r)
+      (subst (λ (z : ℕ → List Record). Unwinds ss z (put_back (record_on system l c r) (changed c r)) ts)
+      (sym same)
+      (subst (λ (z : Rows). Unwinds ss f z ts) (sym (undone l c r)) (h ts)))
 
   apart_then : (c : Change) (t u : ℕ) (f : ℕ → List Record) → ((w : ℕ) → w ≢ t → AreApart c (f w)) → u ≢ t → (w : ℕ)
       → w ≢ t → AreApart c (set u (drop 1 (f u)) f w)
@@ -294,34 +365,39 @@ module _ (ss : List (List Record)) where
       go (inl e) = subst (AreApart c) (sym (set_same u (drop 1 (f u)) f w e)) (apart_below c (f u) (p u ne))
       go (inr e) = subst (AreApart c) (sym (set_other u (drop 1 (f u)) f w e)) (p w nw)
 
-  made_other : (c : Change) (t : ℕ) (ts : List ℕ) → MadeUnwinds c t ts → (u : ℕ) → u ≢ t → MadeUnwinds c t (u ∷ ts)
-  made_other c t ts below u ne f r a p h =
+  made_other : (l : Layout) (c : Change) (t : ℕ) (ts : List ℕ) → MadeUnwinds l c t ts → (u : ℕ) → u ≢ t
+      → MadeUnwinds l c t (u ∷ ts)
+  made_other l c t ts below u ne f r a p h =
       let q : AreApart c (f u) = p u ne in
-      let there : set t (record_on system c r ∷ f t) f u ≡ f u = set_other t (record_on system c r ∷ f t) f u ne in
+      let there : set t (record_on system l c r ∷ f t) f u
+      ≡ f u = set_other t (record_on system l c r ∷ f t) f u ne in
       let next : Unwinds ss
-      (set t (record_on system c (put_newest (f u) r) ∷ set u (drop 1 (f u)) f t) (set u (drop 1 (f u)) f))
+      (set t (record_on system l c (put_newest (f u) r) ∷ set u (drop 1 (f u)) f t) (set u (drop 1 (f u)) f))
       (changed c (put_newest (f u) r)) ts =
       below (set u (drop 1 (f u)) f) (put_newest (f u) r) (accepts_under c (f u) r q a) (apart_then c t u f p ne)
       (λ us. (h (u ∷ us)).1) in
-      let records : record_on system c (put_newest (f u) r) ∷ set u (drop 1 (f u)) f t ≡ record_on system c r ∷ f t =
-      λ i. record_of c (row_under c (f u) r q i) ∷ set_other u (drop 1 (f u)) f t (λ e. ne (sym e)) i in
-      let logs : set t (record_on system c (put_newest (f u) r) ∷ set u (drop 1 (f u)) f t)
-      (set u (drop 1 (f u)) f) ≡ set u (drop 1 (f u)) (set t (record_on system c r ∷ f t) f) =
+      let records : record_on system l c (put_newest (f u) r) ∷ set u (drop 1 (f u)) f t
+      ≡ record_on system l c r ∷ f t =
+      λ i. record_in l c (row_under c (f u) r q i) ∷ set_other u (drop 1 (f u)) f t (λ e. ne (sym e)) i in
+      let logs : set t (record_on system l c (put_newest (f u) r) ∷ set u (drop 1 (f u)) f t)
+      (set u (drop 1 (f u)) f) ≡ set u (drop 1 (f u)) (set t (record_on system l c r ∷ f t) f) =
       ap (λ (z : List Record). set t z (set u (drop 1 (f u)) f)) records
-      ∙ set_swap t u (record_on system c r ∷ f t) (drop 1 (f u)) f ne in
-      at_head ss (set t (record_on system c r ∷ f t) f) u (f u) (changed c r) ts there
+      ∙ set_swap t u (record_on system l c r ∷ f t) (drop 1 (f u)) f ne in
+      at_head ss (set t (record_on system l c r ∷ f t) f) u (f u) (changed c r) ts there
       (finds_under c (f u) r q (h (u ∷ [])).0)
-      (subst (λ (z : Rows). Unwinds ss (set u (drop 1 (f u)) (set t (record_on system c r ∷ f t) f)) z ts)
+      (subst (λ (z : Rows). Unwinds ss (set u (drop 1 (f u)) (set t (record_on system l c r ∷ f t) f)) z ts)
       (sym (put_under c (f u) r q))
       (subst (λ (z : ℕ → List Record). Unwinds ss z (changed c (put_newest (f u) r)) ts) logs next))
 
-  made_step : (c : Change) (t : ℕ) (ts : List ℕ) → MadeUnwinds c t ts → (u : ℕ) → MadeUnwinds c t (u ∷ ts)
-  made_step c t ts below u f r a p h = go (cases_eq u t)
+  made_step : (l : Layout) (c : Change) (t : ℕ) (ts : List ℕ) → MadeUnwinds l c t ts → (u : ℕ)
+      → MadeUnwinds l c t (u ∷ ts)
+  made_step l c t ts below u f r a p h = go (cases_eq u t)
     where
-      go : (u ≡ t) ⊎ (u ≢ t) → Unwinds ss (set t (record_on system c r ∷ f t) f) (changed c r) (u ∷ ts)
-      go (inl e) = subst (λ (z : ℕ). Unwinds ss (set t (record_on system c r ∷ f t) f) (changed c r) (z ∷ ts)) (sym e)
-          (made_own c t ts f r h)
-      go (inr ne) = made_other c t ts below u ne f r a p h
+      go : (u ≡ t) ⊎ (u ≢ t) → Unwinds ss (set t (record_on system l c r ∷ f t) f) (changed c r) (u ∷ ts)
+      go (inl e) = subst
+          (λ (z : ℕ). Unwinds ss (set t (record_on system l c r ∷ f t) f) (changed c r) (z ∷ ts)) (sym e)
+          (made_own l c t ts f r h)
+      go (inr ne) = made_other l c t ts below u ne f r a p h
 
   -- who has a record has some
   not_none : (t : ℕ) (b : Record) (bs : List Record) (f : ℕ → List Record) → HaveNone (set t (b ∷ bs) f) → ⊥
@@ -330,12 +406,12 @@ module _ (ss : List (List Record)) where
       let never : ⊥ = cc in
       never
 
-  pub made_unwinds : (c : Change) (t : ℕ) (ts : List ℕ) (f : ℕ → List Record) (r : Rows) → Accepts c r
+  pub made_unwinds : (l : Layout) (c : Change) (t : ℕ) (ts : List ℕ) (f : ℕ → List Record) (r : Rows) → Accepts c r
       → ((u : ℕ) → u ≢ t → AreApart c (f u)) → UnwindsAll f r
-      → Unwinds ss (set t (record_on system c r ∷ f t) f) (changed c r) ts
-  made_unwinds c t [] f r a p h =
-      (accepted_meets c r a (h []).0, λ none. absurd (not_none t (record_on system c r) (f t) f none))
-  made_unwinds c t (u ∷ ts) f r a p h = made_step c t ts (λ g s b q k. made_unwinds c t ts g s b q k) u f r a p h
+      → Unwinds ss (set t (record_on system l c r ∷ f t) f) (changed c r) ts
+  made_unwinds l c t [] f r a p h =
+      (accepted_meets c r a (h []).0, λ none. absurd (not_none t (record_on system l c r) (f t) f none))
+  made_unwinds l c t (u ∷ ts) f r a p h = made_step l c t ts (λ g s b q k. made_unwinds l c t ts g s b q k) u f r a p h
 
   -- where a terminal's newest records were put back
   pub back_unwinds : (n : ℕ) (bs : List Record) (t : ℕ) (f : ℕ → List Record) (r : Rows) → f t ≡ bs → UnwindsAll f r

@@ -98,6 +98,7 @@ back_is ts ts' u u' ls t mark n is h =
       held = held_of ls;
       is_open = opens i;
       extents = w.extents i;
+      layout = w.layout i;
     }
 
 no_model : (rs : List Logged) → model_records rs ≡ [] → rs ≡ []
@@ -143,6 +144,7 @@ rolled_back_is ts ts' u u' ls ls' t n is within h own others =
       held = names i;
       is_open = opens i;
       extents = w.extents i;
+      layout = w.layout i;
     }
 
 -- a log and what it is seen as have as many records

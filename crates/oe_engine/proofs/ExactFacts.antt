@@ -19,10 +19,12 @@ use Rattle.oe_theory.specs.Undo.{Undo, HasRecord, HasRecordIn, put_records}
 use Rattle.oe_theory.specs.World.{set}
 use Rattle.oe_theory.proofs.Sets.{set_same, set_other}
 use Rattle.oe_table.specs.Table.{place}
+use Rattle.oe_rows.specs.declared.layouts.Layout.{Layout}
+use Rattle.oe_theory.specs.Next.{record_on}
 use Rattle.oe_model.specs.Rows.{Rows, is_key, row_at}
 use Rattle.oe_model.specs.Changes.{Change, Record, key_of, row_of, record_key, changed}
 use Rattle.oe_model.specs.System.{system}
-use Rattle.oe_model.proofs.RowFacts.{key_true, at_changed, record_key_of}
+use Rattle.oe_model.proofs.RowFacts.{key_true, at_changed, in_layout_key}
 use Rattle.oe_model.proofs.PresenceFacts.{some-map}
 use Rattle.oe_store.specs.Places.{Places, rows, HasPlace, SamePlaces, AddsPlace}
 use Rattle.oe_store.proofs.PlaceFacts.{place_of_row}
@@ -30,7 +32,6 @@ use Rattle.oe_log.specs.Log.{SegmentLog}
 use Rattle.oe_log.specs.Stands.{undo_of}
 use Rattle.oe_engine.specs.GoesBack.{HavePlaces, AllHavePlaces}
 use Rattle.oe_engine.specs.Named.{IsUnnamed, AreNeeded, AreExact, GivesUpUnnamed}
-use Rattle.oe_engine.specs.Records.{record_in}
 
 -- ---- a row has a place
 
@@ -124,13 +125,13 @@ others_unnamed d t b k none = (λ same. none.0 t (here (inl same)), (at, none.1)
       | inr ne ↦ none.0 x (subst (HasRecord system k) (sym (set_other t (b ∷ d.active t) d.active x ne)) has)
     ]
 
-pub made_needed : (ts ts' : Places) (d d' : Undo system) (t : ℕ) (c : Change) → AddsPlace ts ts' (key_of c)
+pub made_needed : (l : Layout) (ts ts' : Places) (d d' : Undo system) (t : ℕ) (c : Change) → AddsPlace ts ts' (key_of c)
     → rows ts' ≡ changed c (rows ts)
-    → d' ≡ put_records system t (record_in c (rows ts) ∷ d.active t) d → AreNeeded ts d → AreNeeded ts' d'
-made_needed ts ts' d d' t c adds is undo needed k p none =
-    let b : Record = record_in c (rows ts) in
+    → d' ≡ put_records system t (record_on system l c (rows ts) ∷ d.active t) d → AreNeeded ts d → AreNeeded ts' d'
+made_needed l ts ts' d d' t c adds is undo needed k p none =
+    let b : Record = record_on system l c (rows ts) in
     let others = others_unnamed d t b k (subst (λ (e : Undo system). IsUnnamed e k) undo none) in
-    let own : record_key b ≡ key_of c = record_key_of c (row_at (rows ts) (key_of c)) in
+    let own : record_key b ≡ key_of c = in_layout_key l c (row_at (rows ts) (key_of c)) in
     let apart : k ≢ key_of c = λ same. others.0 (own ∙ sym same) in
     let had : HasPlace ts k = elim ((adds k).0 p) [ inl h ↦ h | inr same ↦ absurd (apart same) ] in
     stays (is_key k (key_of c)) refl apart (needed k had others.1)
@@ -144,17 +145,18 @@ made_needed ts ts' d d' t c adds is undo needed k p none =
         ∙ ap (λ z. cond z (row_of c) (row_at (rows ts) k)) e)) h
 
 -- that is taken back
-pub exactly_back : (ts ts' ts'' : Places) (u u' u'' : SegmentLog) (t : ℕ) (c : Change) → AddsPlace ts ts' (key_of c)
+pub exactly_back : (l : Layout) (ts ts' ts'' : Places) (u u' u'' : SegmentLog) (t : ℕ) (c : Change)
+    → AddsPlace ts ts' (key_of c)
     → rows ts' ≡ changed c (rows ts)
-    → undo_of u' ≡ put_records system t (record_in c (rows ts) ∷ (undo_of u).active t) (undo_of u)
+    → undo_of u' ≡ put_records system t (record_on system l c (rows ts) ∷ (undo_of u).active t) (undo_of u)
     → AreExact ts (undo_of u)
     → GivesUpUnnamed ts' ts'' (undo_of u') (undo_of u'') → rows ts'' ≡ rows ts → undo_of u'' ≡ undo_of u
     → SamePlaces ts ts''
-exactly_back ts ts' ts'' u u' u'' t c adds is undo exact back same_rows same_undo k = (to, from)
+exactly_back l ts ts' ts'' u u' u'' t c adds is undo exact back same_rows same_undo k = (to, from)
   where
     needed : AreNeeded ts'' (undo_of u)
     needed = subst (AreNeeded ts'') same_undo
-        (back.needed (made_needed ts ts' (undo_of u) (undo_of u') t c adds is undo
+        (back.needed (made_needed l ts ts' (undo_of u) (undo_of u') t c adds is undo
         (needed_of_exact ts (undo_of u) exact)))
 
     there : IsSome (row_at (rows ts'') k) → IsSome (row_at (rows ts) k)

@@ -10,6 +10,7 @@ use Rattle.oe_theory.specs.World as world
 use Rattle.oe_rows.specs.declared.keys.Key.{Key}
 use Rattle.oe_theory.specs.Undo.{Undo, HasRecord}
 use Rattle.oe_theory.proofs.Sets.{set_other}
+use Rattle.oe_rows.specs.declared.layouts.Layout.{Layout}
 use Rattle.oe_model.specs.Rows.{row_at}
 use Rattle.oe_model.specs.Changes.{Record}
 use Rattle.oe_model.specs.System.{system}
@@ -48,11 +49,11 @@ idle_set P f g t b is own others x e =
     ]
 
 -- at the beginning
-pub first_kept : (ts : tables.Places) (n : ℕ) (ls : Holdings)
-    → ((k : Key) → HasPlace ts k ↔ IsSome (row_at (rows ts) k)) → IsIdle ls → IsKept ts (no_segments n) ls
+pub first_kept : (ts : tables.Places) (n : ℕ) (l : Layout) (ls : Holdings)
+    → ((k : Key) → HasPlace ts k ↔ IsSome (row_at (rows ts) k)) → IsIdle ls → IsKept ts (no_segments n l) ls
 unfolding idle_terminals
-first_kept ts n ls live quiet =
-    let b = stands.begun n in
+first_kept ts n l ls live quiet =
+    let b = stands.begun n l in
     record {
       size = length-replicate 65 idle;
       active = λ t. subst (λ u. HavePlaces ts (u.active t)) (sym b.0) tt;

@@ -4,6 +4,7 @@ use Rattle.std.proofs.Common.{List, [], ◌∷◌, length, take, drop, Option, S
 use Rattle.std.specs.Prelude.{IsSome, option_map}
 use mathlib.Core.Path.{fun_ext}
 use Rattle.oe_rows.specs.declared.keys.Key.{Key}
+use Rattle.oe_theory.specs.Next.{record_on}
 use Rattle.oe_model.specs.Changes.{Change, Record, key_of, record_key}
 use Rattle.oe_model.specs.Choice.{namesakes}
 use Rattle.oe_model.specs.Delivery.{oldest}
@@ -11,7 +12,7 @@ use Rattle.oe_model.specs.Meets.{Meets}
 use Rattle.oe_model.specs.Queries.{orders_of}
 use Rattle.oe_model.specs.Rows.{Rows, is_key, row_at}
 use Rattle.oe_model.specs.System.{system}
-use Rattle.oe_model.proofs.RowFacts.{key_true, record_key_of}
+use Rattle.oe_model.proofs.RowFacts.{key_true, in_layout_key}
 use Rattle.oe_theory.specs.Undo.{unwind}
 use Rattle.oe_store.specs.Places.{Places, rows, HasPlace}
 use Rattle.std.specs.Prelude.{◌⊎◌}
@@ -36,7 +37,6 @@ use Rattle.oe_undo.proofs.LeadFacts.{set_leads}
 use Rattle.oe_undo.proofs.OwnerFacts.{followed_same, holder_same, count_same, total_kept, followed_unended}
 use Rattle.oe_engine.specs.GoesBack.{CanUnwind, HavePlaces}
 use Rattle.oe_engine.specs.Linked.{SameLinks}
-use Rattle.oe_engine.specs.Records.{record_in}
 use Rattle.oe_engine.specs.Unwinds.{TakesBack}
 use Rattle.oe_engine.specs.Recorded.{IsRecorded}
 use Rattle.oe_engine.specs.Identity.{led_back, LeadBack, MayTakeBack, IsAsBefore, Write_then_take_back_is_identity}
@@ -131,7 +131,7 @@ led_on first old new t left count b open_is same newest pop back so_far k = go (
 module _ (w : Write) (ts ts' : Places) (u u' : UndoState) (t : ℕ) (is : IsSome (active_at u.log t)) (c : Change)
     (made : written w (rows ts) ≡ Some c) (h : IsRecorded c ts ts' u u' t) where
   abbrev own_record : Record
-  own_record = record_in c (rows ts)
+  own_record = record_on system u.log.layout c (rows ts)
 
   abbrev pushed_record : Logged
   pushed_record = logged h.has_more.pushed.address h.has_more.previous own_record
@@ -142,12 +142,13 @@ module _ (w : Write) (ts ts' : Places) (u u' : UndoState) (t : ℕ) (is : IsSome
       ap (λ z. records_at z t) h.has_more.pushed.log ∙ records_are u.log t o.0 (pushed_record ∷ records_at u.log t) o.1
 
   own_written : key_of c ≡ key_written w
-  own_written = sym (record_key_of c (row_at (rows ts) (key_of c)))
-      ∙ record_written w (rows ts) own_record (write_records w c (rows ts) made h.applies.accepted)
+  own_written = sym (in_layout_key u.log.layout c (row_at (rows ts) (key_of c)))
+      ∙ record_written u.log.layout w (rows ts) own_record
+      (write_records u.log.layout w c (rows ts) made h.applies.accepted)
 
   pub may_take_back : Meets (rows ts) → HavePlaces ts ((undo_of u.log).active t) → MayTakeBack ts' u'.log t
   may_take_back schema had =
-      let can = can_at_once c ts ts' own_record schema h.applies in
+      let can = can_at_once u.log.layout c ts ts' own_record schema h.applies in
       let more : (k : Key) → HasPlace ts k → HasPlace ts' k = λ k p. (h.applies.places k).1 (inl p) in
       record {
         is_open = h.is_open t ∙ is;
@@ -162,7 +163,7 @@ module _ (w : Write) (ts ts' : Places) (u u' : UndoState) (t : ℕ) (is : IsSome
       (pop : u''.log ≡ popped u'.log t) (lead : LeadBack u' u'' t 1) where
     same_rows : rows ts'' ≡ rows ts
     same_rows = back.rows ∙ ap (λ rs. unwind system (take 1 (model_records rs)) (rows ts')) newest_is
-        ∙ gone_back c ts ts' own_record h.applies
+        ∙ gone_back u.log.layout c ts ts' own_record h.applies
 
     same_log : u''.log ≡ u.log
     same_log =
@@ -196,7 +197,7 @@ module _ (w : Write) (ts ts' : Places) (u u' : UndoState) (t : ℕ) (is : IsSome
       same_log = same_log;
       fewer = λ k p. subst (λ (j : Key). HasPlace ts k ⊎ (k ≡ j)) own_written
           ((h.applies.places k).0 (back.others.places.fewer k p));
-      places = λ exact. exactly_back ts ts' ts'' u.log u'.log u''.log t c h.applies.places
+      places = λ exact. exactly_back u.log.layout ts ts' ts'' u.log u'.log u''.log t c h.applies.places
           h.applies.changes h.stands.undo exact back.others.places same_rows (ap undo_of same_log);
       by_name = λ d last. ap (λ (r : Rows). namesakes d last r.customers) same_rows;
       by_customer = λ d. ap (λ (r : Rows). orders_of d r.orders) same_rows;

@@ -8,6 +8,8 @@ use Rattle.oe_table.specs.Table.{left_of}
 use Rattle.oe_model.specs.Changes.{Record, InsertedHistory, InsertedNewOrder, InsertedOrder, InsertedOrderLine}
 use Rattle.oe_model.specs.Changes.{UpdatedWarehouse, UpdatedDistrict, UpdatedCustomer, UpdatedOrder, UpdatedOrderLine}
 use Rattle.oe_model.specs.Changes.{UpdatedStock, DeletedNewOrder}
+use Rattle.oe_model.specs.Changes.{ChangedWarehouse, ChangedDistrict, ChangedCustomer, ChangedOrder, ChangedOrderLine}
+use Rattle.oe_model.specs.Changes.{ChangedStock}
 use Rattle.oe_model.specs.Rows.{is_key}
 use Rattle.oe_model.proofs.RowFacts.{key_true}
 use Rattle.oe_store.specs.Places.{AddsPlace}
@@ -128,6 +130,12 @@ gone_stay (UpdatedCustomer k v) ts ts' old new h g = kept_stay ts ts' old new g 
 gone_stay (UpdatedOrder k v) ts ts' old new h g = kept_stay ts ts' old new g h
 gone_stay (UpdatedOrderLine k v) ts ts' old new h g = kept_stay ts ts' old new g h
 gone_stay (UpdatedStock k v) ts ts' old new h g = kept_stay ts ts' old new g h
+gone_stay (ChangedWarehouse k v) ts ts' old new h g = kept_stay ts ts' old new g h
+gone_stay (ChangedDistrict k v) ts ts' old new h g = kept_stay ts ts' old new g h
+gone_stay (ChangedCustomer k v) ts ts' old new h g = kept_stay ts ts' old new g h
+gone_stay (ChangedOrder k v) ts ts' old new h g = kept_stay ts ts' old new g h
+gone_stay (ChangedOrderLine k v) ts ts' old new h g = kept_stay ts ts' old new g h
+gone_stay (ChangedStock k v) ts ts' old new h g = kept_stay ts ts' old new g h
 gone_stay (DeletedNewOrder k v) ts ts' old new h g = kept_stay ts ts' old new g h
 
 left_leads : {X : Type 0} (p : Option (Option X)) → content_in (left_of p) ≡ content_in p
@@ -156,6 +164,12 @@ given_up_leads b old new log g k = ap (followed new.log) (same b g) ∙ ap (λ v
     same (UpdatedOrder j v) g = ap (λ m. links_of m k) g
     same (UpdatedOrderLine j v) g = ap (λ m. links_of m k) g
     same (UpdatedStock j v) g = ap (λ m. links_of m k) g
+    same (ChangedWarehouse j v) g = ap (λ m. links_of m k) g
+    same (ChangedDistrict j v) g = ap (λ m. links_of m k) g
+    same (ChangedCustomer j v) g = ap (λ m. links_of m k) g
+    same (ChangedOrder j v) g = ap (λ m. links_of m k) g
+    same (ChangedOrderLine j v) g = ap (λ m. links_of m k) g
+    same (ChangedStock j v) g = ap (λ m. links_of m k) g
     same (DeletedNewOrder j v) g = ap (λ m. links_of m k) g
 
 -- ---- the same keys have places

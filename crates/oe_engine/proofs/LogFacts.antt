@@ -8,6 +8,7 @@ use mathlib.Core.Path.{fun_ext}
 use Rattle.oe_requests.specs.declared.requests.Request.{Request}
 use Rattle.oe_requests.specs.declared.replies.Reply.{Reply}
 use Rattle.oe_theory.specs.World as world
+use Rattle.oe_rows.specs.declared.layouts.Layout.{Layout}
 use Rattle.oe_model.specs.Locks.{mode_of}
 use Rattle.oe_store.specs.Places.{rows}
 use Rattle.oe_store.specs.Places as tables
@@ -41,13 +42,13 @@ is_none None e = refl
 is_none (Some o) e = cc
 
 -- an engine in which nothing has begun
-pub first_is : (ts : tables.Places) (n : ℕ) (ls : Holdings) → IsIdle ls
-    → view_from ts (no_segments n) ls ≡ opened_view (rows ts) n
+pub first_is : (ts : tables.Places) (n : ℕ) (l : Layout) (ls : Holdings) → IsIdle ls
+    → view_from ts (no_segments n l) ls ≡ opened_view (rows ts) n l
 unfolding view_from idle_terminals
-first_is ts n ls quiet =
-    let b = stands.begun n in
+first_is ts n l ls quiet =
+    let b = stands.begun n l in
     let names : held_of ls ≡ (λ _ _. None) = fun_ext (λ t. fun_ext (λ q. ap (option_map mode_of) (quiet t q))) in
-    let none : (λ (t : ℕ). is_some (active_at (no_segments n) t)) ≡ (λ _. false) =
+    let none : (λ (t : ℕ). is_some (active_at (no_segments n l) t)) ≡ (λ _. false) =
     fun_ext (λ t. ap (λ (z : TerminalState). is_some z.active) (idle_at 65 t)) in
     λ i. record {
       rows = rows ts;
@@ -57,6 +58,7 @@ first_is ts n ls quiet =
       held = names i;
       is_open = none i;
       extents = n;
+      layout = l;
     }
 
 -- a segment was opened
@@ -80,6 +82,7 @@ opened_is ts u ls t within closed =
       held = held_of ls;
       is_open = opens i;
       extents = u.extents;
+      layout = u.layout;
     }
 
 -- a segment was sealed, and its terminal's names were let go of
@@ -101,4 +104,5 @@ sealed_is ts u ls ls' t q y within is own others =
       held = names i;
       is_open = opens i;
       extents = u.extents;
+      layout = u.layout;
     }

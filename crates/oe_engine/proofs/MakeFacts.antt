@@ -7,7 +7,7 @@ use Rattle.oe_theory.specs.Next.{record_on}
 use Rattle.oe_model.specs.Rows.{row_at}
 use Rattle.oe_model.specs.Changes.{Change, key_of, record_key}
 use Rattle.oe_model.specs.System.{system}
-use Rattle.oe_model.proofs.RowFacts.{record_key_of}
+use Rattle.oe_model.proofs.RowFacts.{in_layout_key}
 use Rattle.oe_store.specs.Places.{HasPlace, rows}
 use Rattle.oe_store.specs.Places as tables
 use Rattle.oe_log.specs.Log.{active_at}
@@ -40,14 +40,15 @@ module _ (ts ts' : tables.Places) (u x : UndoState) (ls : Holdings) (t : ℕ) (c
         held = held_of ls;
         is_open = opens i;
         extents = h.extents i;
+        layout = h.layout i;
       }
 
   pub change_kept : IsKept ts u.log ls → IsKept ts' x.log ls
   change_kept k =
       let more : (j : Key) → HasPlace ts j → HasPlace ts' j = λ j p. (h.applies.places j).1 (inl p) in
-      let b = record_on system c (rows ts) in
+      let b = record_on system u.log.layout c (rows ts) in
       let own : HavePlaces ts' (b ∷ (undo_of u.log).active t) = (
-        (h.applies.places (record_key b)).1 (inr (record_key_of c (row_at (rows ts) (key_of c)))),
+        (h.applies.places (record_key b)).1 (inr (in_layout_key u.log.layout c (row_at (rows ts) (key_of c)))),
         more_places ts ts'
             more _ (k.active t),
       ) in
@@ -57,8 +58,8 @@ module _ (ts ts' : tables.Places) (u x : UndoState) (ls : Holdings) (t : ℕ) (c
             (places_set ts' t _ (undo_of u.log).active own (λ z. more_places ts ts' more _ (k.active z)) y);
         history = subst (λ z. AllHavePlaces ts' z.history) (sym h.stands.undo)
             (all_more_places ts ts' more _ k.history);
-        needed = made_needed ts ts' (undo_of u.log) (undo_of x.log) t c h.applies.places h.applies.changes h.stands.undo
-            k.needed;
+        needed = made_needed u.log.layout ts ts' (undo_of u.log) (undo_of x.log) t c h.applies.places h.applies.changes
+            h.stands.undo k.needed;
         idle = λ y e. k.idle y (sym (h.is_open y) ∙ e);
         counted = λ y e. subst (λ n. n < 4_294_967_295) (sym (ap (λ f. f y) h.stands.counts))
             (k.counted y (sym (h.is_open y) ∙ e));

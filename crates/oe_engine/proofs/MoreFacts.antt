@@ -1,12 +1,14 @@
 -- What is known where a terminal's open segment has a record more, and after that is taken off again.
 use Rattle.std.proofs.Common.{◌≡◌, ℕ, refl, sym, ap, ◌∙◌, subst, ◌∷◌, length, Option, None, Some, is_some, true}
-use Rattle.std.specs.Prelude.{◌⊎◌, option_map}
+use Rattle.std.specs.Prelude.{◌⊎◌}
 use Rattle.std.specs.Option.{IsSomeAnd}
+use Rattle.oe_theory.specs.Next.{record_on}
 use Rattle.oe_theory.proofs.Sets.{some_inj}
 use Rattle.oe_rows.specs.declared.keys.Key.{Key}
 use Rattle.oe_model.specs.Rows.{row_at}
 use Rattle.oe_model.specs.Changes.{Change, Record, record_key, key_of}
-use Rattle.oe_model.proofs.RowFacts.{record_key_of}
+use Rattle.oe_model.specs.System.{system}
+use Rattle.oe_model.proofs.RowFacts.{in_layout_key}
 use Rattle.oe_store.specs.Places.{Places, rows}
 use Rattle.oe_change.specs.Applies.{Applies}
 use Rattle.oe_log.specs.Records.{Logged, logged}
@@ -18,7 +20,6 @@ use Rattle.oe_undo.specs.Laws.{IsWhole}
 use Rattle.oe_undo.specs.Links.{HasPlace, links_of, Comes, GivesAtMost}
 use Rattle.oe_undo.specs.Undo.{UndoState, seen, unended, IsGivenBack, GivesBack}
 use Rattle.oe_engine.specs.Linked.{AreLinked, SameLinks}
-use Rattle.oe_engine.specs.Records.{record_in}
 use Rattle.oe_engine.specs.Recorded.{HasMore, IsRecorded}
 use Rattle.oe_log.proofs.StateFacts.{some_of, records_open, records_size, records_are, records_stand, pushed_popped}
 use Rattle.oe_undo.proofs.OwnerFacts.{followed_unended}
@@ -34,11 +35,6 @@ there_is P None h = absurd h
 there_is P (Some x) h = (x, refl, h)
 
 -- ---- a record's key
-
-pub mapped_key : {A : Type 0} (f : A → Record) (k : Key) (o : Option A) (b : Record) → ((x : A) → record_key (f x) ≡ k)
-    → option_map f o ≡ Some b → record_key b ≡ k
-mapped_key f k None b same e = cc
-mapped_key f k (Some x) b same e = ap record_key (sym (some_inj _ _ e)) ∙ same x
 
 pub own_key : (a b : Record) → ◌≡◌ {A = Option Record} (Some a) (Some b) → record_key b ≡ record_key a
 own_key a b e = ap record_key (sym (some_inj _ _ e))
@@ -60,27 +56,30 @@ module _ (b : Record) (u u' : UndoState) (t : ℕ) (h : HasMore b u u' t) where
 -- in the theory's words
 pub more_stands : (b : Record) (c : Change) (old new : Places) (u u' : UndoState) (t : ℕ) (o : OpenSegment)
     → active_at u.log t ≡ Some o
-    → b ≡ record_in c (rows old) → Applies c old new (record_in c (rows old)) → HasMore b u u' t
+    → b ≡ record_on system u.log.layout c (rows old)
+    → Applies u.log.layout c old new (record_on system u.log.layout c (rows old)) → HasMore b u u' t
     → IsRecorded c old new u u' t
 more_stands b c old new u u' t o is same applies h =
-    let m : HasMore (record_in c (rows old)) u u' t = subst (λ z. HasMore z u u' t) same h in
-    let rs = pushed_record (record_in c (rows old)) u u' t m ∷ records_at u.log t in
+    let d : Record = record_on system u.log.layout c (rows old) in
+    let m : HasMore d u u' t = subst (λ z. HasMore z u u' t) same h in
+    let rs = pushed_record d u u' t m ∷ records_at u.log t in
     record {
       applies = applies;
       has_more = m;
-      stands = subst (λ z. StandsWith z u.log t (record_in c (rows old) ∷ model_records (records_at u.log t)))
+      stands = subst (λ z. StandsWith z u.log t (d ∷ model_records (records_at u.log t)))
           (sym m.pushed.log) (records_stand u.log t o rs is);
-      is_open = is_open_still (record_in c (rows old)) u u' t m;
+      is_open = is_open_still d u u' t m;
       size = ap (λ (z : SegmentLog). length z.terminals) m.pushed.log ∙ records_size u.log t rs;
       extents = ap (λ (z : SegmentLog). z.extents) m.pushed.log;
+      layout = ap (λ (z : SegmentLog). z.layout) m.pushed.log;
     }
 
 -- each key of the tables has a place for its link
 pub recorded_linked : (c : Change) (old new : Places) (u u' : UndoState) (t : ℕ) → AreLinked old u.links
     → IsRecorded c old new u u' t → AreLinked new u'.links
 recorded_linked c old new u u' t linked h =
-    let b : Record = record_in c (rows old) in
-    let own : record_key b ≡ key_of c = record_key_of c (row_at (rows old) (key_of c)) in
+    let b : Record = record_on system u.log.layout c (rows old) in
+    let own : record_key b ≡ key_of c = in_layout_key u.log.layout c (row_at (rows old) (key_of c)) in
     one_more_linked old new u.links u'.links (key_of c) (has_place_still b u u' t h.has_more)
     (subst (HasPlace u'.links) own h.has_more.pushed.link.placed) h.applies.places linked
 

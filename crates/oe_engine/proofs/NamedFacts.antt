@@ -1,10 +1,12 @@
 -- Places that are kept for rows and for what records name, as records are taken off and their changes undone.
 use Rattle.std.proofs.Common.{◌≡◌, ℕ, zero, suc, ◌-◌, Bool, true, false, cond, refl, sym, ap, ◌∙◌, subst, inl, inr}
-use Rattle.std.proofs.Common.{List, [], ◌∷◌, ◌++◌, length, map, Option}
-use Rattle.std.specs.Prelude.{◌≢◌, ◌⊎◌, IsSome}
+use Rattle.std.proofs.Common.{List, [], ◌∷◌, ◌++◌, length, map, Option, None, Some}
+use Rattle.std.specs.Prelude.{◌≢◌, ◌⊎◌, IsSome, option_map, option_and_then}
+use Rattle.std.specs.FinMap.{get}
 use Rattle.std.proofs.lemmas.Bool.{cases_eq}
 use Rattle.oe_rows.specs.declared.keys.Key.{Key}
 use Rattle.oe_rows.specs.declared.rows.Row.{Row}
+use Rattle.oe_rows.specs.declared.rows.Row.TheVariants as row
 use Rattle.oe_layout.specs.declared.records.OwnRecord.{OwnRecord}
 use Rattle.oe_layout.specs.declared.records.OwnRecord.TheVariants as own
 use Rattle.oe_layout.specs.Records.{record_of_own}
@@ -12,14 +14,18 @@ use Rattle.oe_theory.specs.Store.{all_below}
 use Rattle.oe_theory.specs.Undo.{Undo, HasRecord, HasRecordIn, put_records}
 use Rattle.oe_theory.specs.World.{set}
 use Rattle.oe_theory.proofs.Sets.{set_same, set_other}
-use Rattle.oe_model.specs.Rows.{Rows, is_key, row_at}
+use Rattle.oe_rows.specs.Before.{with_warehouse, with_district, with_customer, with_order, with_order_line, with_stock}
+use Rattle.oe_model.specs.Rows.{Rows, is_key, row_at, as_warehouse, as_district, as_customer, as_order, as_order_line}
+use Rattle.oe_model.specs.Rows.{as_stock}
 use Rattle.oe_model.specs.Changes.{Record, InsertedHistory, InsertedNewOrder, InsertedOrder, InsertedOrderLine}
 use Rattle.oe_model.specs.Changes.{UpdatedWarehouse, UpdatedDistrict, UpdatedCustomer, UpdatedOrder, UpdatedOrderLine}
-use Rattle.oe_model.specs.Changes.{UpdatedStock, DeletedNewOrder, record_key, row_before, put_back}
+use Rattle.oe_model.specs.Changes.{ChangedWarehouse, ChangedDistrict, ChangedCustomer, ChangedOrder, ChangedOrderLine}
+use Rattle.oe_model.specs.Changes.{ChangedStock}
+use Rattle.oe_model.specs.Changes.{UpdatedStock, DeletedNewOrder, record_key, restore, put_back, with_columns}
 use Rattle.oe_model.specs.System.{system, terminal_limit}
 use Rattle.oe_model.proofs.RowFacts.{key_true, key_refl, at_put_back}
 use Rattle.oe_store.specs.Places.{Places, rows, HasPlace}
-use Rattle.oe_change.specs.PutBack.{LeavesPlaces}
+use Rattle.oe_change.specs.PutBack.{Stands, LeavesPlaces}
 use Rattle.oe_log.specs.Records.{Logged}
 use Rattle.oe_log.specs.Log.{SegmentLog, Committed, records_at, total_count}
 use Rattle.oe_log.specs.Stands.{model_records, undo_of}
@@ -189,7 +195,7 @@ module _ (t : ℕ) (b : Record) (bs : List Record) (d : Undo system) (is : d.act
 -- ---- and its change is undone
 
 row_other : (b : Record) (r : Rows) (k : Key) → is_key k (record_key b) ≡ false → row_at (put_back b r) k ≡ row_at r k
-row_other b r k e = at_put_back b r k ∙ ap (λ z. cond z (row_before b) (row_at r k)) e
+row_other b r k e = at_put_back b r k ∙ ap (λ z. cond z (restore b (row_at r k)) (row_at r k)) e
 
 -- where an inserted row's key has no place any more, a key has one only if it is another or has its row before
 left_places : (b : Record) (ts ts' : Places) → LeavesPlaces b ts ts' → (k : Key) → HasPlace ts' k → HasPlace ts k
@@ -203,6 +209,12 @@ left_places (UpdatedCustomer j v) ts ts' h k p = (h k).0 p
 left_places (UpdatedOrder j v) ts ts' h k p = (h k).0 p
 left_places (UpdatedOrderLine j v) ts ts' h k p = (h k).0 p
 left_places (UpdatedStock j v) ts ts' h k p = (h k).0 p
+left_places (ChangedWarehouse j v) ts ts' h k p = (h k).0 p
+left_places (ChangedDistrict j v) ts ts' h k p = (h k).0 p
+left_places (ChangedCustomer j v) ts ts' h k p = (h k).0 p
+left_places (ChangedOrder j v) ts ts' h k p = (h k).0 p
+left_places (ChangedOrderLine j v) ts ts' h k p = (h k).0 p
+left_places (ChangedStock j v) ts ts' h k p = (h k).0 p
 left_places (DeletedNewOrder j v) ts ts' h k p = (h k).0 p
 
 other_places : (b : Record) (ts ts' : Places) → LeavesPlaces b ts ts' → (k : Key) → k ≢ record_key b → HasPlace ts k
@@ -217,32 +229,64 @@ other_places (UpdatedCustomer j v) ts ts' h k ne p = (h k).1 p
 other_places (UpdatedOrder j v) ts ts' h k ne p = (h k).1 p
 other_places (UpdatedOrderLine j v) ts ts' h k ne p = (h k).1 p
 other_places (UpdatedStock j v) ts ts' h k ne p = (h k).1 p
+other_places (ChangedWarehouse j v) ts ts' h k ne p = (h k).1 p
+other_places (ChangedDistrict j v) ts ts' h k ne p = (h k).1 p
+other_places (ChangedCustomer j v) ts ts' h k ne p = (h k).1 p
+other_places (ChangedOrder j v) ts ts' h k ne p = (h k).1 p
+other_places (ChangedOrderLine j v) ts ts' h k ne p = (h k).1 p
+other_places (ChangedStock j v) ts ts' h k ne p = (h k).1 p
 other_places (DeletedNewOrder j v) ts ts' h k ne p = (h k).1 p
 
-row_of_own : (b : Record) (r : Rows) → IsSome (row_before b) → IsSome (row_at (put_back b r) (record_key b))
+row_of_own : (b : Record) (r : Rows) → IsSome (restore b (row_at r (record_key b)))
+    → IsSome (row_at (put_back b r) (record_key b))
 row_of_own b r h = subst (λ (o : Option Row). IsSome o)
-    (sym (at_put_back b r (record_key b) ∙ ap (λ z. cond z (row_before b) (row_at r (record_key b)))
+    (sym (at_put_back b r (record_key b)
+    ∙ ap (λ z. cond z (restore b (row_at r (record_key b))) (row_at r (record_key b)))
     (key_refl (record_key b)))) h
+
+-- columns are put back on a row that is there
+columns_on : {X C : Type 0} (put : C → X → X) (f : X → Row) (out : Row → Option X) → ((x : X) → out (f x) ≡ Some x)
+    → (c : C) (o : Option X) → IsSome (option_map f o)
+    → IsSome (option_map f (with_columns put (Some c) (option_and_then out (option_map f o))))
+columns_on put f out h c None is = let no : ⊥ = cc in absurd no
+columns_on put f out h c (Some x) is =
+    subst (λ z. IsSome (option_map f (with_columns put (Some c) z))) (sym (h x)) refl
 
 -- the record's own key has a place then only with its row
 own_place : (o : OwnRecord) (ts ts' : Places) → LeavesPlaces (record_of_own o) ts ts'
+    → Stands (record_of_own o) (rows ts)
     → rows ts' ≡ put_back (record_of_own o) (rows ts)
     → HasPlace ts' (record_key (record_of_own o)) → IsSome (row_at (rows ts') (record_key (record_of_own o)))
-own_place o ts ts' h is p = subst (λ (r : Rows). IsSome (row_at r (record_key (record_of_own o)))) (sym is) (go o h p)
+own_place o ts ts' h stands is p =
+    subst (λ (r : Rows). IsSome (row_at r (record_key (record_of_own o)))) (sym is) (go o h stands p)
   where
-    go : (o : OwnRecord) → LeavesPlaces (record_of_own o) ts ts' → HasPlace ts' (record_key (record_of_own o))
+    go : (o : OwnRecord) → LeavesPlaces (record_of_own o) ts ts' → Stands (record_of_own o) (rows ts)
+        → HasPlace ts' (record_key (record_of_own o))
         → IsSome (row_at (put_back (record_of_own o) (rows ts)) (record_key (record_of_own o)))
-    go (own.InsertedHistory k) h p = absurd (((h (record_key (record_of_own (own.InsertedHistory k)))).0 p).1 refl)
-    go (own.InsertedNewOrder k) h p = absurd (((h (record_key (record_of_own (own.InsertedNewOrder k)))).0 p).1 refl)
-    go (own.InsertedOrder k) h p = absurd (((h (record_key (record_of_own (own.InsertedOrder k)))).0 p).1 refl)
-    go (own.InsertedOrderLine k) h p = absurd (((h (record_key (record_of_own (own.InsertedOrderLine k)))).0 p).1 refl)
-    go (own.UpdatedWarehouse k x) h p = row_of_own (record_of_own (own.UpdatedWarehouse k x)) (rows ts) refl
-    go (own.UpdatedDistrict k x) h p = row_of_own (record_of_own (own.UpdatedDistrict k x)) (rows ts) refl
-    go (own.UpdatedCustomer k x) h p = row_of_own (record_of_own (own.UpdatedCustomer k x)) (rows ts) refl
-    go (own.UpdatedOrder k x) h p = row_of_own (record_of_own (own.UpdatedOrder k x)) (rows ts) refl
-    go (own.UpdatedOrderLine k x) h p = row_of_own (record_of_own (own.UpdatedOrderLine k x)) (rows ts) refl
-    go (own.UpdatedStock k x) h p = row_of_own (record_of_own (own.UpdatedStock k x)) (rows ts) refl
-    go (own.DeletedNewOrder k) h p = row_of_own (record_of_own (own.DeletedNewOrder k)) (rows ts) refl
+    go (own.InsertedHistory k) h s p = absurd (((h (record_key (record_of_own (own.InsertedHistory k)))).0 p).1 refl)
+    go (own.InsertedNewOrder k) h s p = absurd (((h (record_key (record_of_own (own.InsertedNewOrder k)))).0 p).1 refl)
+    go (own.InsertedOrder k) h s p = absurd (((h (record_key (record_of_own (own.InsertedOrder k)))).0 p).1 refl)
+    go (own.InsertedOrderLine k) h s p =
+        absurd (((h (record_key (record_of_own (own.InsertedOrderLine k)))).0 p).1 refl)
+    go (own.UpdatedWarehouse k x) h s p = row_of_own (record_of_own (own.UpdatedWarehouse k x)) (rows ts) refl
+    go (own.UpdatedDistrict k x) h s p = row_of_own (record_of_own (own.UpdatedDistrict k x)) (rows ts) refl
+    go (own.UpdatedCustomer k x) h s p = row_of_own (record_of_own (own.UpdatedCustomer k x)) (rows ts) refl
+    go (own.UpdatedOrder k x) h s p = row_of_own (record_of_own (own.UpdatedOrder k x)) (rows ts) refl
+    go (own.UpdatedOrderLine k x) h s p = row_of_own (record_of_own (own.UpdatedOrderLine k x)) (rows ts) refl
+    go (own.UpdatedStock k x) h s p = row_of_own (record_of_own (own.UpdatedStock k x)) (rows ts) refl
+    go (own.DeletedNewOrder k) h s p = row_of_own (record_of_own (own.DeletedNewOrder k)) (rows ts) refl
+    go (own.ChangedWarehouse k c) h s p = row_of_own (record_of_own (own.ChangedWarehouse k c)) (rows ts)
+        (columns_on with_warehouse row.Warehouse as_warehouse (λ _. refl) c (get (rows ts).warehouses k) s)
+    go (own.ChangedDistrict k c) h s p = row_of_own (record_of_own (own.ChangedDistrict k c)) (rows ts)
+        (columns_on with_district row.District as_district (λ _. refl) c (get (rows ts).districts k) s)
+    go (own.ChangedCustomer k c) h s p = row_of_own (record_of_own (own.ChangedCustomer k c)) (rows ts)
+        (columns_on with_customer row.Customer as_customer (λ _. refl) c (get (rows ts).customers k) s)
+    go (own.ChangedOrder k c) h s p = row_of_own (record_of_own (own.ChangedOrder k c)) (rows ts)
+        (columns_on with_order row.Order as_order (λ _. refl) c (get (rows ts).orders k) s)
+    go (own.ChangedOrderLine k c) h s p = row_of_own (record_of_own (own.ChangedOrderLine k c)) (rows ts)
+        (columns_on with_order_line row.OrderLine as_order_line (λ _. refl) c (get (rows ts).order_lines k) s)
+    go (own.ChangedStock k c) h s p = row_of_own (record_of_own (own.ChangedStock k c)) (rows ts)
+        (columns_on with_stock row.Stock as_stock (λ _. refl) c (get (rows ts).stocks k) s)
 
 is_none : (hs : List Held) → (hs ≡ []) ⊎ (hs ≡ [] → ⊥)
 is_none [] = inl refl
@@ -252,7 +296,7 @@ is_none (h ∷ hs) = inr (λ e. let no : ⊥ = cc in no)
 module _ (o : OwnRecord) (ts ts' : Places) (v w : SegmentLog) (t : ℕ) (bs : List Record)
     (size : length w.terminals ≡ terminal_limit)
     (newest : (undo_of v).active t ≡ record_of_own o ∷ bs) (rest : undo_of w ≡ put_records system t bs (undo_of v))
-    (put : rows ts' ≡ put_back (record_of_own o) (rows ts))
+    (stands : Stands (record_of_own o) (rows ts)) (put : rows ts' ≡ put_back (record_of_own o) (rows ts))
     (back : PutsBack (record_of_own o) (record_key (record_of_own o)) ts ts' w) where
   abbrev own_key : Key
   own_key = record_key (record_of_own o)
@@ -285,7 +329,7 @@ module _ (o : OwnRecord) (ts ts' : Places) (v w : SegmentLog) (t : ℕ) (bs : Li
           let same : k ≡ own_key = key_true k own_key e in
           let gone : HasNoRecord w own_key = subst (HasNoRecord w) same (left_unnamed w k none) in
           subst (λ (j : Key). IsSome (row_at (rows ts') j)) (sym same)
-          (own_place o ts ts' (back.gone gone) put (subst (HasPlace ts') same p))
+          (own_place o ts ts' (back.gone gone) stands put (subst (HasPlace ts') same p))
       go false e =
           let apart : own_key ≢ k = λ same. let own : is_key k own_key ≡ true = ap (is_key k) same ∙ key_refl k in
           (let no : ◌≡◌ {A = Bool} true false = sym own ∙ e in cc) in

@@ -14,7 +14,9 @@ use Rattle.oe_theory.proofs.Sets.{set_same, set_other, set_twice, set_idle}
 use Rattle.oe_model.specs.Rows.{Rows, is_key, row_at}
 use Rattle.oe_model.specs.Changes.{Record, InsertedHistory, InsertedNewOrder, InsertedOrder, InsertedOrderLine}
 use Rattle.oe_model.specs.Changes.{UpdatedWarehouse, UpdatedDistrict, UpdatedCustomer, UpdatedOrder, UpdatedOrderLine}
-use Rattle.oe_model.specs.Changes.{UpdatedStock, DeletedNewOrder, record_key, row_before, put_back}
+use Rattle.oe_model.specs.Changes.{ChangedWarehouse, ChangedDistrict, ChangedCustomer, ChangedOrder, ChangedOrderLine}
+use Rattle.oe_model.specs.Changes.{ChangedStock}
+use Rattle.oe_model.specs.Changes.{UpdatedStock, DeletedNewOrder, record_key, restore, put_back}
 use Rattle.oe_model.specs.System.{system}
 use Rattle.oe_model.proofs.RowFacts.{key_true, key_refl, at_put_back}
 use Rattle.oe_store.specs.Places.{rows, HasPlace}
@@ -36,7 +38,7 @@ module _ (k : Key) where
   row_stays : (b : Record) (r : Rows) → record_key b ≢ k → row_at (put_back b r) k ≡ row_at r k
   row_stays b r other = at_put_back b r k ∙ by (is_key k (record_key b)) refl
     where
-      by : (q : Bool) → is_key k (record_key b) ≡ q → cond q (row_before b) (row_at r k) ≡ row_at r k
+      by : (q : Bool) → is_key k (record_key b) ≡ q → cond q (restore b (row_at r k)) (row_at r k) ≡ row_at r k
       by true e = absurd (other (sym (key_true k (record_key b) e)))
       by false e = refl
 
@@ -139,6 +141,12 @@ module _ (k : Key) where
   absent_deleted (UpdatedOrder j v) r stands absent same bs = absurd (absent stands)
   absent_deleted (UpdatedOrderLine j v) r stands absent same bs = absurd (absent stands)
   absent_deleted (UpdatedStock j v) r stands absent same bs = absurd (absent stands)
+  absent_deleted (ChangedWarehouse j v) r stands absent same bs = absurd (absent stands)
+  absent_deleted (ChangedDistrict j v) r stands absent same bs = absurd (absent stands)
+  absent_deleted (ChangedCustomer j v) r stands absent same bs = absurd (absent stands)
+  absent_deleted (ChangedOrder j v) r stands absent same bs = absurd (absent stands)
+  absent_deleted (ChangedOrderLine j v) r stands absent same bs = absurd (absent stands)
+  absent_deleted (ChangedStock j v) r stands absent same bs = absurd (absent stands)
 
   deleted_in : (bs : List Record) (r : Rows) → CanUnwind bs r → (IsSome (row_at r k) → ⊥) → HasRecord system k bs
       → IsDeleted k bs

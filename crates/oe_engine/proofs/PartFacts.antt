@@ -36,12 +36,13 @@ use Rattle.oe_engine.proofs.LockFacts.{held_of, same_together, taken_is, put_is,
 pub change_done : (t : ℕ) (c : Change) (v : View) → stage_done t Plain (Some c) v ≡ made t c v
 change_done t c v = λ i. record {
   rows = changed c v.rows;
-  undo = put_records system t (record_on system c v.rows ∷ v.undo.active t) v.undo;
+  undo = put_records system t (record_on system v.layout c v.rows ∷ v.undo.active t) v.undo;
   seals = v.seals;
   counts = v.counts;
   held = set_own t v.held i;
   is_open = v.is_open;
   extents = v.extents;
+  layout = v.layout;
 }
 
 -- a name that was taken is held in no lower mode than before
@@ -82,6 +83,7 @@ restored t n m v =
       held = all i;
       is_open = v.is_open;
       extents = v.extents;
+      layout = v.layout;
     }
 
 -- a name that is put into the mode in which it is held already
@@ -98,6 +100,7 @@ put_same t n v =
       held = all i;
       is_open = v.is_open;
       extents = v.extents;
+      layout = v.layout;
     }
   where
     go : (q : Name) (b : Bool) → is_name q n ≡ b → cond b (v.held t n) (v.held t q) ≡ v.held t q
@@ -195,6 +198,7 @@ module _ (ts : tables.Places) (u : undo.SegmentLog) (ls : Holdings) where
         held = names i;
         is_open = before.is_open;
         extents = before.extents;
+        layout = before.layout;
       }
 
   pub mode_put : (new : Holdings) (t : ℕ) (n : Name) (m : Option Mode) → locks.GivesBack ls new t n m
@@ -213,6 +217,7 @@ module _ (ts : tables.Places) (u : undo.SegmentLog) (ls : Holdings) where
         held = names i;
         is_open = before.is_open;
         extents = before.extents;
+        layout = before.layout;
       }
 
   -- a mode that is not below the one held is that one

@@ -108,6 +108,7 @@ purged_view ts ts' u ls m same =
       held = held_of ls;
       is_open = λ t. is_some (active_at u t);
       extents = u.extents;
+      layout = u.layout;
     }
 
 safe_purged : (m : ℕ) (v : View) → IsSafe v → IsSafe (purged_to m v)
@@ -190,6 +191,7 @@ rewound_view ts ts' u ls m quiet is =
       held = held_of ls;
       is_open = opens i;
       extents = (s i).extents;
+      layout = (s i).layout;
     }
 
 safe_rewound : (m : ℕ) (v : View) → ((t : ℕ) → v.undo.active t ≡ []) → Meets (calls.rewound_to m v).rows → IsSafe v

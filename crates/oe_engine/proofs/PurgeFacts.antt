@@ -56,7 +56,7 @@ none_cut : (v : SegmentLog) → v ≡ with_newest (length v.committed - 0) v
 none_cut v =
     let all : take (length v.committed - 0) v.committed ≡ v.committed =
     take_all (length v.committed - 0) v.committed (omega arith) in
-    λ i. record { terminals = v.terminals; committed = sym all i; extents = v.extents }
+    λ i. record { terminals = v.terminals; committed = sym all i; extents = v.extents; layout = v.layout }
 
 one_cut : (v w : SegmentLog) (k : ℕ) → k ≤ length v.committed → w ≡ with_newest k v
     → with_newest (length w.committed - 1) w ≡ with_newest (k - 1) v
@@ -65,7 +65,7 @@ one_cut v w k enough is =
     let twice : take (length (take k v.committed) - 1) (take k v.committed) ≡ take (k - 1) v.committed =
     take_take (length (take k v.committed) - 1) k v.committed (omega arith) ∙ ap (λ n. take (n - 1) v.committed) many in
     ap (λ z. with_newest (length z.committed - 1) z) is
-    ∙ (λ i. record { terminals = v.terminals; committed = twice i; extents = v.extents })
+    ∙ (λ i. record { terminals = v.terminals; committed = twice i; extents = v.extents; layout = v.layout })
 
 -- in the theory's words
 pub purged_is : (u : SegmentLog) (m : ℕ) (r : Rows) (slots : ℕ → Option (Slot system))
@@ -79,6 +79,7 @@ purged_is u m r slots =
       seals = c.seals i;
       counts = c.counts i;
       extents = u.extents;
+      layout = u.layout;
     }
 
 -- no key
@@ -140,6 +141,12 @@ delete_of (model.UpdatedCustomer k v) o e = cc
 delete_of (model.UpdatedOrder k v) o e = cc
 delete_of (model.UpdatedOrderLine k v) o e = cc
 delete_of (model.UpdatedStock k v) o e = cc
+delete_of (model.ChangedWarehouse k v) o e = cc
+delete_of (model.ChangedDistrict k v) o e = cc
+delete_of (model.ChangedCustomer k v) o e = cc
+delete_of (model.ChangedOrder k v) o e = cc
+delete_of (model.ChangedOrderLine k v) o e = cc
+delete_of (model.ChangedStock k v) o e = cc
 
 -- the key is of one of these NEW-ORDER rows
 abbrev pub IsOneOf : Key → List NewOrderKey → Type 0
@@ -289,6 +296,7 @@ last_cut u u' last left less is =
       terminals = u.terminals;
       committed = take_take last left u.committed less i;
       extents = u.extents;
+      layout = u.layout;
     })
 
 newest_is : (u : SegmentLog) → IsWhole u → newest u ≡ total_count u

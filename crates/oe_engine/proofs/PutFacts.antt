@@ -94,9 +94,9 @@ module _ (ts ts' : tables.Places) (u x : UndoState) (ls : Holdings) (t : ℕ) wh
 
     pub put_fits : {T E : Type 0} (r : Result T E) (c : Change) → written w (rows ts) ≡ Some c
         → OnOk r (HasRecorded w ts ts' u x t) → OnOk r (HasRoomFor w (rows ts) u.log t)
-        → OnOk r (IsFull u.log t (record_length (record_on system c (rows ts))) → ⊥)
+        → OnOk r (IsFull u.log t (record_length (record_on system u.log.layout c (rows ts))) → ⊥)
     put_fits (Ok v) c found h room =
         let accepted = (of_change (λ d. IsRecorded d ts ts' u x t) _ c found h).applies.accepted in
         subst (λ o. IsSomeAnd o (λ b. IsFull u.log t (record_length b) → ⊥))
-        (write_records w c (rows ts) found accepted) room
+        (write_records u.log.layout w c (rows ts) found accepted) room
     put_fits (Err e) c found h room = tt

@@ -210,7 +210,7 @@ dropped_reopened v c cs within quiet =
     ∙ ap (λ s. set v.terminals t (last s)) (get_or-set_same once t empty idle inside)
     ∙ ap (λ s. set v.terminals t (last s)) here
     ∙ ap (λ a. set v.terminals t (record { count = count_at v t - 1; active = a })) (sym quiet) in
-    λ i. record { terminals = states i; committed = cs; extents = v.extents }
+    λ i. record { terminals = states i; committed = cs; extents = v.extents; layout = v.layout }
 
 -- of the newest commit of a log in which no segment is open
 module _ (v u : SegmentLog) (t : ℕ) (n : IsNewest v t) (is : u ≡ reopened v v.committed) where

@@ -19,10 +19,11 @@ use Rattle.oe_model.specs.Rows.{Rows, row_at}
 use Rattle.oe_model.specs.Changes.{Change, InsertHistory, InsertNewOrder, InsertOrder, InsertOrderLine, UpdateWarehouse}
 use Rattle.oe_model.specs.Changes.{UpdateDistrict, UpdateCustomer, UpdateOrder, UpdateOrderLine, UpdateStock}
 use Rattle.oe_model.specs.Changes.{DeleteNewOrder, key_of, Record, record_key}
+use Rattle.oe_rows.specs.declared.layouts.Layout.{Layout}
 use Rattle.oe_model.specs.Locks.{governs, is_name, mode_of}
 use Rattle.oe_model.specs.Meets.{Meets, Accepts}
 use Rattle.oe_model.specs.System.{system}
-use Rattle.oe_model.proofs.RowFacts.{record_key_of}
+use Rattle.oe_model.proofs.RowFacts.{in_layout_key}
 use Rattle.oe_model.proofs.PresenceFacts.{missing}
 use Rattle.oe_model.proofs.SystemLaws as model
 use Rattle.oe_store.specs.Places as tables
@@ -128,8 +129,8 @@ is_alone ts u ls t k s own x ne = has_none (view_from ts u ls) s t k own x ne (m
     (s.owned x)
 
 -- an engine in which nothing has begun
-pub safe_first : (r : Rows) (n : ℕ) → Meets r → IsSafe (opened_view r n)
-safe_first r n m = record {
+pub safe_first : (r : Rows) (n : ℕ) (l : Layout) → Meets r → IsSafe (opened_view r n l)
+safe_first r n l m = record {
   owned = λ t. tt;
   alone = λ t u q ne e. refl;
   unwinds = λ ts. none_unwinds [] ts r m tt;
@@ -142,15 +143,15 @@ safe_begun t v s = record { owned = s.owned; alone = s.alone; unwinds = s.unwind
 pub safe_made : (t : ℕ) (c : Change) (v : View) → Accepts c v.rows → MayMake (v.held t) t (suc (v.counts t)) c
     → IsSafe v → IsSafe (made t c v)
 safe_made t c v a m s =
-    let key = record_key_of c (row_at v.rows (key_of c)) in
-    let own : Owns (v.held t) t (suc (v.counts t)) (governs (record_key (record_on system c v.rows))) =
+    let key = in_layout_key v.layout c (row_at v.rows (key_of c)) in
+    let own : Owns (v.held t) t (suc (v.counts t)) (governs (record_key (record_on system v.layout c v.rows))) =
     subst (λ k. Owns (v.held t) t (suc (v.counts t)) (governs k)) (sym key) m.0 in
     record {
       owned = at_each (λ u bs. AreOwned (v.held u) u (suc (v.counts u)) bs) t
-          (record_on system c v.rows ∷ v.undo.active t) v.undo.active
-          (own, whole_made c v.rows a, s.owned t) (λ u ne. s.owned u);
+          (record_on system v.layout c v.rows ∷ v.undo.active t) v.undo.active
+          (own, whole_made v.layout c v.rows a, s.owned t) (λ u ne. s.owned u);
       alone = s.alone;
-      unwinds = λ ts. made_unwinds v.undo.history c t ts v.undo.active v.rows a
+      unwinds = λ ts. made_unwinds v.undo.history v.layout c t ts v.undo.active v.rows a
           (λ u ne. apart_all v s t c m u ne (v.undo.active u) (s.owned u)) s.unwinds;
     }
 

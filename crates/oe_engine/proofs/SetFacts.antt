@@ -25,8 +25,7 @@ use Rattle.oe_model.specs.Changes.{Change, changed, key_of, UpdateWarehouse, Upd
 use Rattle.oe_model.specs.Changes.{UpdateOrder, UpdateOrderLine, UpdateStock}
 use Rattle.oe_store.specs.Places.{Places, rows, HasPlace, SamePlaces, AddsPlace}
 use Rattle.oe_store.proofs.PlaceFacts.{place_of_row}
-use Rattle.oe_change.specs.Applies.{Applies}
-use Rattle.oe_engine.specs.Records.{record_in}
+use Rattle.oe_engine.specs.Recorded.{IsApplied}
 
 -- a row is there where a change of it is
 pub row_there : {A B : Type 0} (f : A → B) (o : Option A) → IsSome (option_map f o) → IsSome o
@@ -46,21 +45,26 @@ module _ (old new : Places) (same : SamePlaces old new) where
   made : {A : Type 0} (f : A → Change) (o : Option A) → IsSome (option_map f o)
       → ((x : A) → o ≡ Some x → Accepts (f x) (rows old) × (rows new ≡ changed (f x) (rows old))
       × HasPlace old (key_of (f x)))
-      → IsSomeAnd (option_map f o) (λ c. Applies c old new (record_in c (rows old)))
+      → IsSomeAnd (option_map f o) (λ c. IsApplied c old new)
   made f None some h = absurd (no some)
     where
       no : IsSome (option_map f None) → ⊥
       no e = cc
   made f (Some x) some h =
       let y = h x refl in
-      record { accepted = y.0; changes = y.1; before = refl; places = adds_own old new (key_of (f x)) same y.2 }
+      λ l. record {
+        accepted = y.0;
+        changes = y.1;
+        before = refl;
+        places = adds_own old new (key_of (f x)) same y.2;
+      }
 
   pub warehouse_made : (k : WarehouseKey) (f : Warehouse → Warehouse)
       → IsSome (option_map (λ x. UpdateWarehouse k (f x)) (get (rows old).warehouses k))
       → ((x : Warehouse) → get (rows old).warehouses k ≡ Some x
       → rows new ≡ changed (UpdateWarehouse k (f x)) (rows old))
       → IsSomeAnd (option_map (λ x. UpdateWarehouse k (f x)) (get (rows old).warehouses k))
-      (λ c. Applies c old new (record_in c (rows old)))
+      (λ c. IsApplied c old new)
   warehouse_made k f some set =
       made (λ x. UpdateWarehouse k (f x)) (get (rows old).warehouses k) some
       (λ x is. (ap is_some is, set x is, place_of_row warehouse_total exact_warehouse old.warehouses k (ap is_some is)))
@@ -69,7 +73,7 @@ module _ (old new : Places) (same : SamePlaces old new) where
       → IsSome (option_map (λ x. UpdateDistrict k (f x)) (get (rows old).districts k))
       → ((x : District) → get (rows old).districts k ≡ Some x → rows new ≡ changed (UpdateDistrict k (f x)) (rows old))
       → IsSomeAnd (option_map (λ x. UpdateDistrict k (f x)) (get (rows old).districts k))
-      (λ c. Applies c old new (record_in c (rows old)))
+      (λ c. IsApplied c old new)
   district_made k f some set =
       made (λ x. UpdateDistrict k (f x)) (get (rows old).districts k) some
       (λ x is. (ap is_some is, set x is, place_of_row district_total exact_district old.districts k (ap is_some is)))
@@ -79,7 +83,7 @@ module _ (old new : Places) (same : SamePlaces old new) where
       → IsSome (option_map (λ x. UpdateCustomer k (f x)) (get (rows old).customers k))
       → ((x : Customer) → get (rows old).customers k ≡ Some x → rows new ≡ changed (UpdateCustomer k (f x)) (rows old))
       → IsSomeAnd (option_map (λ x. UpdateCustomer k (f x)) (get (rows old).customers k))
-      (λ c. Applies c old new (record_in c (rows old)))
+      (λ c. IsApplied c old new)
   customer_made k f name some set =
       made (λ x. UpdateCustomer k (f x)) (get (rows old).customers k) some
       (λ x is. (
@@ -94,7 +98,7 @@ module _ (old new : Places) (same : SamePlaces old new) where
       → IsSome (option_map (λ x. UpdateOrder k (f x)) (get (rows old).orders k))
       → ((x : Order) → get (rows old).orders k ≡ Some x → rows new ≡ changed (UpdateOrder k (f x)) (rows old))
       → IsSomeAnd (option_map (λ x. UpdateOrder k (f x)) (get (rows old).orders k))
-      (λ c. Applies c old new (record_in c (rows old)))
+      (λ c. IsApplied c old new)
   order_made k f customer some set =
       made (λ x. UpdateOrder k (f x)) (get (rows old).orders k) some
       (λ x is. ((x, is, customer x), set x is, place_of_row order_total exact_order old.orders k (ap is_some is)))
@@ -106,7 +110,7 @@ module _ (old new : Places) (same : SamePlaces old new) where
       → ((x : OrderLine) → get (rows old).order_lines k ≡ Some x
       → rows new ≡ changed (UpdateOrderLine k (f x)) (rows old))
       → IsSomeAnd (option_map (λ x. UpdateOrderLine k (f x)) (get (rows old).order_lines k))
-      (λ c. Applies c old new (record_in c (rows old)))
+      (λ c. IsApplied c old new)
   order_line_made k f supply schema some set =
       made (λ x. UpdateOrderLine k (f x)) (get (rows old).order_lines k) some
       (λ x is. (
@@ -123,7 +127,7 @@ module _ (old new : Places) (same : SamePlaces old new) where
       → IsSome (option_map (λ x. UpdateStock k (f x)) (get (rows old).stocks k))
       → ((x : Stock) → get (rows old).stocks k ≡ Some x → rows new ≡ changed (UpdateStock k (f x)) (rows old))
       → IsSomeAnd (option_map (λ x. UpdateStock k (f x)) (get (rows old).stocks k))
-      (λ c. Applies c old new (record_in c (rows old)))
+      (λ c. IsApplied c old new)
   stock_made k f some set =
       made (λ x. UpdateStock k (f x)) (get (rows old).stocks k) some
       (λ x is. (ap is_some is, set x is, place_of_row stock_total exact_stock old.stocks k (ap is_some is)))

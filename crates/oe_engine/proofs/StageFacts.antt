@@ -132,12 +132,13 @@ module _ (v : View) (t k : ℕ) where
   done_held (Own u j) c h = refl
   done_held (Under n) c h = λ i. record {
     rows = changed c v.rows;
-    undo = put_records system t (record_on system c v.rows ∷ v.undo.active t) v.undo;
+    undo = put_records system t (record_on system v.layout c v.rows ∷ v.undo.active t) v.undo;
     seals = v.seals;
     counts = v.counts;
     held = world.set t (same_held n h i) v.held;
     is_open = v.is_open;
     extents = v.extents;
+    layout = v.layout;
   }
 
   pub none_new : (g : Guard Name) → Owns (v.held t) t k g → IsNew system (v.held t) (ask_to_write g) → ⊥

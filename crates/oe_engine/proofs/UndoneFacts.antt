@@ -165,6 +165,7 @@ rewound_is ts ts' u m slots put =
       seals = r.seals i;
       counts = r.counts i;
       extents = extents_are (newest u - m) u i;
+      layout = layout_is (newest u - m) u i;
     }
   where
     of_one : (v : SegmentLog) (cs : List Committed) → (uncounted v cs).extents ≡ v.extents
@@ -174,3 +175,11 @@ rewound_is ts ts' u m slots put =
     extents_are : (n : ℕ) (v : SegmentLog) → (without_newest n v).extents ≡ v.extents
     extents_are zero v = refl
     extents_are (suc n) v = extents_are n (uncounted v v.committed) ∙ of_one v v.committed
+
+    layout_of_one : (v : SegmentLog) (cs : List Committed) → (uncounted v cs).layout ≡ v.layout
+    layout_of_one v [] = refl
+    layout_of_one v (c ∷ cs) = refl
+
+    layout_is : (n : ℕ) (v : SegmentLog) → (without_newest n v).layout ≡ v.layout
+    layout_is zero v = refl
+    layout_is (suc n) v = layout_is n (uncounted v v.committed) ∙ layout_of_one v v.committed

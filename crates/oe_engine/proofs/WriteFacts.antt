@@ -12,10 +12,10 @@ use Rattle.oe_requests.specs.declared.refusals.Refusal.TheVariants.{UndoFull, No
 use Rattle.oe_rows.specs.declared.orders.NewOrder.{NewOrder}
 use Rattle.oe_rows.specs.declared.rows.Row.TheVariants as row
 use Rattle.oe_theory.specs.Next.{held_after, record_on}
-use Rattle.oe_model.specs.Rows.{Rows, as_warehouse, as_district, as_customer, as_new_order, as_order, as_order_line}
-use Rattle.oe_model.specs.Rows.{as_stock}
-use Rattle.oe_model.specs.Changes.{Change, key_of, Record, UpdatedWarehouse, UpdatedDistrict, UpdatedCustomer}
-use Rattle.oe_model.specs.Changes.{UpdatedOrder, UpdatedOrderLine, UpdatedStock, DeletedNewOrder}
+use Rattle.oe_rows.specs.declared.layouts.Layout.{Layout}
+use Rattle.oe_model.specs.Rows.{Rows, as_new_order}
+use Rattle.oe_model.specs.Changes.{Change, key_of, Record, InsertedHistory, InsertedNewOrder, InsertedOrder}
+use Rattle.oe_model.specs.Changes.{InsertedOrderLine, DeletedNewOrder}
 use Rattle.oe_model.specs.Lengths.{record_length}
 use Rattle.oe_model.specs.Locks.{governs}
 use Rattle.oe_model.specs.System.{system}
@@ -30,7 +30,8 @@ use Rattle.oe_change.specs.Applies.{Refuses, IsFirst}
 use Rattle.oe_log.specs.Log.{IsFull, SegmentLog}
 use Rattle.oe_engine.specs.Records.{record_of_write}
 use Rattle.oe_engine.specs.Recorded.{CantWrite, Absent, Full, Refused}
-use Rattle.oe_engine.proofs.RecordFacts.{recorded}
+use Rattle.oe_engine.proofs.RecordFacts.{recorded, update, history_in, new_order_in, order_in, order_line_in}
+use Rattle.oe_engine.proofs.RecordFacts.{deleted_in}
 use Rattle.oe_engine.specs.View.{View}
 use Rattle.oe_engine.specs.Covered.{Owns, HoldsOrder, MayMake, IsOwn}
 use Rattle.oe_engine.specs.Calls.{locked, ChangeRefused}
@@ -119,14 +120,7 @@ may_after t n m w v h = subst (λ held. MayWrite held t (suc (v.counts t)) w)
 
 -- ---- why it is refused
 
--- what two options have that are of one row
-of_both : {A : Type 0} {D B : Type 0} (P : D → B → Type 0) (f : A → D) (g : A → B) (o : Option A) (d : D) (b : B)
-    → ((x : A) → o ≡ Some x → P (f x) (g x))
-    → option_map f o ≡ Some d → option_map g o ≡ Some b → P d b
-of_both P f g None d b h e i = cc
-of_both P f g (Some x) d b h e i = subst (λ z. P d z) (some_inj (g x) b i)
-    (subst (λ z. P z (g x)) (some_inj (f x) d e) (h x refl))
-
+-- what two values have that are of one write
 of_these : {D B : Type 0} (P : D → B → Type 0) (d c : D) (a b : B) → P d a → Some d ≡ Some c → Some a ≡ Some b → P c b
 of_these P d c a b h e i = subst (λ z. P c z) (some_inj a b i) (subst (λ z. P z a) (some_inj d c e) h)
 
@@ -137,41 +131,42 @@ more_than : (n m : ℕ) → n + 0 ≤ n + m
 more_than n m = omega arith
 
 -- the record that is pushed is no longer than that of the change
-abbrev IsNoLonger : Rows → Change → Record → Type 0
-IsNoLonger r c b = record_length b ≤ record_length (record_on system c r)
+abbrev IsNoLonger : Layout → Rows → Change → Record → Type 0
+IsNoLonger l r c b = record_length b ≤ record_length (record_on system l c r)
 
-no_longer : (w : Write) (r : Rows) (c : Change) (b : Record) → written w r ≡ Some c → record_of_write w r ≡ Some b
-    → IsNoLonger r c b
-no_longer (WarehouseYtd k y) r c b = of_both (IsNoLonger r) _ _ (get r.warehouses k) c b
-    (λ x e. subst (λ o. record_length (UpdatedWarehouse k (Some x)) ≤ record_length
-    (UpdatedWarehouse k (option_and_then as_warehouse (option_map row.Warehouse o)))) (sym e) (no_less _))
-no_longer (DistrictYtd k y) r c b = of_both (IsNoLonger r) _ _ (get r.districts k) c b
-    (λ x e. subst (λ o. record_length (UpdatedDistrict k (Some x)) ≤ record_length
-    (UpdatedDistrict k (option_and_then as_district (option_map row.District o)))) (sym e) (no_less _))
-no_longer (NextOrder k n) r c b = of_both (IsNoLonger r) _ _ (get r.districts k) c b
-    (λ x e. subst (λ o. record_length (UpdatedDistrict k (Some x)) ≤ record_length
-    (UpdatedDistrict k (option_and_then as_district (option_map row.District o)))) (sym e) (no_less _))
-no_longer (CustomerAccount k a) r c b = of_both (IsNoLonger r) _ _ (get r.customers k) c b
-    (λ x e. subst (λ o. record_length (UpdatedCustomer k (Some x)) ≤ record_length
-    (UpdatedCustomer k (option_and_then as_customer (option_map row.Customer o)))) (sym e) (no_less _))
-no_longer (BadCredit k a t) r c b = of_both (IsNoLonger r) _ _ (get r.customers k) c b
-    (λ x e. subst (λ o. record_length (UpdatedCustomer k (Some x)) ≤ record_length
-    (UpdatedCustomer k (option_and_then as_customer (option_map row.Customer o)))) (sym e) (no_less _))
-no_longer (StockCounters k n) r c b = of_both (IsNoLonger r) _ _ (get r.stocks k) c b
-    (λ x e. subst (λ o. record_length (UpdatedStock k (Some x)) ≤ record_length
-    (UpdatedStock k (option_and_then as_stock (option_map row.Stock o)))) (sym e) (no_less _))
-no_longer (Carrier k n) r c b = of_both (IsNoLonger r) _ _ (get r.orders k) c b
-    (λ x e. subst (λ o. record_length (UpdatedOrder k (Some x)) ≤ record_length
-    (UpdatedOrder k (option_and_then as_order (option_map row.Order o)))) (sym e) (no_less _))
-no_longer (DeliveryDate k t) r c b = of_both (IsNoLonger r) _ _ (get r.order_lines k) c b
-    (λ x e. subst (λ o. record_length (UpdatedOrderLine k (Some x)) ≤ record_length
-    (UpdatedOrderLine k (option_and_then as_order_line (option_map row.OrderLine o)))) (sym e) (no_less _))
-no_longer (InsertHistory k x) r c b = of_these (IsNoLonger r) _ c _ b (more_than _ _)
-no_longer (InsertNewOrder k) r c b = of_these (IsNoLonger r) _ c _ b (more_than _ _)
-no_longer (InsertOrder k x) r c b = of_these (IsNoLonger r) _ c _ b (more_than _ _)
-no_longer (InsertOrderLine k x) r c b = of_these (IsNoLonger r) _ c _ b (more_than _ _)
-no_longer (DeleteNewOrder k) r c b = of_these (IsNoLonger r) _ c _ b
-    (deleted_as_long (option_and_then as_new_order (option_map row.NewOrder (get r.new_orders k))))
+-- of an update it is that record
+as_long : (l : Layout) (r : Rows) (o : Option Change) (c : Change) (b : Record) → o ≡ Some c
+    → option_map (λ d. record_on system l d r) o ≡ Some b → IsNoLonger l r c b
+as_long l r o c b e i =
+    subst (λ z. record_length z ≤ record_length (record_on system l c r)) (some_inj _ _ (sym (update l r o c e) ∙ i))
+    (no_less _)
+
+no_longer : (l : Layout) (w : Write) (r : Rows) (c : Change) (b : Record) → written w r ≡ Some c
+    → record_of_write l w r ≡ Some b → IsNoLonger l r c b
+no_longer l (WarehouseYtd k y) r c b = as_long l r _ c b
+no_longer l (DistrictYtd k y) r c b = as_long l r _ c b
+no_longer l (NextOrder k n) r c b = as_long l r _ c b
+no_longer l (CustomerAccount k a) r c b = as_long l r _ c b
+no_longer l (BadCredit k a t) r c b = as_long l r _ c b
+no_longer l (StockCounters k n) r c b = as_long l r _ c b
+no_longer l (Carrier k n) r c b = as_long l r _ c b
+no_longer l (DeliveryDate k t) r c b = as_long l r _ c b
+no_longer l (InsertHistory k x) r c b = of_these (IsNoLonger l r) _ c _ b
+    (subst (λ z. record_length (InsertedHistory k None) ≤ record_length z)
+    (history_in l (option_map row.History (get r.histories k)) k x) (more_than _ _))
+no_longer l (InsertNewOrder k) r c b = of_these (IsNoLonger l r) _ c _ b
+    (subst (λ z. record_length (InsertedNewOrder k None) ≤ record_length z)
+    (new_order_in l (option_map row.NewOrder (get r.new_orders k)) k (record {})) (more_than _ _))
+no_longer l (InsertOrder k x) r c b = of_these (IsNoLonger l r) _ c _ b
+    (subst (λ z. record_length (InsertedOrder k None) ≤ record_length z)
+    (order_in l (option_map row.Order (get r.orders k)) k x) (more_than _ _))
+no_longer l (InsertOrderLine k x) r c b = of_these (IsNoLonger l r) _ c _ b
+    (subst (λ z. record_length (InsertedOrderLine k None) ≤ record_length z)
+    (order_line_in l (option_map row.OrderLine (get r.order_lines k)) k x) (more_than _ _))
+no_longer l (DeleteNewOrder k) r c b = of_these (IsNoLonger l r) _ c _ b
+    (subst (λ z. record_length (DeletedNewOrder k (Some (record {}))) ≤ record_length z)
+    (deleted_in l (option_map row.NewOrder (get r.new_orders k)) k)
+    (deleted_as_long (option_and_then as_new_order (option_map row.NewOrder (get r.new_orders k)))))
   where
     deleted_as_long : (v : Option NewOrder) → record_length (DeletedNewOrder k (Some (record {}))) ≤ record_length
         (DeletedNewOrder k v)
@@ -183,12 +178,14 @@ full_as : (u : SegmentLog) (t m n : ℕ) → m ≤ n → IsFull u t m → IsFull
 full_as u t m n h f = (omega (arith, h, f.0), f.1)
 
 module _ (w : Write) (s : Places) (u : SegmentLog) (t : ℕ) where
-  full_write : (c : Change) → written w (rows s) ≡ Some c → (o : Option Record) → record_of_write w (rows s) ≡ o
+  full_write : (c : Change) → written w (rows s) ≡ Some c → (o : Option Record)
+      → record_of_write u.layout w (rows s) ≡ o
       → IsSomeAnd o (λ b. IsFull u t (record_length b))
-      → IsFull u t (record_length (record_on system c (rows s)))
+      → IsFull u t (record_length (record_on system u.layout c (rows s)))
   full_write c found None e h = absurd h
-  full_write c found (Some b) e h = full_as u t (record_length b) (record_length (record_on system c (rows s)))
-      (no_longer w (rows s) c b found e) h
+  full_write c found (Some b) e h = full_as u t (record_length b)
+      (record_length (record_on system u.layout c (rows s)))
+      (no_longer u.layout w (rows s) c b found e) h
 
   -- where there is a record, the row is there
   pub refused_written : (c : Change) (e : Refusal) → written w (rows s) ≡ Some c → CantWrite w s u t e
@@ -199,7 +196,7 @@ module _ (w : Write) (s : Places) (u : SegmentLog) (t : ℕ) where
       refused_so c s e (of_change (λ d. Refuses d s e × IsFirst d (rows s) e) _ c found h).0
 
   pub refused_full : (c : Change) (e : Refusal) → written w (rows s) ≡ Some c → CantWrite w s u t e → e ≡ UndoFull
-      → IsFull u t (record_length (record_on system c (rows s)))
+      → IsFull u t (record_length (record_on system u.layout c (rows s)))
   refused_full c _ found (Absent a) same = let no : ◌≡◌ {A = Option Change} None (Some c) = sym a ∙ found in cc
   refused_full c _ found (Full h) same = full_write c found _ refl h
   refused_full c e found (Refused _ room h) same =
@@ -219,9 +216,9 @@ module _ (w : Write) (s : Places) (u : SegmentLog) (t : ℕ) where
       wants_here (Some d) k = subst (Refuses d s) same k.0
 
 -- a write whose row is absent has no record
-none_recorded : (P : Record → Type 0) (w : Write) (r : Rows) → written w r ≡ None → IsSomeAnd (record_of_write w r) P
-    → ⊥
-none_recorded P w r absent h = is_none (written w r) absent (recorded w r (is_some_of (record_of_write w r) h))
+none_recorded : (l : Layout) (P : Record → Type 0) (w : Write) (r : Rows) → written w r ≡ None
+    → IsSomeAnd (record_of_write l w r) P → ⊥
+none_recorded l P w r absent h = is_none (written w r) absent (recorded l w r (is_some_of (record_of_write l w r) h))
   where
     is_some_of : (o : Option Record) → IsSomeAnd o P → IsSome o
     is_some_of None h = absurd h
@@ -234,5 +231,5 @@ none_recorded P w r absent h = is_none (written w r) absent (recorded w r (is_so
 pub refused_absent : (w : Write) (s : Places) (u : SegmentLog) (t : ℕ) (e : Refusal) → written w (rows s) ≡ None
     → CantWrite w s u t e → AbsentRefused (key_written w) e
 refused_absent w s u t _ absent (Absent a) = refl
-refused_absent w s u t _ absent (Full h) = absurd (none_recorded _ w (rows s) absent h)
-refused_absent w s u t e absent (Refused _ room h) = absurd (none_recorded _ w (rows s) absent room)
+refused_absent w s u t _ absent (Full h) = absurd (none_recorded u.layout _ w (rows s) absent h)
+refused_absent w s u t e absent (Refused _ room h) = absurd (none_recorded u.layout _ w (rows s) absent room)

@@ -77,8 +77,10 @@ locked t n m v = record v { held = set t (held_after system (Take n m) (v.held t
 
 -- a change made and recorded
 abbrev pub made : ℕ → Change → View → View
-made t c v = record v
-    { rows = changed c v.rows; undo = put_records system t (record_on system c v.rows ∷ v.undo.active t) v.undo }
+made t c v = record v {
+  rows = changed c v.rows;
+  undo = put_records system t (record_on system v.layout c v.rows ∷ v.undo.active t) v.undo;
+}
 
 -- a name put into a mode, or let go of
 abbrev pub put_mode : ℕ → Name → Option theory.Mode → View → View
@@ -88,7 +90,7 @@ put_mode t n m v = record v { held = set t (λ q. cond (is_name q n) m (v.held t
 abbrev pub stage_done : ℕ → Ask Name Refusal → Option Change → View → View
 stage_done t a c v = record v {
   rows = with_change_of system c v.rows;
-  undo = put_records system t (with_record_of system c v.rows (v.undo.active t)) v.undo;
+  undo = put_records system t (with_record_of system v.layout c v.rows (v.undo.active t)) v.undo;
   held = set t (held_after system a (v.held t)) v.held;
 }
 
@@ -101,7 +103,7 @@ LockRefused v t n m e = ⊥
 -- the record of a change of the rows as they are fits neither the rest of its transaction's last extent nor a free one
 abbrev pub IsFullFor : View → ℕ → Change → Type 0
 IsFullFor v t c =
-    ((filled system (lengths_of system (v.undo.active t))).1 < system.size_of (record_on system c v.rows))
+    ((filled system (lengths_of system (v.undo.active t))).1 < system.size_of (record_on system v.layout c v.rows))
     × (v.extents ≤ used_of system v.undo)
 
 -- it has no room for the record of a stage's change, if the stage makes one

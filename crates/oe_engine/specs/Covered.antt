@@ -9,6 +9,8 @@ use Rattle.oe_model.specs.Keys.{order_of_new_order}
 use Rattle.oe_model.specs.Rows.{Rows}
 use Rattle.oe_model.specs.Changes.{Change, InsertNewOrder, key_of, Record, UpdatedWarehouse, UpdatedDistrict}
 use Rattle.oe_model.specs.Changes.{UpdatedCustomer, UpdatedOrder, UpdatedOrderLine, UpdatedStock, record_key, put_back}
+use Rattle.oe_model.specs.Changes.{ChangedWarehouse, ChangedDistrict, ChangedCustomer, ChangedOrder, ChangedOrderLine}
+use Rattle.oe_model.specs.Changes.{ChangedStock}
 use Rattle.oe_model.specs.Meets.{Meets}
 use Rattle.oe_model.specs.Locks.{governs}
 use Rattle.oe_change.specs.PutBack.{Stands}
@@ -37,7 +39,7 @@ HoldsOrder held _ = Unit {0}
 abbrev pub MayMake : (Name → Option theory.Mode) → ℕ → ℕ → Change → Type 0
 MayMake held t k c = Owns held t k (governs (key_of c)) × HoldsOrder held c
 
--- the record of an update has the row before it
+-- the record of an update has the row before it, or its columns
 abbrev pub IsWhole : Record → Type 0
 IsWhole (UpdatedWarehouse k v) = IsSome v
 IsWhole (UpdatedDistrict k v) = IsSome v
@@ -45,6 +47,12 @@ IsWhole (UpdatedCustomer k v) = IsSome v
 IsWhole (UpdatedOrder k v) = IsSome v
 IsWhole (UpdatedOrderLine k v) = IsSome v
 IsWhole (UpdatedStock k v) = IsSome v
+IsWhole (ChangedWarehouse k v) = IsSome v
+IsWhole (ChangedDistrict k v) = IsSome v
+IsWhole (ChangedCustomer k v) = IsSome v
+IsWhole (ChangedOrder k v) = IsSome v
+IsWhole (ChangedOrderLine k v) = IsSome v
+IsWhole (ChangedStock k v) = IsSome v
 IsWhole _ = Unit {0}
 
 -- each record is of a row that its transaction alone may change

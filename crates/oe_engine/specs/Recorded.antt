@@ -3,9 +3,12 @@ use Rattle.std.specs.Prelude.{◌≡◌, ℕ, ◌∷◌, length, None, is_some}
 use Rattle.std.specs.Option.{IsSomeAnd}
 use Rattle.oe_requests.specs.declared.refusals.Refusal.{Refusal}
 use Rattle.oe_requests.specs.declared.refusals.Refusal.TheVariants.{NoSuchRow, UndoFull}
+use Rattle.oe_theory.specs.Next.{record_on}
+use Rattle.oe_rows.specs.declared.layouts.Layout.{Layout}
 use Rattle.oe_model.specs.Rows.{Rows}
 use Rattle.oe_model.specs.Changes.{Change, Record, record_key}
 use Rattle.oe_model.specs.Lengths.{record_length}
+use Rattle.oe_model.specs.System.{system}
 use Rattle.oe_change.specs.declared.writes.Write.{Write}
 use Rattle.oe_change.specs.Writes.{key_written, written}
 use Rattle.oe_layout.specs.declared.links.Previous.{Previous}
@@ -17,11 +20,11 @@ use Rattle.oe_log.specs.Laws.{StandsWith}
 use Rattle.oe_undo.specs.declared.holders.Holder.TheVariants.{Open}
 use Rattle.oe_undo.specs.Chains.{link_from}
 use Rattle.oe_undo.specs.Undo.{UndoState, seen, HasPushed}
-use Rattle.oe_engine.specs.Records.{record_in, record_of_write}
+use Rattle.oe_engine.specs.Records.{record_of_write}
 
--- a change is accepted and made, and its record would have the row before
+-- a change is accepted and made, and its record would be this in each layout
 abbrev pub IsApplied : Change → Places → Places → Type 0
-IsApplied c old new = Applies c old new (record_in c (rows old))
+IsApplied c old new = (l : Layout) → Applies l c old new (record_on system l c (rows old))
 
 -- why the tables refuse a change; of several causes the first is named
 abbrev pub IsRefused : Change → Places → Refusal → Type 0
@@ -43,17 +46,18 @@ pub record HasMore (b : Record) (u u' : UndoState) (t : ℕ) : Type 0 where
 
 -- a terminal's open segment has the write's record more
 abbrev pub HasWritten : Write → Rows → UndoState → UndoState → ℕ → Type 0
-HasWritten w r u u' t = IsSomeAnd (record_of_write w r) (λ b. HasMore b u u' t)
+HasWritten w r u u' t = IsSomeAnd (record_of_write u.log.layout w r) (λ b. HasMore b u u' t)
 
 -- a change was accepted and made, with its record in the log; nothing else has changed there
 pub record IsRecorded (c : Change) (old new : Places) (u u' : UndoState) (t : ℕ) : Type 0 where
-  pub applies : Applies c old new (record_in c (rows old))
-  pub has_more : HasMore (record_in c (rows old)) u u' t
+  pub applies : Applies u.log.layout c old new (record_on system u.log.layout c (rows old))
+  pub has_more : HasMore (record_on system u.log.layout c (rows old)) u u' t
   -- in the theory's words
-  pub stands : StandsWith u'.log u.log t (record_in c (rows old) ∷ (undo_of u.log).active t)
+  pub stands : StandsWith u'.log u.log t (record_on system u.log.layout c (rows old) ∷ (undo_of u.log).active t)
   pub is_open : (x : ℕ) → is_some (active_at u'.log x) ≡ is_some (active_at u.log x)
   pub size : length u'.log.terminals ≡ length u.log.terminals
   pub extents : u'.log.extents ≡ u.log.extents
+  pub layout : u'.log.layout ≡ u.log.layout
 
 -- the change that the write is of these rows has been recorded so
 abbrev pub HasRecorded : Write → Places → Places → UndoState → UndoState → ℕ → Type 0
@@ -61,11 +65,11 @@ HasRecorded w old new u u' t = IsSomeAnd (written w (rows old)) (λ c. IsRecorde
 
 -- the write's record fits the rest of the terminal's newest extent, or an extent is free
 abbrev pub HasRoomFor : Write → Rows → SegmentLog → ℕ → Type 0
-HasRoomFor w r u t = IsSomeAnd (record_of_write w r) (λ b. IsFull u t (record_length b) → ⊥)
+HasRoomFor w r u t = IsSomeAnd (record_of_write u.layout w r) (λ b. IsFull u t (record_length b) → ⊥)
 
 -- the write's record fits neither there nor in a free extent
 abbrev pub IsFullForWrite : Write → Rows → SegmentLog → ℕ → Type 0
-IsFullForWrite w r u t = IsSomeAnd (record_of_write w r) (λ b. IsFull u t (record_length b))
+IsFullForWrite w r u t = IsSomeAnd (record_of_write u.layout w r) (λ b. IsFull u t (record_length b))
 
 -- why a write is refused, by its first cause
 pub data CantWrite (w : Write) (s : Places) (u : SegmentLog) (t : ℕ) : Refusal → Type 0 where

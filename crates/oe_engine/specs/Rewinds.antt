@@ -17,6 +17,7 @@ uncounted v (c ∷ cs) =
           (record { count = count_at v c.terminal - 1; active = active_at v c.terminal });
       committed = cs;
       extents = v.extents;
+      layout = v.layout;
     }
 
 -- the newest n commits gone

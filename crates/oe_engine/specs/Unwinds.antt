@@ -18,6 +18,7 @@ pub record Unwinding (ts : tables.Places) (u : SegmentLog) (t : ℕ) (ts' : tabl
   pub counts : counts_of u' ≡ counts_of u
   pub size : length u'.terminals ≡ length u.terminals
   pub extents : u'.extents ≡ u.extents
+  pub layout : u'.layout ≡ u.layout
   pub places : GivesUpUnnamed ts ts' (undo_of u) (undo_of u')
   pub own : HavePlaces ts' ((undo_of u').active t)
 

@@ -1,5 +1,6 @@
 -- What an engine stands for, in the words of the theory of transactions.
 use Rattle.std.specs.Prelude.{◌≡◌, ℕ, Bool, true, false, List, [], Option, None, is_some, option_map}
+use Rattle.oe_rows.specs.declared.layouts.Layout.{Layout}
 use Rattle.oe_rows.specs.declared.locks.Name.{Name}
 use Rattle.oe_theory.specs.Machine as theory
 use Rattle.oe_theory.specs.Undo.{Undo, no_records}
@@ -16,7 +17,8 @@ use Rattle.oe_undo.specs.Links.{LinkMaps}
 use Rattle.oe_locks.specs.Held.{Holdings, held}
 
 -- the rows as they are, open work included; the undo records of open transactions and of commits; the commits, newest
--- first; the terminals' counts of commits; what each terminal holds; and which have a transaction open
+-- first; the terminals' counts of commits; what each terminal holds; which have a transaction open; and how many
+-- extents there are for records, and their layout
 pub record View : Type 0 where
   pub rows : Rows
   pub undo : Undo system
@@ -25,6 +27,7 @@ pub record View : Type 0 where
   pub held : ℕ → Name → Option theory.Mode
   pub is_open : ℕ → Bool
   pub extents : ℕ
+  pub layout : Layout
 
 -- what tables, an undo log and holdings of locks stand for together
 unfoldable pub view_from : tables.Places → undo.SegmentLog → Holdings → View
@@ -36,6 +39,7 @@ view_from ts u ls = record {
   held = λ t n. option_map mode_of (held ls t n);
   is_open = λ t. is_some (active_at u t);
   extents = u.extents;
+  layout = u.layout;
 }
 
 -- all that is stored
@@ -61,8 +65,8 @@ pub record IsOpen (s : EngineState) (x : Handle) : Type 0 where
   pub terminal : (view_of s).is_open x.terminal ≡ true
 
 -- an engine in which nothing has begun
-abbrev pub opened_view : Rows → ℕ → View
-opened_view r n = record {
+abbrev pub opened_view : Rows → ℕ → Layout → View
+opened_view r n l = record {
   rows = r;
   undo = no_records system;
   seals = [];
@@ -70,4 +74,5 @@ opened_view r n = record {
   held = λ _ _. None;
   is_open = λ _. false;
   extents = n;
+  layout = l;
 }

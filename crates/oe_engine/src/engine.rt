@@ -23,7 +23,7 @@ use crate::programs::Lock;
 use oe_locks::Locks;
 use oe_log::Segment;
 use oe_requests::{Column, Refusal, Reply, Request};
-use oe_rows::{Mode, Name};
+use oe_rows::{Layout, Mode, Name};
 use oe_store::Tables;
 use oe_undo::Undo;
 use oe_values::{ExtentCount, Moment, NoMemory, Terminal, TransactionNumber};
@@ -120,20 +120,22 @@ fn is_below(mode: Option<Mode>, held: Option<Mode>) -> bool
 }
 
 impl Engine {
-    /// Opens an engine on tables where nothing has begun or committed; its name tells its
-    /// transactions from other engines'. A key without a row has no place any more, and each key of
+    /// Opens an engine on tables where nothing has begun or committed, with undo records of that
+    /// layout; its name tells its transactions from other engines'. A key without a row has no place any more, and each key of
     /// the tables that are changed gets a place for its link. `NoMemory` where memory was refused.
     pub fn open(
         alloc: Global,
         mut tables: Tables,
         extents: ExtentCount,
+        layout: Layout,
         name: u32,
     ) -> Result<Engine, NoMemory>
-        ensures view { IfOk result (λ e. view_of e ≡ opened_view (rows tables) extents) }
+        ensures view { IfOk result
+            (λ e. view_of e ≡ opened_view (rows tables) extents layout) }
         ensures name { IfOk result (λ e. e.name ≡ name) }
     {
         tables.sweep();
-        let Ok((undo, locks)) = beside(alloc, &tables, extents) else {
+        let Ok((undo, locks)) = beside(alloc, &tables, extents, layout) else {
             tables.discard();
             return Err(NoMemory);
         };

@@ -8,7 +8,7 @@ ghost use Rattle.oe_locks.specs.Held.{IsIdle};
 ghost use Rattle.oe_engine.specs.Opened.{IsLinked, HasWaiting, IsCovered};
 
 use oe_locks::Locks;
-use oe_rows::{Key, Table};
+use oe_rows::{Key, Layout, Table};
 use oe_store::Tables;
 use oe_undo::{Undo, comes_with};
 use oe_values::{ExtentCount, NoMemory};
@@ -81,11 +81,16 @@ fn link_all(tables: &Tables, undo: &mut Undo) -> Result<(), NoMemory>
 
 // An undo log in which nothing has begun, beside tables: each key that has a place in one that is
 // changed has one for its link.
-fn linked_undo(alloc: Global, tables: &Tables, extents: ExtentCount) -> Result<Undo, NoMemory>
-    ensures log { IfOk result (λ u. u.log ≡ no_segments extents) }
+fn linked_undo(
+    alloc: Global,
+    tables: &Tables,
+    extents: ExtentCount,
+    layout: Layout,
+) -> Result<Undo, NoMemory>
+    ensures log { IfOk result (λ u. u.log ≡ no_segments extents layout) }
     ensures linked { IfOk result (λ u. AreLinked tables.now u.links) }
 {
-    let Ok(mut undo) = Undo::new(alloc, extents) else {
+    let Ok(mut undo) = Undo::new(alloc, extents, layout) else {
         return Err(NoMemory);
     };
     if let Err(refusal) = link_all(tables, &mut undo) {
@@ -102,15 +107,16 @@ pub(crate) fn beside(
     alloc: Global,
     tables: &Tables,
     extents: ExtentCount,
+    layout: Layout,
 ) -> Result<(Undo, Locks), NoMemory>
-    ensures log { IfOk result (λ p. p.0.log ≡ no_segments extents) }
+    ensures log { IfOk result (λ p. p.0.log ≡ no_segments extents layout) }
     ensures linked { IfOk result (λ p. AreLinked tables.now p.0.links) }
     ensures locks { IfOk result (λ p. IsIdle p.1) }
 {
     let Ok(locks) = Locks::new(alloc) else {
         return Err(NoMemory);
     };
-    match linked_undo(alloc, tables, extents) {
+    match linked_undo(alloc, tables, extents, layout) {
         Ok(undo) => Ok((undo, locks)),
         Err(refusal) => {
             locks.discard();

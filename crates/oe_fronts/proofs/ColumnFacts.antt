@@ -245,39 +245,37 @@ credit_law =
 -- ---- ten texts
 
 -- n elements from index i on
-cells : ℕ → ℕ → List (List ℕ) → List (List ℕ)
-cells i zero ds = []
-cells i (suc n) ds = get_or ds i [] ∷ cells (suc i) n ds
+unfoldable pub cells : {A : Type 0} → A → ℕ → ℕ → List A → List A
+cells d i zero xs = []
+cells d i (suc n) xs = get_or xs i d ∷ cells d (suc i) n xs
 
-cells-cons : (i n : ℕ) (d : List ℕ) (ds : List (List ℕ)) → cells (suc i) n (d ∷ ds) ≡ cells i n ds
+cells-cons : {A : Type 0} (d : A) (i n : ℕ) (x : A) (xs : List A) → cells d (suc i) n (x ∷ xs) ≡ cells d i n xs
 unfolding cells
-cells-cons i zero d ds = refl
-cells-cons i (suc n) d ds = ap (λ (r : List (List ℕ)). get_or ds i [] ∷ r) (cells-cons (suc i) n d ds)
+cells-cons d i zero x xs = refl
+cells-cons {A = A} d i (suc n) x xs = ap (λ (r : List A). get_or xs i d ∷ r) (cells-cons d (suc i) n x xs)
 
-cells-all : (n : ℕ) (ds : List (List ℕ)) → length ds ≡ n → cells 0 n ds ≡ ds
+pub cells-all : {A : Type 0} (d : A) (n : ℕ) (xs : List A) → length xs ≡ n → cells d 0 n xs ≡ xs
 unfolding cells
-cells-all zero [] e = refl
-cells-all zero (d ∷ ds) e = absurd (omega arith)
-cells-all (suc n) [] e = absurd (omega arith)
-cells-all (suc n) (d ∷ ds) e = ap (λ (r : List (List ℕ)). d ∷ r) (cells-cons 0 n d ds ∙ cells-all n ds (omega arith))
+cells-all d zero [] e = refl
+cells-all d zero (x ∷ xs) e = absurd (omega (arith, e))
+cells-all d (suc n) [] e = absurd (omega (arith, e))
+cells-all {A = A} d (suc n) (x ∷ xs) e =
+    ap (λ (r : List A). x ∷ r) (cells-cons d 0 n x xs ∙ cells-all d n xs (omega (arith, e)))
 
 -- ten texts of 24 bytes
 abbrev pub AreTen : List (List ℕ) → Type 0
 AreTen ds = (length ds ≡ 10) × All (IsText 24 24) ds
 
 -- each of ten elements
-all_ten : (P : List ℕ → Type 0) (a b c d e f g h i j : List ℕ) → P a → P b → P c → P d → P e → P f → P g → P h → P i
-    → P j
+pub all_ten : {A : Type 0} (P : A → Type 0) (a b c d e f g h i j : A) → P a → P b → P c → P d → P e → P f → P g → P h
+    → P i → P j
     → All P (a ∷ b ∷ c ∷ d ∷ e ∷ f ∷ g ∷ h ∷ i ∷ j ∷ [])
 all_ten P a b c d e f g h i j pa pb pc pd pe pf pg ph pi pj =
     All-cons P a (b ∷ c ∷ d ∷ e ∷ f ∷ g ∷ h ∷ i ∷ j ∷ []) pa
-    (All-cons P b (c ∷ d ∷ e ∷ f ∷ g ∷ h ∷ i ∷ j ∷ []) pb
-    (All-cons P c (d ∷ e ∷ f ∷ g ∷ h ∷ i ∷ j ∷ []) pc
-    (All-cons P d (e ∷ f ∷ g ∷ h ∷ i ∷ j ∷ []) pd
-    (All-cons P e (f ∷ g ∷ h ∷ i ∷ j ∷ []) pe
-    (All-cons P f (g ∷ h ∷ i ∷ j ∷ []) pf
-    (All-cons P g (h ∷ i ∷ j ∷ []) pg
-    (All-cons P h (i ∷ j ∷ []) ph (All-cons P i (j ∷ []) pi (All-cons P j ([]) pj (All-nil P))))))))))
+    (All-cons P b (c ∷ d ∷ e ∷ f ∷ g ∷ h ∷ i ∷ j ∷ []) pb (All-cons P c (d ∷ e ∷ f ∷ g ∷ h ∷ i ∷ j ∷ []) pc
+    (All-cons P d (e ∷ f ∷ g ∷ h ∷ i ∷ j ∷ []) pd (All-cons P e (f ∷ g ∷ h ∷ i ∷ j ∷ []) pe
+    (All-cons P f (g ∷ h ∷ i ∷ j ∷ []) pf (All-cons P g (h ∷ i ∷ j ∷ []) pg
+    (All-cons P h (i ∷ j ∷ []) ph (All-cons P i (j ∷ []) pi (All-cons P j [] pj (All-nil P))))))))))
 
 pub ten_texts_law : IsCodec AreTen ten_texts ten_texts_at
 unfolding ten_texts ten_texts_at cells
@@ -325,7 +323,7 @@ ten_texts_law =
           ),
         ),
       ),
-      cells-all 10 ds h.0,
+      cells-all [] 10 ds h.0,
     ))
     (λ p h. (
       (

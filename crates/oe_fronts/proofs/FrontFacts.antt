@@ -61,7 +61,7 @@ kept_some {X = X} test (Some x) y e =
     let g = choice_some (test x.0) x y e in
     (ap (λ (p : X × List ℕ). Some p) g.1, subst (λ (p : X × List ℕ). test p.0 ≡ true) g.1 g.0)
 
-seen_some : {X Y : Type 0} (f : X → Y) (r : Option (X × List ℕ)) (y : Y × List ℕ) → seen f r ≡ Some y
+pub seen_some : {X Y : Type 0} (f : X → Y) (r : Option (X × List ℕ)) (y : Y × List ℕ) → seen f r ≡ Some y
     → (x : X × List ℕ) × (r ≡ Some x) × (f x.0 ≡ y.0) × (x.1 ≡ y.1)
 seen_some f None y e = absurd cc
 seen_some {Y = Y} f (Some x) y e =

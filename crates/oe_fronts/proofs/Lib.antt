@@ -4,3 +4,5 @@ pub mod FrontFacts
 pub mod KeyFacts
 pub mod ColumnFacts
 pub mod RowFacts
+pub mod BeforeFacts
+pub mod BeforeRowFacts

@@ -15,6 +15,12 @@ use Rattle.oe_fronts.specs.KeyFronts.{new_order_key_at, order_key_at, order_line
 use Rattle.oe_image.specs.Rows.{warehouse, district, customer, history, order, order_line, item, stock}
 use Rattle.oe_fronts.specs.RowFronts.{warehouse_at, district_at, customer_at, history_at, order_at, order_line_at}
 use Rattle.oe_fronts.specs.RowFronts.{item_at, stock_at}
+use Rattle.oe_image.specs.Before.{warehouse_before, district_before, customer_before, order_before, order_line_before}
+use Rattle.oe_image.specs.Before.{stock_before}
+use Rattle.oe_fronts.specs.BeforeRanges.{IsWarehouseBefore, IsDistrictBefore, IsCustomerBefore, IsOrderBefore}
+use Rattle.oe_fronts.specs.BeforeRanges.{IsOrderLineBefore, IsStockBefore}
+use Rattle.oe_fronts.specs.BeforeFronts.{warehouse_before_at, district_before_at, customer_before_at, order_before_at}
+use Rattle.oe_fronts.specs.BeforeFronts.{order_line_before_at, stock_before_at}
 
 pub record Keys_are_read_exactly : Type 0 where
   pub warehouse_keys : IsExact IsWarehouseKey warehouse_key warehouse_key_at
@@ -36,3 +42,11 @@ pub record Rows_are_read_exactly : Type 0 where
   pub order_lines : IsExact IsOrderLine order_line order_line_at
   pub items : IsExact IsItem item item_at
   pub stocks : IsExact IsStock stock stock_at
+
+pub record Changed_columns_are_read_exactly : Type 0 where
+  pub warehouses : IsExact IsWarehouseBefore warehouse_before warehouse_before_at
+  pub districts : IsExact IsDistrictBefore district_before district_before_at
+  pub customers : IsExact IsCustomerBefore customer_before customer_before_at
+  pub orders : IsExact IsOrderBefore order_before order_before_at
+  pub order_lines : IsExact IsOrderLineBefore order_line_before order_line_before_at
+  pub stocks : IsExact IsStockBefore stock_before stock_before_at

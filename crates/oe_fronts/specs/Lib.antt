@@ -3,4 +3,6 @@ pub mod Fronts
 pub mod ColumnFronts
 pub mod KeyFronts
 pub mod RowFronts
+pub mod BeforeRanges
+pub mod BeforeFronts
 pub mod Laws

@@ -2,11 +2,13 @@
 //! stands there. Bytes that are no image are refused. No call takes memory.
 #![tactic(auto)]
 
+pub mod before;
 pub mod customers;
 mod fronts;
 pub mod items;
 pub mod keys;
 pub mod laws;
+mod masks;
 pub mod orders;
 pub mod rows;
 pub mod warehouses;

@@ -30,6 +30,7 @@ use crate::naming::Naming;
 use oe_core::Core;
 use oe_moments::{DealerSeat, DeskSeat, KeeperSeat, Moments, NotPinned, Pin, TooOld};
 use oe_requests::{Query, QueryReply, Refusal, Reply, Request};
+use oe_rows::Layout;
 use oe_store::Tables;
 use oe_values::{ExtentCount, Moment, NoMemory, Number, Terminal};
 use std::alloc::{AllocError, Global};
@@ -249,6 +250,7 @@ impl<J: Naming> Shop<J> {
         alloc: Global,
         tables: Tables,
         extents: ExtentCount,
+        layout: Layout,
         seats: Seats,
     ) -> Result<Shop<J>, NoMemory>
         requires population { IsPopulation (rows tables) }
@@ -256,7 +258,7 @@ impl<J: Naming> Shop<J> {
         ensures new { IfOk result (λ s. (s.name ≡ seats.shop) × (s.given ≡ 0)) }
         ensures free { IfOk result (λ s. (t : ℕ) → seat_for s t ≢ Some None) }
     {
-        let core = Core::open(alloc, tables, extents)?;
+        let core = Core::open(alloc, tables, extents, layout)?;
         Ok(Shop::over(core, seats))
     }
 

@@ -13,7 +13,7 @@ use oe_core::Core;
 use oe_hall::{Counted, Desk, Naming, NotQuiet, Seats, Shop};
 use oe_model::populations::population_is_one;
 use oe_population::populate;
-use oe_rows::Scale;
+use oe_rows::{Layout, Scale};
 use oe_store::Tables;
 use oe_values::{Number, Terminal};
 use std::alloc::Global;
@@ -60,7 +60,7 @@ fn populated(rt: &impl Abort, alloc: Global) -> Tables
 // Opens a core on that population.
 fn core_on(rt: &impl Abort, alloc: Global, extents: u32) -> Core {
     let extents = Number::new(extents).expect(rt, "extents");
-    match Core::open(alloc, populated(rt, alloc), extents) {
+    match Core::open(alloc, populated(rt, alloc), extents, Layout::WholeRows) {
         Ok(core) => core,
         Err(_) => panic!(rt; "no memory"),
     }
@@ -78,7 +78,13 @@ pub(crate) fn opened<J: Naming>(
     ensures free { (t : ℕ) → seat_for result t ≢ Some None }
 {
     let extents = Number::new(extents).expect(rt, "extents");
-    match Shop::open(alloc, populated(rt, alloc), extents, seats) {
+    match Shop::open(
+        alloc,
+        populated(rt, alloc),
+        extents,
+        Layout::WholeRows,
+        seats,
+    ) {
         Ok(shop) => shop,
         Err(_) => panic!(rt; "no memory"),
     }

@@ -231,11 +231,11 @@ takes_more (suc n) w i x w' h (mid, more, t) = takes_more n mid i x w'
 
 was_more : (s : State) (line : List ℕ) (d : Deed) (s' : State) → HasMoreSo s → Was s line d s' → HasMoreSo s'
 was_more s line No_form s' l (bad, same) = subst HasMoreSo (sym same) l
-was_more None line (Opening text) s' l (scale, extents, asks, inl (r, p, e, same)) =
+was_more None line (Opening text) s' l (scale, ring, asks, inl (r, p, e, same)) =
     subst HasMoreSo (sym same)
-    (opened_reached scale extents r asks.says.form.0 p, population_has_more scale r asks.says.form.0 p)
-was_more None line (Opening text) s' l (scale, extents, asks, inr (e, same)) = subst HasMoreSo (sym same) tt
-was_more (Some w) line (Opening text) s' l (scale, extents, asks, a) = absurd a
+    (opened_reached scale ring r asks.says.form.0 p, population_has_more scale r asks.says.form.0 p)
+was_more None line (Opening text) s' l (scale, ring, asks, inr (e, same)) = subst HasMoreSo (sym same) tt
+was_more (Some w) line (Opening text) s' l (scale, ring, asks, a) = absurd a
 was_more None line (Shown text) s' l (b, asks, a) = absurd a
 was_more (Some w) line (Shown text) s' l (b, asks, (e, same)) = subst HasMoreSo (sym same) l
 was_more None line (Steps n i x) s' l h = absurd h

@@ -202,7 +202,8 @@ module _ (M : Machine) (L : Laws M) where
       let k = still_open w t u o (Some (begun M w u q)) ne l in
       stands refl o k (accepted w s t o o l _ _ _ h (begins u q b) refl k)
   beside w s t o l _ _ _ h (goes_on u p c q e g r room) =
-      let k = still_open w t u o (Some (moved M p (ask (tx_of M u p) p.now.position (tables M w)) c q (tables M w)))
+      let k = still_open w t u o
+      (Some (moved M w.layout p (ask (tx_of M u p) p.now.position (tables M w)) c q (tables M w)))
       (λ z. h (ap Some z)) l in
       stands refl o k (accepted w s t o o l _ _ _ h (goes_on u p c q e g r room) refl k)
   beside w s t o l _ _ _ h (commits u p reply e g r) =
@@ -355,7 +356,7 @@ module _ (M : Machine) (L : Laws M) where
       → (i : Step M) (a : Answer M) (v : World M) → works_on M i ≡ Some t → Next M w i a v → Own w t a v
   own w s t o l _ _ _ h (begins u q b) = absurd (some_none t (sym h))
   own w s t o l _ _ _ h (goes_on u p c q e g r room) =
-      let p' = moved M p (ask (tx_of M u p) p.now.position (tables M w)) c q (tables M w) in
+      let p' = moved M w.layout p (ask (tx_of M u p) p.now.position (tables M w)) c q (tables M w) in
       went_on refl p' (own_place w t u p' h)
       (keeps w s t o p' l _ _ _ h (goes_on u p c q e g r room) refl refl (own_place w t u p' h))
   own w s t o l _ _ _ h (commits u p reply e g r) = was_committed refl refl

@@ -35,7 +35,7 @@ takes_run (suc n) w t x w' (mid, more, r) = let rest = takes_run n mid t x w' r 
 
 pub deed_of : (s : State) (line : List ℕ) (c : Command) (text : List ℕ) (s' : State) → Asks s line c
     → Answers s c text s' → IsDeed s line text s'
-deed_of None line (command.Open scale extents) text s' asks a = (Opening text, (scale, extents, asks, a), λ n. refl)
+deed_of None line (command.Open scale ring) text s' asks a = (Opening text, (scale, ring, asks, a), λ n. refl)
 deed_of None line (command.Begin t q) text s' asks a = absurd a
 deed_of None line (command.Next t) text s' asks a = absurd a
 deed_of None line (command.Run t) text s' asks a = absurd a
@@ -47,7 +47,7 @@ deed_of None line (command.Audit c m) text s' asks a = absurd a
 deed_of None line (command.Read m q) text s' asks a = absurd a
 deed_of None line (command.Purge m) text s' asks a = absurd a
 deed_of None line (command.Rewind m) text s' asks a = absurd a
-deed_of (Some w) line (command.Open scale extents) text s' asks a = absurd a
+deed_of (Some w) line (command.Open scale ring) text s' asks a = absurd a
 deed_of (Some w) line (command.Begin t q) text s' asks a = single w line (command.Begin t q) _ text s' asks refl
     (λ x. refl) a
 deed_of (Some w) line (command.Next t) text s' asks a = single w line (command.Next t) _ text s' asks refl (λ x. refl) a
@@ -104,7 +104,7 @@ run_taken (suc n) w t x w' ne (mid, more, h) = (mid, more, run_taken n mid t x w
 answers_of : (w : World system) (c : Command) (i : Step) (n : ℕ) (x : Answer) (w' : World system) (s : State)
     → step_of w c ≡ Some i → IsUpTo c n x → Takes n w i x w' → s ≡ Some w'
     → Answers (Some w) c (told i x) s
-answers_of w (command.Open scale extents) i n x w' s e z h same = let none : ⊥ = cc in absurd none
+answers_of w (command.Open scale ring) i n x w' s e z h same = let none : ⊥ = cc in absurd none
 answers_of w (command.Begin t q) i n x w' s e z h same = alone w _ i n x w' s e z h same
 answers_of w (command.Next t) i n x w' s e z h same = alone w _ i n x w' s e z h same
 answers_of w (command.Run t) i n x w' s e ne h same =
@@ -129,7 +129,7 @@ answers_of w (command.Rewind m) i n x w' s e z h same = alone w _ i n x w' s e z
 pub line_back : (s : State) (n : ℕ) (line : List ℕ) (d : Deed) (s' : State) → Was s line d s'
     → LineAnswer s n line (text_of n d) s'
 line_back s n line No_form s' (bad, same) = inr (bad, refl, same)
-line_back s n line (Opening text) s' (scale, extents, asks, a) = inl (command.Open scale extents, asks, a)
+line_back s n line (Opening text) s' (scale, ring, asks, a) = inl (command.Open scale ring, asks, a)
 line_back s n line (Shown text) s' (b, asks, a) = inl (command.Show b, asks, a)
 line_back None n line (Steps k i x) s' h = absurd h
 line_back (Some w) n line (Steps k i x) s' (c, w', asks, e, z, h, same) =

@@ -12,6 +12,7 @@ use Rattle.oe_theory.specs.Next.{number_is_rejected, query_is_rejected, misses, 
 use Rattle.oe_theory.specs.Next.{lacks_memory_at_begin, lacks_memory}
 use Rattle.oe_theory.specs.Theorems.{IsReached, opened}
 use Rattle.oe_theory.proofs.Theorems.{opening_is_reached, run_is_reached, history_is_serial, purge_leaves_later}
+use Rattle.oe_rows.specs.declared.layouts.Layout.{Layout}
 use Rattle.oe_model.specs.Rows.{Rows}
 use Rattle.oe_model.specs.System.{system}
 use Rattle.oe_model.proofs.SystemLaws.{laws}
@@ -100,8 +101,8 @@ record HasPast (b : Rows) (w : World system) : Type 0 where
   left : Leaves (λ _. 0) b past w.base
   counts : w.counts ≡ counts_after system (λ _. 0) past
 
-begins_so : (b : Rows) (n : ℕ) → HasPast b (opened system b n)
-begins_so b n = record { past = []; number = sym (total_none system.terminal_limit); left = refl; counts = refl }
+begins_so : (b : Rows) (n : ℕ) (l : Layout) → HasPast b (opened system b n l)
+begins_so b n l = record { past = []; number = sym (total_none system.terminal_limit); left = refl; counts = refl }
 
 -- a moment's commits, those that were forgotten too
 module _ (b : Rows) (w : World system) (p : HasPast b w) (made : IsReached system w) (m : ℕ) (l : horizon system w ≤ m)
@@ -175,7 +176,7 @@ run_past b w v (i ∷ is) (a ∷ ys) p made (mid, n, rest) =
 pub version_at : (w : World system) (m : ℕ) (made : IsReached system w) → horizon system w ≤ m → m ≤ newest system w
     → IsVersion made.base w m (at system w m)
 version_at w m made l u =
-    let first = opening_is_reached system laws made.base made.extents made.good in
+    let first = opening_is_reached system laws made.base made.extents made.layout made.good in
     is_version made.base w
-    (run_past made.base (opened system made.base made.extents) w made.steps made.answers
-    (begins_so made.base made.extents) first made.run) made m l u
+    (run_past made.base (opened system made.base made.extents made.layout) w made.steps made.answers
+    (begins_so made.base made.extents made.layout) first made.run) made m l u

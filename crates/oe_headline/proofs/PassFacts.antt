@@ -16,6 +16,8 @@ use Rattle.oe_model.proofs.SystemLaws.{laws, population_is_good}
 use Rattle.oe_requests.specs.declared.answers.Answer.{Answer}
 use Rattle.oe_requests.specs.declared.answers.Answer.TheVariants as answer
 use Rattle.oe_requests.specs.declared.steps.Step.{Step}
+use Rattle.oe_lines.specs.declared.commands.RingChoice.{RingChoice}
+use Rattle.oe_lines.specs.Rings.{layout_of}
 use Rattle.oe_lines.specs.Grammar.{Says}
 use Rattle.oe_lines.specs.declared.commands.Command.TheVariants as command
 use Rattle.oe_core.specs.Steps.{step_in, answer_in}
@@ -51,18 +53,18 @@ takes_reached zero w i x w' r h = next_reached w w' (step_in i) (answer_in i x) 
 takes_reached (suc n) w i x w' r (mid, more, h) = takes_reached n mid i x w'
     (next_reached w mid (step_in i) (answer_in i answer.More) r more) h
 
-pub opened_reached : (scale : Scale) (extents : ℕ) (r : Rows) → IsScale scale → IsPopulated scale r
-    → IsReached system (opened system r extents)
-opened_reached scale extents r h p = opening_is_reached system laws r extents
+pub opened_reached : (scale : Scale) (ring : RingChoice) (r : Rows) → IsScale scale → IsPopulated scale r
+    → IsReached system (opened system r ring.extents (layout_of ring))
+opened_reached scale ring r h p = opening_is_reached system laws r ring.extents (layout_of ring)
     (population_is_good r (population_is_one.is_population scale r h p))
 
 pub was_reached : (s : State) (line : List ℕ) (d : Deed) (s' : State) → IsReachedState s → Was s line d s'
     → IsReachedState s'
 was_reached s line No_form s' l (bad, same) = subst IsReachedState (sym same) l
-was_reached None line (Opening text) s' l (scale, extents, asks, inl (r, p, e, same)) =
-    subst IsReachedState (sym same) (opened_reached scale extents r asks.says.form.0 p)
-was_reached None line (Opening text) s' l (scale, extents, asks, inr (e, same)) = subst IsReachedState (sym same) tt
-was_reached (Some w) line (Opening text) s' l (scale, extents, asks, a) = absurd a
+was_reached None line (Opening text) s' l (scale, ring, asks, inl (r, p, e, same)) =
+    subst IsReachedState (sym same) (opened_reached scale ring r asks.says.form.0 p)
+was_reached None line (Opening text) s' l (scale, ring, asks, inr (e, same)) = subst IsReachedState (sym same) tt
+was_reached (Some w) line (Opening text) s' l (scale, ring, asks, a) = absurd a
 was_reached None line (Shown text) s' l (b, asks, a) = absurd a
 was_reached (Some w) line (Shown text) s' l (b, asks, (e, same)) = subst IsReachedState (sym same) l
 was_reached None line (Steps n i x) s' l h = absurd h
@@ -151,7 +153,7 @@ served w (Some u) (e ∷ es) s z (mid, was, rest) = go e.deed was (λ v same. se
         → ((v : World system) → mid ≡ Some v → IsServed v (steps_of es) (answers_of es) s)
         → IsServed w (steps_in_deed d ++ steps_of es) (answers_in_deed d ++ answers_of es) s
     go No_form (bad, same) more = more w (same ∙ z)
-    go (Opening text) (scale, extents, asks, a) more = absurd a
+    go (Opening text) (scale, ring, asks, a) more = absurd a
     go (Shown text) (b, asks, (e, same)) more = more w (same ∙ z)
     go (Steps n i x) (c, w', asks, e, k, h, same) more =
         let here : u ≡ w = some_inj u w z in
@@ -175,7 +177,7 @@ earlier e es mid w was closed r =
       after = r.after;
       lines = ap (λ z. e ∷ z) r.lines;
       scale = r.scale;
-      extents = r.extents;
+      ring = r.ring;
       rows = r.rows;
       says = r.says;
       populated = r.populated;
@@ -183,12 +185,14 @@ earlier e es mid w was closed r =
       ran = r.ran;
     }
 
-opened_here : (e : Entry) (es : List Entry) (mid : State) (w : World system) (scale : Scale) (extents : ℕ) (rows : Rows)
-    → Says e.line (command.Open scale extents)
-    → IsPopulated scale rows → mid ≡ Some (opened system rows extents) → Passed mid es (Some w) → IsOneRun (e ∷ es) w
-opened_here e es mid w scale extents rows says populated same p =
-    let r = opened_reached scale extents rows says.form.0 populated in
-    let (v, is, ran) = from_world (opened system rows extents) es (Some w) r
+opened_here : (e : Entry) (es : List Entry) (mid : State) (w : World system) (scale : Scale) (ring : RingChoice)
+    (rows : Rows)
+    → Says e.line (command.Open scale ring)
+    → IsPopulated scale rows → mid ≡ Some (opened system rows ring.extents (layout_of ring)) → Passed mid es (Some w)
+    → IsOneRun (e ∷ es) w
+opened_here e es mid w scale ring rows says populated same p =
+    let r = opened_reached scale ring rows says.form.0 populated in
+    let (v, is, ran) = from_world (opened system rows ring.extents (layout_of ring)) es (Some w) r
     (subst (λ (z : State). Passed z es (Some w)) same p) in
     record {
       before = [];
@@ -196,12 +200,13 @@ opened_here e es mid w scale extents rows says populated same p =
       after = es;
       lines = refl;
       scale = scale;
-      extents = extents;
+      ring = ring;
       rows = rows;
       says = says;
       populated = populated;
       closed = refl;
-      ran = subst (λ (z : World system). Ran (opened system rows extents) (steps_of es) (answers_of es) z)
+      ran = subst
+          (λ (z : World system). Ran (opened system rows ring.extents (layout_of ring)) (steps_of es) (answers_of es) z)
           (sym (some_inj w v is)) ran;
     }
 
@@ -212,9 +217,9 @@ from_start (e ∷ es) w (mid, was, rest) = go e.deed was
   where
     go : (d : Deed) → Was None e.line d mid → (mid ≡ None → IsOneRun (e ∷ es) w) → IsOneRun (e ∷ es) w
     go No_form (bad, same) f = f same
-    go (Opening text) (scale, extents, asks, inl (rows, populated, t, same)) f =
-        opened_here e es mid w scale extents rows asks.says populated same rest
-    go (Opening text) (scale, extents, asks, inr (t, same)) f = f same
+    go (Opening text) (scale, ring, asks, inl (rows, populated, t, same)) f =
+        opened_here e es mid w scale ring rows asks.says populated same rest
+    go (Opening text) (scale, ring, asks, inr (t, same)) f = f same
     go (Shown text) (b, asks, a) f = absurd a
     go (Steps n i x) h f = absurd h
 

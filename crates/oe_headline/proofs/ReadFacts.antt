@@ -19,6 +19,7 @@ use Rattle.oe_requests.specs.declared.answers.Answer.{Answer}
 use Rattle.oe_requests.specs.declared.answers.Answer.TheVariants as answer
 use Rattle.oe_requests.specs.declared.steps.Step.TheVariants as step
 use Rattle.oe_texts.specs.Answer.{answer_line}
+use Rattle.oe_lines.specs.Rings.{layout_of}
 use Rattle.oe_lines.specs.declared.commands.Command.{Command}
 use Rattle.oe_lines.specs.declared.commands.Command.TheVariants as command
 use Rattle.oe_lines.specs.declared.commands.MomentChoice.{MomentChoice}
@@ -149,7 +150,8 @@ of_world w made n line text s m q asks (inl (d, other, a)) =
 abbrev from_population : (es : List Entry) (w : World system) → IsOneRun es w → IsReached system w
 from_population es w r = record {
   base = r.rows;
-  extents = r.extents;
+  extents = r.ring.extents;
+  layout = layout_of r.ring;
   good = population_is_good r.rows (population_is_one.is_population r.scale r.rows r.says.form.0 r.populated);
   steps = steps_in (steps_of r.after);
   answers = answers_in (steps_of r.after) (answers_of r.after);

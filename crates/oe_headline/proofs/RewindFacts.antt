@@ -16,6 +16,7 @@ use Rattle.oe_requests.specs.declared.answers.Answer.TheVariants as answer
 use Rattle.oe_requests.specs.declared.steps.Step.{Step}
 use Rattle.oe_requests.specs.declared.steps.Step.TheVariants as step
 use Rattle.oe_model.specs.System.{system}
+use Rattle.oe_lines.specs.Rings.{layout_of}
 use Rattle.oe_model.proofs.SystemLaws.{laws}
 use Rattle.oe_texts.specs.Answer.{answer_line}
 use Rattle.oe_lines.specs.declared.commands.Command.{Command}
@@ -50,7 +51,9 @@ unpurged w v (i ∷ is) (x ∷ ys) (good, (mid, next, ends, past, rest)) h =
 of_population : (es : List Entry) (w : World system) (r : IsOneRun es w) → AreUnpurged (answers_of r.after)
     → (w.base ≡ r.rows) × (horizon system w ≡ 0)
 of_population es w r h =
-    let same = unpurged (opened system r.rows r.extents) w (steps_of r.after) (answers_of r.after) r.ran.whole h in
+    let same = unpurged (opened system r.rows r.ring.extents (layout_of r.ring)) w (steps_of r.after)
+    (answers_of r.after) r.ran.whole h
+    in
     (same.0, ap (total system.terminal_limit) same.1 ∙ total_none system.terminal_limit)
 
 -- WHAT A REWIND IS ANSWERED

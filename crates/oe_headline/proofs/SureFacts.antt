@@ -18,6 +18,8 @@ use Rattle.oe_requests.specs.declared.answers.Answer.{Answer}
 use Rattle.oe_requests.specs.declared.answers.Answer.TheVariants as answer
 use Rattle.oe_requests.specs.declared.steps.Step.{Step}
 use Rattle.oe_texts.specs.Answer.{answer_line}
+use Rattle.oe_lines.specs.declared.commands.RingChoice.{RingChoice}
+use Rattle.oe_lines.specs.Rings.{layout_of}
 use Rattle.oe_lines.specs.declared.commands.Command.{Command}
 use Rattle.oe_lines.specs.declared.commands.Command.TheVariants as command
 use Rattle.oe_lines.specs.declared.commands.Display.{Display}
@@ -67,7 +69,7 @@ takes_once (suc n) (suc m) w i x y v v' (mid, more, h) (other, again, k) (inr z)
     (ap suc a, b, c)
 
 up_to : (c : Command) (n m : ℕ) (x y : Answer) → IsUpTo c n x → IsUpTo c m y → AreUpTo n x m y
-up_to (command.Open scale extents) n m x y p q = inl (p, q)
+up_to (command.Open scale ring) n m x y p q = inl (p, q)
 up_to (command.Begin t r) n m x y p q = inl (p, q)
 up_to (command.Next t) n m x y p q = inl (p, q)
 up_to (command.Run t) n m x y p q = inr (p, q)
@@ -96,37 +98,37 @@ steps_once w line n m i j x y s₁ s₂ (c, v, asks, e, up, h, same) (d, v', oth
     let (a, b, g) = takes_once n m w i x y v v' h (subst (λ (z : Step). Takes m w z y v') step k) ends p q in
     (ap (λ z. Steps z i x) a ∙ (ap (λ z. Steps m z x) (sym step) ∙ ap (Steps m j) b), same ∙ (ap Some g ∙ sym is))
 
-opens_once : (scale : Scale) (extents : ℕ) (t t' : List ℕ) (s₁ s₂ : State) → Opens scale extents t s₁
-    → Opens scale extents t' s₂
+opens_once : (scale : Scale) (ring : RingChoice) (t t' : List ℕ) (s₁ s₂ : State) → Opens scale ring t s₁
+    → Opens scale ring t' s₂
     → t ≢ answer_line (answer.Refused refusal.NoMemory) → t' ≢ answer_line (answer.Refused refusal.NoMemory)
     → AreOne (Opening t) s₁ (Opening t') s₂
-opens_once scale extents t t' s₁ s₂ (inl (r, p, e, same)) (inl (r', p', e', same')) a b =
+opens_once scale ring t t' s₁ s₂ (inl (r, p, e, same)) (inl (r', p', e', same')) a b =
     let one : r ≡ r' = same_rows r r' (λ k. p k ∙ sym (p' k)) in
-    (ap Opening (e ∙ sym e'), same ∙ (ap (λ z. Some (opened system z extents)) one ∙ sym same'))
-opens_once scale extents t t' s₁ s₂ (inl h) (inr (e, same)) a b = absurd (b e)
-opens_once scale extents t t' s₁ s₂ (inr (e, same)) h a b = absurd (a e)
+    (ap Opening (e ∙ sym e'), same ∙ (ap (λ z. Some (opened system z ring.extents (layout_of ring))) one ∙ sym same'))
+opens_once scale ring t t' s₁ s₂ (inl h) (inr (e, same)) a b = absurd (b e)
+opens_once scale ring t t' s₁ s₂ (inr (e, same)) h a b = absurd (a e)
 
 was_once : (s : State) (line : List ℕ) (d f : Deed) (s₁ s₂ : State) → Was s line d s₁ → Was s line f s₂ → HasMemory d
     → HasMemory f → AreOne d s₁ f s₂
 was_once s line No_form No_form s₁ s₂ (bad, e) (bad', e') p q = (refl, e ∙ sym e')
-was_once s line No_form (Opening t) s₁ s₂ (bad, e) (scale, extents, asks, a) p q =
-    absurd (bad (command.Open scale extents) asks)
+was_once s line No_form (Opening t) s₁ s₂ (bad, e) (scale, ring, asks, a) p q =
+    absurd (bad (command.Open scale ring) asks)
 was_once s line No_form (Shown t) s₁ s₂ (bad, e) (b, asks, a) p q = absurd (bad (command.Show b) asks)
 was_once None line No_form (Steps n i x) s₁ s₂ (bad, e) h p q = absurd h
 was_once (Some w) line No_form (Steps n i x) s₁ s₂ (bad, e) (c, v, asks, is, up, h, same) p q = absurd (bad c asks)
-was_once s line (Opening t) No_form s₁ s₂ (scale, extents, asks, a) (bad, e) p q =
-    absurd (bad (command.Open scale extents) asks)
-was_once None line (Opening t) (Opening t') s₁ s₂ (scale, extents, asks, a) (scale', extents', asks', a') p q =
-    let one : command.Open scale' extents' ≡ command.Open scale extents = one_command line _ _ asks'.says asks.says in
-    opens_once scale extents t t' s₁ s₂ a (subst (λ (c : Command). Answers None c t' s₂) one a') p q
-was_once (Some w) line (Opening t) (Opening t') s₁ s₂ (scale, extents, asks, a) h p q = absurd a
+was_once s line (Opening t) No_form s₁ s₂ (scale, ring, asks, a) (bad, e) p q =
+    absurd (bad (command.Open scale ring) asks)
+was_once None line (Opening t) (Opening t') s₁ s₂ (scale, ring, asks, a) (scale', ring', asks', a') p q =
+    let one : command.Open scale' ring' ≡ command.Open scale ring = one_command line _ _ asks'.says asks.says in
+    opens_once scale ring t t' s₁ s₂ a (subst (λ (c : Command). Answers None c t' s₂) one a') p q
+was_once (Some w) line (Opening t) (Opening t') s₁ s₂ (scale, ring, asks, a) h p q = absurd a
 was_once None line (Opening t) (Shown t') s₁ s₂ h (b, asks, a) p q = absurd a
-was_once (Some w) line (Opening t) (Shown t') s₁ s₂ (scale, extents, asks, a) h p q = absurd a
+was_once (Some w) line (Opening t) (Shown t') s₁ s₂ (scale, ring, asks, a) h p q = absurd a
 was_once None line (Opening t) (Steps n i x) s₁ s₂ h k p q = absurd k
-was_once (Some w) line (Opening t) (Steps n i x) s₁ s₂ (scale, extents, asks, a) k p q = absurd a
+was_once (Some w) line (Opening t) (Steps n i x) s₁ s₂ (scale, ring, asks, a) k p q = absurd a
 was_once s line (Shown t) No_form s₁ s₂ (b, asks, a) (bad, e) p q = absurd (bad (command.Show b) asks)
 was_once None line (Shown t) (Opening t') s₁ s₂ (b, asks, a) h p q = absurd a
-was_once (Some w) line (Shown t) (Opening t') s₁ s₂ h (scale, extents, asks, a) p q = absurd a
+was_once (Some w) line (Shown t) (Opening t') s₁ s₂ h (scale, ring, asks, a) p q = absurd a
 was_once None line (Shown t) (Shown t') s₁ s₂ (b, asks, a) h p q = absurd a
 was_once (Some w) line (Shown t) (Shown t') s₁ s₂ (b, asks, (e, same)) (b', asks', (e', same')) p q =
     let one : command.Show b ≡ command.Show b' = one_command line _ _ asks.says asks'.says in
@@ -139,7 +141,7 @@ was_once (Some w) line (Shown t) (Steps n i x) s₁ s₂ (b, asks, a) (c, v, oth
     cc
 was_once None line (Steps n i x) f s₁ s₂ h k p q = absurd h
 was_once (Some w) line (Steps n i x) No_form s₁ s₂ (c, v, asks, is, up, h, same) (bad, e) p q = absurd (bad c asks)
-was_once (Some w) line (Steps n i x) (Opening t) s₁ s₂ h (scale, extents, asks, a) p q = absurd a
+was_once (Some w) line (Steps n i x) (Opening t) s₁ s₂ h (scale, ring, asks, a) p q = absurd a
 was_once (Some w) line (Steps n i x) (Shown t) s₁ s₂ (c, v, other, e, up, h, same) (b, asks, a) p q =
     let one : c ≡ command.Show b = one_command line _ _ other.says asks.says in
     let none : ◌≡◌ {A = Option Step} None (Some i) = ap (step_of w) (sym one) ∙ e in

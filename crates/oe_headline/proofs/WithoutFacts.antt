@@ -85,7 +85,7 @@ next_in_line t h =
 -- WHAT LINES ASK FOR IN ANOTHER WORLD
 
 allowed_any : (w v : World system) (c : Command) → IsAllowed (Some w) c → IsAllowed (Some v) c
-allowed_any w v (command.Open scale extents) h = h
+allowed_any w v (command.Open scale ring) h = h
 allowed_any w v (command.Begin t q) h = h
 allowed_any w v (command.Next t) h = h
 allowed_any w v (command.Run t) h = h
@@ -106,7 +106,7 @@ same_moment w t moment.Now = refl
 same_moment w t (moment.At m) = refl
 
 same_step : (w : World system) (t : ℕ) (c : Command) → step_of w c ≡ step_of (without_open system t w) c
-same_step w t (command.Open scale extents) = refl
+same_step w t (command.Open scale ring) = refl
 same_step w t (command.Begin u q) = refl
 same_step w t (command.Next u) = refl
 same_step w t (command.Run u) = refl
@@ -223,7 +223,7 @@ nothing_before (suc n) w v i x z k = absurd (omega (arith, z))
 done_before : (u : World system) (c : Command) (line : List ℕ) (n : ℕ) (i : Step) (x : Answer) (w v : World system)
     → Asks (Some u) line c → step_of u c ≡ Some i → IsUpTo c n x → Mores n w i v
     → IsBefore w (Steps n i x) v
-done_before u (command.Open scale extents) line n i x w v a e z k = absurd a.allowed
+done_before u (command.Open scale ring) line n i x w v a e z k = absurd a.allowed
 done_before u (command.Begin t q) line n i x w v a e z k = nothing_before n w v i x z k
 done_before u (command.Next t) line n i x w v a e z k = nothing_before n w v i x z k
 done_before u (command.Run t) line n i x w v a e z k =
@@ -368,7 +368,7 @@ module _ (t : ℕ) (w : World system) (o : Open system) (r : IsReached system w)
   line_here : (d : Deed) → Was (Some w) line d mid → is_rolled_back t (record { line = line; deed = d } ∷ es) ≡ true
       → IsLeft t w (record { line = line; deed = d } ∷ es) s
   line_here No_form (bad, same) h = bad_here bad same h
-  line_here (Opening text) (scale, extents, asks, a) h = absurd a
+  line_here (Opening text) (scale, ring, asks, a) h = absurd a
   line_here (Shown text) was h = shown_here text was h
   line_here (Steps n i x) (c, w', asks, e, up, takes, same) h = step_here n i x c w' asks e up takes same
       (is_of system t (step_in i)) refl h

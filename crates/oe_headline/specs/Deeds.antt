@@ -8,6 +8,7 @@ use Rattle.oe_requests.specs.declared.answers.Answer.{Answer}
 use Rattle.oe_requests.specs.declared.answers.Answer.TheVariants as answer
 use Rattle.oe_requests.specs.declared.steps.Step.{Step}
 use Rattle.oe_requests.specs.declared.steps.Step.TheVariants as step
+use Rattle.oe_lines.specs.declared.commands.RingChoice.{RingChoice}
 use Rattle.oe_lines.specs.declared.commands.Command.{Command}
 use Rattle.oe_lines.specs.declared.commands.Command.TheVariants as command
 use Rattle.oe_lines.specs.declared.commands.Display.{Display}
@@ -30,7 +31,7 @@ pub record Entry : Type 0 where
 
 -- the step that a command asks for; an opening and what is only shown are none
 abbrev pub step_of : World system → Command → Option Step
-step_of w (command.Open scale extents) = None
+step_of w (command.Open scale ring) = None
 step_of w (command.Begin t q) = Some (step.Begin t q)
 step_of w (command.Next t) = Some (step.Advance t)
 step_of w (command.Run t) = Some (step.Advance t)
@@ -64,8 +65,8 @@ Stepped (Some w) line n i x s =
 -- in this state the line was this deed, and left that state
 abbrev pub Was : State → List ℕ → Deed → State → Type 0
 Was s line No_form s' = ((c : Command) → Asks s line c → ⊥) × (s' ≡ s)
-Was s line (Opening text) s' = (scale : Scale) × (extents : ℕ) × Asks s line (command.Open scale extents)
-    × Answers s (command.Open scale extents) text s'
+Was s line (Opening text) s' = (scale : Scale) × (ring : RingChoice) × Asks s line (command.Open scale ring)
+    × Answers s (command.Open scale ring) text s'
 Was s line (Shown text) s' = (b : Display) × Asks s line (command.Show b) × Answers s (command.Show b) text s'
 Was s line (Steps n i x) s' = Stepped s line n i x s'
 

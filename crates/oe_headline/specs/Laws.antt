@@ -25,6 +25,8 @@ use Rattle.oe_model.specs.Rows.{Rows}
 use Rattle.oe_model.specs.Queries.{answer_of}
 use Rattle.oe_model.specs.Requests.{query_rejection}
 use Rattle.oe_model.specs.System.{system}
+use Rattle.oe_lines.specs.declared.commands.RingChoice.{RingChoice}
+use Rattle.oe_lines.specs.Rings.{layout_of}
 use Rattle.oe_lines.specs.Grammar.{Says}
 use Rattle.oe_lines.specs.declared.commands.Command.TheVariants as command
 use Rattle.oe_lines.specs.declared.commands.MomentChoice.{MomentChoice}
@@ -157,12 +159,12 @@ pub record IsOneRun (es : List Entry) (w : World system) : Type 0 where
   pub after : List Entry
   pub lines : es ≡ before ++ opening ∷ after
   pub scale : Scale
-  pub extents : ℕ
+  pub ring : RingChoice
   pub rows : Rows
-  pub says : Says opening.line (command.Open scale extents)
+  pub says : Says opening.line (command.Open scale ring)
   pub populated : IsPopulated scale rows
   pub closed : Passed None before None
-  pub ran : Ran (opened system rows extents) (steps_of after) (answers_of after) w
+  pub ran : Ran (opened system rows ring.extents (layout_of ring)) (steps_of after) (answers_of after) w
 
 pub record Scripts_are_runs : Type 0 where
   -- of a whole script

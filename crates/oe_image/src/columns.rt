@@ -2,12 +2,14 @@
 //! offset, so that no buffer lies between.
 ghost use Rattle.std.specs.Prelude.{◌≡◌, ◌≤◌, ◌+◌, ◌++◌, ℕ, List, length};
 ghost use Rattle.oe_extent.specs.Images.{Writes, number};
-ghost use Rattle.oe_image.specs.Columns.{text, optional, flag, credit};
+ghost use Rattle.oe_image.specs.Columns.{text, optional, flag, balance, credit};
 
 use oe_extent::bounded::write_bounded_run;
 use oe_extent::numbers::write_number;
 use oe_extent::runs::write_run;
 use oe_rows::customers::Credit;
+use oe_values::numbers::{Amount, Balance};
+use oe_values::stamps::Stamp;
 use oe_values::texts::Text;
 
 /// What has an image: a column, or columns one after another.
@@ -146,6 +148,57 @@ impl Imaged for Credit {
             Credit::Good => write_run(bytes, start, b"\x00\x02GC"),
             Credit::Bad => write_run(bytes, start, b"\x00\x02BC"),
         }
+    }
+}
+
+impl<const MOST: u64> Imaged for Amount<MOST> {
+    ghost most = { 8 };
+
+    ghost image = { λ cents. number 8 cents };
+
+    #[inline]
+    fn length(&self) -> usize {
+        let _amount = *self;
+        8
+    }
+
+    #[inline]
+    fn write(&self, bytes: &mut [u8], start: usize) -> usize {
+        write_number(bytes, start, self.cents(), 8)
+    }
+}
+
+impl Imaged for Stamp {
+    ghost most = { 8 };
+
+    ghost image = { λ seconds. number 8 seconds };
+
+    #[inline]
+    fn length(&self) -> usize {
+        let _stamp = *self;
+        8
+    }
+
+    #[inline]
+    fn write(&self, bytes: &mut [u8], start: usize) -> usize {
+        write_number(bytes, start, self.seconds(), 8)
+    }
+}
+
+impl Imaged for Balance {
+    ghost most = { 8 };
+
+    ghost image = { λ cents. balance cents };
+
+    #[inline]
+    fn length(&self) -> usize {
+        let _balance = *self;
+        8
+    }
+
+    #[inline]
+    fn write(&self, bytes: &mut [u8], start: usize) -> usize {
+        write_number(bytes, start, self.cents().cast_unsigned(), 8)
     }
 }
 

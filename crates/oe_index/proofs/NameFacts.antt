@@ -1,7 +1,8 @@
 -- Among the rows of a list are all customers of a last name.
 use Rattle.std.proofs.Common.{◌≡◌, refl, sym, ◌∙◌, ap, subst, Bool, true, false, cond, ℕ, List, [], get_or, Option}
 use Rattle.std.proofs.Common.{Some, None}
-use Rattle.std.specs.Prelude.{◌&&◌}
+use Rattle.std.specs.Prelude.{◌&&◌, is_some, not}
+use Rattle.std.specs.Option.{unwrap_or}
 use Rattle.std.specs.Ordering.{eq_by_cmp, nat_cmp}
 use Rattle.std.specs.Cmp.Lexicographic.{slice_cmp, nat_list_cmp_total}
 use Rattle.std.specs.FinMap.{FinMap, IsAntisymmetric, get, slice_cmp-IsAntisymmetric, nat_cmp-IsAntisymmetric}
@@ -54,3 +55,11 @@ listed-name ls m key last b is h on = by (get m key) refl (sym is ∙ on)
     by None at t = never (sym t)
     by (Some x) at t = subst (λ l. IsListed customer_cmp ls (list_number (district_of_customer key) l) key)
         (is_same nat_list_cmp_total exact_text x.name.last last t) (h refl key x at)
+
+-- and so is one whose C_LAST is not put back
+pub listed-same_name : (last : Option (List ℕ)) (ls : List (Keys CustomerKey)) (m : FinMap customer_cmp Customer)
+    (key : CustomerKey) (x : Customer) (b : Bool) → is_some last ≡ not b → get m key ≡ Some x
+    → AreListed customer_cmp list_of_name true ls m → b ≡ true
+    → IsListed customer_cmp ls (list_number (district_of_customer key) (unwrap_or last x.name.last)) key
+listed-same_name None ls m key x b is at h on = h refl key x at
+listed-same_name (Some l) ls m key x b is at h on = never (is ∙ ap not on)

@@ -1,7 +1,8 @@
 -- Among the rows of a list are all orders of a customer.
 use Rattle.std.proofs.Common.{◌≡◌, refl, sym, ◌∙◌, ap, subst, Bool, true, false, cond, ℕ, List, [], ◌∷◌, get_or, Option}
 use Rattle.std.proofs.Common.{Some, None, rules}
-use Rattle.std.specs.Prelude.{filter, ◌==◌}
+use Rattle.std.specs.Prelude.{filter, ◌==◌, is_some, not}
+use Rattle.std.specs.Option.{unwrap_or}
 use Rattle.std.specs.List.{filter_map, cons_option}
 use Rattle.std.specs.Ordering.{eq_by_cmp}
 use Rattle.std.specs.FinMap.{FinMap, get, entries}
@@ -66,6 +67,14 @@ listed-owner ls m key row b is h on = by (get m key) refl (sym is ∙ on)
     by None at t = never (sym t)
     by (Some x) at t = subst (λ n. IsListed order_cmp ls (owner_number (customer_in (district_of_order key) n)) key)
         (eq_nat x.customer row.customer t) (h refl key x at)
+
+-- and so is one whose O_C_ID is not put back
+pub listed-same_owner : (customer : Option ℕ) (ls : List (Keys OrderKey)) (m : FinMap order_cmp Order) (key : OrderKey)
+    (x : Order) (b : Bool) → is_some customer ≡ not b → get m key ≡ Some x
+    → AreListed order_cmp list_of_owner true ls m → b ≡ true
+    → IsListed order_cmp ls (owner_number (customer_in (district_of_order key) (unwrap_or customer x.customer))) key
+listed-same_owner None ls m key x b is at h on = h refl key x at
+listed-same_owner (Some n) ls m key x b is at h on = never (is ∙ ap not on)
 
 -- a key that has no row and was not blanked has no place
 pub no-place : (t : List (OrderKey × Option Order)) (key : OrderKey) → get (rows_of order_cmp t) key ≡ None

@@ -3,8 +3,9 @@
 //! Beside the rows each customer's key is listed under a number of district and last name, so that
 //! a walk over customers of one name meets few others. By the invariant each row's key is in the
 //! list of its last name, unless the lists were given up: they are where a row takes the place of
-//! one of another name, since listing it could take memory. Walks then go over all rows that they
-//! are given. Only `put_new` takes memory; where that is refused the table is as before.
+//! one of another name, or a name is put back, since listing it could take memory. Walks then go
+//! over all rows that they are given. Only `put_new` takes memory; where that is refused the table
+//! is as before.
 ghost use Rattle.std.specs.Prelude.{◌≡◌, Some, None, OnOk, OnErr, IsSome, []};
 ghost use Rattle.std.specs.Option.{option_copied};
 ghost use Rattle.std.specs.FinMap.{entries};
@@ -12,6 +13,7 @@ ghost use Rattle.std.specs.FinMap as map;
 ghost use Rattle.std.specs.BTreeMap.Range.{IsLeBy, entries_between};
 ghost use Rattle.std.specs.declared.ops.Bound.TheVariants.{Included};
 ghost use Rattle.oe_rows.specs.Key.{customer_cmp};
+ghost use Rattle.oe_rows.specs.Before.{with_customer};
 ghost use Rattle.oe_rows.specs.Credit.{with_entry};
 ghost use Rattle.oe_rows.specs.declared.customers.Customer.{Customer};
 ghost use Rattle.oe_model.specs.Choice.{namesakes};
@@ -25,7 +27,7 @@ use crate::flags::are_both;
 use crate::lists::Lists;
 use crate::numbers::list_number;
 use crate::walks::Found;
-use oe_rows::{Account, Customer, CustomerKey, DistrictKey};
+use oe_rows::{Account, Customer, CustomerBefore, CustomerKey, DistrictKey};
 use oe_table::shelf_walks::{Candidates, Rows};
 use oe_table::shelves::Shelves;
 use oe_values::{NoMemory, Text};
@@ -153,6 +155,19 @@ impl Customers {
         let debtor = self.rows.row_mut(key).unwrap();
         debtor.account = *account;
         debtor.data = entry.before(&debtor.data);
+    }
+
+    /// Puts columns before an update back on the row at a key that has a row. Where C_LAST is among
+    /// them, all lists are given up.
+    pub fn put_back(&mut self, key: &CustomerKey, columns: CustomerBefore)
+        requires { IsSome (map.get (rows_of customer_cmp self.old) key.now) }
+        ensures { (c : Customer) → map.get (rows_of customer_cmp self.old) key.now ≡ Some c
+            → RewritesRow customer_cmp self.old self.new key.now (with_customer columns c) }
+    {
+        let same_name = columns.name.last.is_none();
+        self.is_listed = are_both(self.is_listed, same_name);
+        let customer = self.rows.row_mut(key).unwrap();
+        columns.put_on(customer);
     }
 
     /// Gives up the places of all blanked keys, which stay listed. It takes no memory.

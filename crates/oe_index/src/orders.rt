@@ -3,18 +3,19 @@
 //! Beside the rows each order's key is listed under a number of its customer, so that a walk over a
 //! customer's orders meets few others. By the invariant each row's key is in the list of its
 //! customer, unless the lists were given up: they are where a row takes the place of another
-//! customer's, or a blanked place is filled for a customer under whom there is no memory to list
-//! it. Walks then go over all rows that they are given. A key that was blanked stays listed, so
-//! that an order of the same customer fills its place again without memory; one that is removed is
-//! off its list. Only `put_new` takes memory, for a key's place and for its customer's list, where
-//! it has none or is not in that list; it is refused only for a key without a place, and the table
-//! is then as before.
+//! customer's, a customer is put back, or a blanked place is filled for a customer under whom there
+//! is no memory to list it. Walks then go over all rows that they are given. A key that was blanked
+//! stays listed, so that an order of the same customer fills its place again without memory; one
+//! that is removed is off its list. Only `put_new` takes memory, for a key's place and for its
+//! customer's list, where it has none or is not in that list; it is refused only for a key without
+//! a place, and the table is then as before.
 ghost use Rattle.std.specs.Prelude.{◌≡◌, true, Some, None, Ok, OnOk, OnErr, IsSome, []};
 ghost use Rattle.std.specs.Option.{option_copied};
 ghost use Rattle.std.specs.FinMap.{entries};
 ghost use Rattle.std.specs.FinMap as map;
 ghost use Rattle.std.specs.BTreeMap.Range.{IsLeBy, entries_between};
 ghost use Rattle.std.specs.declared.ops.Bound.TheVariants.{Included};
+ghost use Rattle.oe_rows.specs.Before.{with_order};
 ghost use Rattle.oe_rows.specs.Key.{order_cmp};
 ghost use Rattle.oe_rows.specs.declared.orders.Order.{Order};
 ghost use Rattle.oe_model.specs.Keys.{customer_of_order};
@@ -28,7 +29,7 @@ use crate::flags::are_both;
 use crate::lists::Lists;
 use crate::numbers::owner_number;
 use crate::walks::Found;
-use oe_rows::{CustomerKey, Order, OrderKey};
+use oe_rows::{CustomerKey, Order, OrderBefore, OrderKey};
 use oe_table::shelf_walks::{Candidates, Rows};
 use oe_table::shelves::Shelves;
 use oe_values::{Carrier, CustomerNumber, NoMemory};
@@ -171,6 +172,19 @@ impl Orders {
     {
         let order = self.rows.row_mut(key).unwrap();
         order.carrier = Some(carrier);
+    }
+
+    /// Puts columns before an update back on the row at a key that has a row. Where O_C_ID is among
+    /// them, all lists are given up.
+    pub fn put_back(&mut self, key: &OrderKey, columns: OrderBefore)
+        requires { IsSome (map.get (rows_of order_cmp self.old) key.now) }
+        ensures { (o : Order) → map.get (rows_of order_cmp self.old) key.now ≡ Some o
+            → RewritesRow order_cmp self.old self.new key.now (with_order columns o) }
+    {
+        let same_owner = columns.customer.is_none();
+        self.is_listed = are_both(self.is_listed, same_owner);
+        let order = self.rows.row_mut(key).unwrap();
+        columns.put_on(order);
     }
 
     /// Takes the row at a key that has one. The key keeps its place, blanked, and stays listed.

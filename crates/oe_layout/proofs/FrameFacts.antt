@@ -7,10 +7,10 @@ use Rattle.byteorder.specs.Numbers.{big_number-reads_back}
 use Rattle.oe_extent.specs.Images.{number, Writes}
 use Rattle.oe_extent.proofs.WriteFacts.{Writes-then, Writes-before}
 use Rattle.oe_extent.specs.Strings.{last_length, IsFramed}
-use Rattle.oe_model.specs.Changes.{Record, record_key, row_before}
+use Rattle.oe_model.specs.Changes.{Record}
 use Rattle.oe_model.specs.Lengths.{record_length}
-use Rattle.oe_layout.specs.Links.{link_image, link_numbers}
-use Rattle.oe_layout.specs.Kinds.{kind_image, kind_of}
+use Rattle.oe_layout.specs.Links.{link_numbers}
+use Rattle.oe_layout.specs.Kinds.{kind_of}
 use Rattle.oe_layout.specs.Records.{contents, body_image, record_image}
 use Rattle.oe_layout.specs.declared.links.Previous.{Previous}
 use Rattle.oe_layout.proofs.LengthFacts.{IsLong, joined_long, number_long, kind_long, link_long}
@@ -41,7 +41,7 @@ framed_is n body lt size =
           ∙ sym size;
     }
 
--- from the length of key and row
+-- from the length of contents
 pub whole_length : (p : Previous) (b : Record) (a : ℕ) → a ≡ length (contents b) → a + 18 ≡ length (record_image p b)
 whole_length p b a e =
     let long = joined_long (number_long 2 (record_length b))
@@ -49,7 +49,7 @@ whole_length p b a e =
     (joined_long (link_long (link_numbers p)) (some_long (contents b)))) (number_long 2 (record_length b))) in
     omega (arith, e, long.is)
 
-pub record_framed : (p : Previous) (b : Record) (a : ℕ) → a ≡ length (contents b) → a + 18 ≡ record_length b → a ≤ 688
+pub record_framed : (p : Previous) (b : Record) (a : ℕ) → a ≡ length (contents b) → a + 18 ≡ record_length b → a ≤ 691
     → IsFramed (record_image p b)
 record_framed p b a e sum short =
     framed_is (record_length b) (body_image p b) (omega (arith, sum, short)) (sym (whole_length p b a e) ∙ sum)

@@ -1,16 +1,14 @@
 -- Kinds and links are read exactly.
-use Rattle.std.proofs.Common.{◌≡◌, ◌==◌, ◌&&◌, ℕ, ◌^◌, ◌<◌, ◌≤◌, Bool, true, false, cond, List, ◌++◌, Option, Some}
+use Rattle.std.proofs.Common.{◌≡◌, ◌==◌, ◌&&◌, ℕ, ◌^◌, ◌<◌, ◌≤◌, Bool, true, false, cond, List, Option, Some}
 use Rattle.std.proofs.Common.{None, refl, sym, ap, subst, ◌∙◌, arith}
 use Rattle.std.specs.Prelude.{nat_le}
 use Rattle.std.proofs.lemmas.Bool.{leb-true, le-leb, eqb-true}
 use Rattle.std.proofs.lemmas.Bool.Decides.{nat_tests}
-use Rattle.oe_extent.specs.Images.{number, number_at}
-use Rattle.oe_fronts.specs.Fronts.{IsBytes, pair_at}
 use Rattle.oe_fronts.proofs.FrontFacts.{Takes, IsCodec, some_is, both, number_law, pair_law}
-use Rattle.oe_layout.specs.Links.{LinkNumbers, link_numbers, link_image, previous_image, IsRecordAddress, IsPrevious}
+use Rattle.oe_layout.specs.Links.{LinkNumbers, link_numbers, previous_image, IsRecordAddress, IsPrevious}
 use Rattle.oe_layout.specs.Links.{with_rest, read_as, at_address, nothing_at, previous_of, previous_at}
-use Rattle.oe_layout.specs.Kinds.{kind_numbers, kind_image, inserted_in, updated_in, deleted_in, kind_of_numbers}
-use Rattle.oe_layout.specs.Kinds.{kind_at}
+use Rattle.oe_layout.specs.Kinds.{kind_numbers, kind_image, inserted_in, updated_in, deleted_in, changed_in}
+use Rattle.oe_layout.specs.Kinds.{kind_of_numbers, kind_at}
 use Rattle.oe_layout.specs.declared.links.RecordAddress.{RecordAddress}
 use Rattle.oe_layout.specs.declared.links.Previous.{Previous}
 use Rattle.oe_layout.specs.declared.links.Previous.TheVariants.{Nothing, Own, Committed}
@@ -18,7 +16,9 @@ use Rattle.oe_layout.specs.declared.kinds.RecordKind.{RecordKind}
 use Rattle.oe_layout.specs.declared.kinds.RecordKind.TheVariants.{InsertedHistory, InsertedNewOrder, InsertedOrder}
 use Rattle.oe_layout.specs.declared.kinds.RecordKind.TheVariants.{InsertedOrderLine, UpdatedWarehouse, UpdatedDistrict}
 use Rattle.oe_layout.specs.declared.kinds.RecordKind.TheVariants.{UpdatedCustomer, UpdatedOrder, UpdatedOrderLine}
-use Rattle.oe_layout.specs.declared.kinds.RecordKind.TheVariants.{UpdatedStock, DeletedNewOrder}
+use Rattle.oe_layout.specs.declared.kinds.RecordKind.TheVariants.{UpdatedStock, DeletedNewOrder, ChangedWarehouse}
+use Rattle.oe_layout.specs.declared.kinds.RecordKind.TheVariants.{ChangedDistrict, ChangedCustomer, ChangedOrder}
+use Rattle.oe_layout.specs.declared.kinds.RecordKind.TheVariants.{ChangedOrderLine, ChangedStock}
 
 -- ---- the values that some others stand for
 
@@ -97,13 +97,25 @@ deleted_back t =
     chosen P (t == 5) _ _ (λ b y e. only P DeletedNewOrder y (ap (λ (n : ℕ). (3, n)) (sym (eqb-true t 5 b))) e)
     (λ _ y e. none P y e)
 
+changed_back : (t : ℕ) (k : RecordKind) → changed_in t ≡ Some k → kind_numbers k ≡ (4, t)
+changed_back t =
+    let P : RecordKind → Type 0 = λ k. kind_numbers k ≡ (4, t) in
+    chosen P (t == 1) _ _ (λ b y e. only P ChangedWarehouse y (ap (λ (n : ℕ). (4, n)) (sym (eqb-true t 1 b))) e)
+    (λ _. chosen P (t == 2) _ _ (λ b y e. only P ChangedDistrict y (ap (λ (n : ℕ). (4, n)) (sym (eqb-true t 2 b))) e)
+    (λ _. chosen P (t == 3) _ _ (λ b y e. only P ChangedCustomer y (ap (λ (n : ℕ). (4, n)) (sym (eqb-true t 3 b))) e)
+    (λ _. chosen P (t == 6) _ _ (λ b y e. only P ChangedOrder y (ap (λ (n : ℕ). (4, n)) (sym (eqb-true t 6 b))) e)
+    (λ _. chosen P (t == 7) _ _ (λ b y e. only P ChangedOrderLine y (ap (λ (n : ℕ). (4, n)) (sym (eqb-true t 7 b))) e)
+    (λ _. chosen P (t == 9) _ _ (λ b y e. only P ChangedStock y (ap (λ (n : ℕ). (4, n)) (sym (eqb-true t 9 b))) e)
+    (λ _ y e. none P y e))))))
+
 kind_back : (n : ℕ × ℕ) (k : RecordKind) → kind_of_numbers n ≡ Some k → kind_numbers k ≡ n
 kind_back n =
     let P : RecordKind → Type 0 = λ k. kind_numbers k ≡ n in
     chosen P (n.0 == 1) _ _ (λ b y e. inserted_back n.1 y e ∙ ap (λ (d : ℕ). (d, n.1)) (sym (eqb-true n.0 1 b)))
     (λ _. chosen P (n.0 == 2) _ _ (λ b y e. updated_back n.1 y e ∙ ap (λ (d : ℕ). (d, n.1)) (sym (eqb-true n.0 2 b)))
     (λ _. chosen P (n.0 == 3) _ _ (λ b y e. deleted_back n.1 y e ∙ ap (λ (d : ℕ). (d, n.1)) (sym (eqb-true n.0 3 b)))
-    (λ _ y e. none P y e)))
+    (λ _. chosen P (n.0 == 4) _ _ (λ b y e. changed_back n.1 y e ∙ ap (λ (d : ℕ). (d, n.1)) (sym (eqb-true n.0 4 b)))
+    (λ _ y e. none P y e))))
 
 AreSmall : ℕ × ℕ → Type 0
 AreSmall n = (n.0 < 256 ^ 1) × (n.1 < 256 ^ 1)
@@ -121,6 +133,12 @@ kind_there UpdatedOrder = ((omega arith, omega arith), refl)
 kind_there UpdatedOrderLine = ((omega arith, omega arith), refl)
 kind_there UpdatedStock = ((omega arith, omega arith), refl)
 kind_there DeletedNewOrder = ((omega arith, omega arith), refl)
+kind_there ChangedWarehouse = ((omega arith, omega arith), refl)
+kind_there ChangedDistrict = ((omega arith, omega arith), refl)
+kind_there ChangedCustomer = ((omega arith, omega arith), refl)
+kind_there ChangedOrder = ((omega arith, omega arith), refl)
+kind_there ChangedOrderLine = ((omega arith, omega arith), refl)
+kind_there ChangedStock = ((omega arith, omega arith), refl)
 
 pub kind_law : IsCodec (λ (k : RecordKind). Unit {0}) (λ k. kind_image k) kind_at
 unfolding kind_at AreSmall

@@ -1,36 +1,34 @@
 -- Records are read exactly.
-use Rattle.std.proofs.Common.{◌≡◌, ◌==◌, ◌&&◌, ℕ, ◌+◌, ◌^◌, ◌<◌, ◌≤◌, Bool, true, false, cond, List, [], ◌∷◌, ◌++◌}
+use Rattle.std.proofs.Common.{◌≡◌, ◌==◌, ◌&&◌, ℕ, ◌^◌, ◌<◌, Bool, true, false, cond, List, [], ◌∷◌, ◌++◌}
 use Rattle.std.proofs.Common.{length, drop, Option, Some, None, refl, sym, ap, subst, ◌∙◌, arith, append_assoc}
-use Rattle.std.specs.Prelude.{IfSome}
 use Rattle.std.proofs.lemmas.Bool.{eqb-true}
 use Rattle.std.proofs.lemmas.Bool.Decides.{nat_tests}
 use Rattle.std.proofs.lemmas.List.{append-nil, drop_at}
 use Rattle.oe_extent.specs.Images.{number, number_at}
-use Rattle.oe_rows.specs.declared.rows.Row.{Row}
-use Rattle.oe_rows.specs.declared.rows.Row.TheVariants as row
-use Rattle.oe_rows.specs.declared.keys.Key.{Key}
-use Rattle.oe_rows.specs.declared.keys.Key.TheVariants as key
-use Rattle.oe_model.specs.Changes.{Record, record_key, row_before}
 use Rattle.oe_fronts.specs.Fronts.{IsBytes, ◌>>=◌, pair_at}
 use Rattle.oe_image.specs.Keys.{new_order_key}
-use Rattle.oe_image.specs.Rows.{IsRow}
 use Rattle.oe_fronts.proofs.FrontFacts.{Takes, IsCodec, some_is, bind_some, both, IsBytes-drop, Takes-then, number_law}
 use Rattle.oe_fronts.proofs.FrontFacts.{pair_law, found_as, finds_as}
 use Rattle.oe_fronts.proofs.KeyFacts.{warehouse_key_law, district_key_law, customer_key_law, history_key_law}
 use Rattle.oe_fronts.proofs.KeyFacts.{new_order_key_law, order_key_law, order_line_key_law, stock_key_law}
 use Rattle.oe_fronts.proofs.RowFacts.{warehouse_law, district_law, customer_law, order_law, order_line_law, stock_law}
-use Rattle.oe_model.specs.Lengths.{optional_length, key_length, row_length, before_length, record_length}
+use Rattle.oe_fronts.proofs.BeforeRowFacts.{warehouse_before_law, district_before_law, customer_before_law}
+use Rattle.oe_fronts.proofs.BeforeRowFacts.{order_before_law, order_line_before_law, stock_before_law}
+use Rattle.oe_model.specs.Lengths.{record_length}
 use Rattle.oe_layout.specs.Links.{previous_image, IsPrevious, previous_at}
-use Rattle.oe_layout.specs.Kinds.{kind_image, kind_of, kind_at}
-use Rattle.oe_layout.specs.Records.{contents, body_image, record_image, IsInRanges, record_of_own}
+use Rattle.oe_layout.specs.Kinds.{kind_image, kind_of, is_kind_of, kind_at}
+use Rattle.oe_layout.specs.Records.{contents, body_image, record_image, IsInRanges, IsOfLayout}
+use Rattle.oe_layout.specs.Records.{record_of_own}
 use Rattle.oe_layout.specs.RecordFronts.{contents_at, body_at, framed_by, record_at, ReadsRecord}
+use Rattle.oe_rows.specs.declared.layouts.Layout.{Layout}
 use Rattle.oe_layout.specs.declared.links.Previous.{Previous}
 use Rattle.oe_layout.specs.declared.kinds.RecordKind.{RecordKind}
 use Rattle.oe_layout.specs.declared.kinds.RecordKind.TheVariants as kind
 use Rattle.oe_layout.specs.declared.records.OwnRecord.{OwnRecord}
 use Rattle.oe_layout.specs.declared.records.OwnRecord.TheVariants as own
-use Rattle.oe_layout.proofs.LengthFacts.{IsLong, joined_long, number_long, body_long, record_long}
+use Rattle.oe_layout.proofs.LengthFacts.{joined_long, number_long, body_long, record_long}
 use Rattle.oe_layout.proofs.LinkFacts.{kind_law, previous_law}
+use Rattle.oe_layout.proofs.ShortFacts.{record_short}
 
 abbrev own_contents : OwnRecord → List ℕ
 own_contents b = contents (record_of_own b)
@@ -70,6 +68,24 @@ contents_found kind.UpdatedStock bytes fits b rest e = found_as (λ x. own.Updat
 contents_found kind.DeletedNewOrder bytes fits b rest e = found_as (λ x. own.DeletedNewOrder x)
     (IsOf kind.DeletedNewOrder) own_contents (λ x h. (refl, (h, tt))) (λ x. append-nil (new_order_key x))
     new_order_key_law bytes fits b rest e
+contents_found kind.ChangedWarehouse bytes fits b rest e = found_as (λ x. own.ChangedWarehouse x.0 x.1)
+    (IsOf kind.ChangedWarehouse) own_contents (λ x h. (refl, (h.0, h.1))) (λ x. refl)
+    (pair_law warehouse_key_law warehouse_before_law) bytes fits b rest e
+contents_found kind.ChangedDistrict bytes fits b rest e = found_as (λ x. own.ChangedDistrict x.0 x.1)
+    (IsOf kind.ChangedDistrict) own_contents (λ x h. (refl, (h.0, h.1))) (λ x. refl)
+    (pair_law district_key_law district_before_law) bytes fits b rest e
+contents_found kind.ChangedCustomer bytes fits b rest e = found_as (λ x. own.ChangedCustomer x.0 x.1)
+    (IsOf kind.ChangedCustomer) own_contents (λ x h. (refl, (h.0, h.1))) (λ x. refl)
+    (pair_law customer_key_law customer_before_law) bytes fits b rest e
+contents_found kind.ChangedOrder bytes fits b rest e = found_as (λ x. own.ChangedOrder x.0 x.1)
+    (IsOf kind.ChangedOrder) own_contents (λ x h. (refl, (h.0, h.1))) (λ x. refl)
+    (pair_law order_key_law order_before_law) bytes fits b rest e
+contents_found kind.ChangedOrderLine bytes fits b rest e = found_as (λ x. own.ChangedOrderLine x.0 x.1)
+    (IsOf kind.ChangedOrderLine) own_contents (λ x h. (refl, (h.0, h.1))) (λ x. refl)
+    (pair_law order_line_key_law order_line_before_law) bytes fits b rest e
+contents_found kind.ChangedStock bytes fits b rest e = found_as (λ x. own.ChangedStock x.0 x.1)
+    (IsOf kind.ChangedStock) own_contents (λ x h. (refl, (h.0, h.1))) (λ x. refl)
+    (pair_law stock_key_law stock_before_law) bytes fits b rest e
 
 contents_again : (b : OwnRecord) (rest : List ℕ) → IsInRanges (record_of_own b)
     → contents_at (kind_of (record_of_own b)) (own_contents b ++ rest) ≡ Some (b, rest)
@@ -100,6 +116,24 @@ contents_again (own.UpdatedStock k r) rest h = finds_as (λ x. own.UpdatedStock 
 contents_again (own.DeletedNewOrder k) rest h = finds_as (λ x. own.DeletedNewOrder x) new_order_key_law k
     (own_contents (own.DeletedNewOrder k) ++ rest) rest h.0
     (ap (λ (l : List ℕ). l ++ rest) (append-nil (new_order_key k)))
+contents_again (own.ChangedWarehouse k c) rest h = finds_as (λ x. own.ChangedWarehouse x.0 x.1)
+    (pair_law warehouse_key_law warehouse_before_law) (k, c) (own_contents (own.ChangedWarehouse k c) ++ rest) rest
+    (h.0, h.1) refl
+contents_again (own.ChangedDistrict k c) rest h = finds_as (λ x. own.ChangedDistrict x.0 x.1)
+    (pair_law district_key_law district_before_law) (k, c) (own_contents (own.ChangedDistrict k c) ++ rest) rest
+    (h.0, h.1) refl
+contents_again (own.ChangedCustomer k c) rest h = finds_as (λ x. own.ChangedCustomer x.0 x.1)
+    (pair_law customer_key_law customer_before_law) (k, c) (own_contents (own.ChangedCustomer k c) ++ rest) rest
+    (h.0, h.1) refl
+contents_again (own.ChangedOrder k c) rest h = finds_as (λ x. own.ChangedOrder x.0 x.1)
+    (pair_law order_key_law order_before_law) (k, c) (own_contents (own.ChangedOrder k c) ++ rest) rest
+    (h.0, h.1) refl
+contents_again (own.ChangedOrderLine k c) rest h = finds_as (λ x. own.ChangedOrderLine x.0 x.1)
+    (pair_law order_line_key_law order_line_before_law) (k, c) (own_contents (own.ChangedOrderLine k c) ++ rest) rest
+    (h.0, h.1) refl
+contents_again (own.ChangedStock k c) rest h = finds_as (λ x. own.ChangedStock x.0 x.1)
+    (pair_law stock_key_law stock_before_law) (k, c) (own_contents (own.ChangedStock k c) ++ rest) rest
+    (h.0, h.1) refl
 
 -- what is behind a text is bytes, as the whole is
 behind_fits : (bytes front rest : List ℕ) → IsBytes bytes → bytes ≡ front ++ rest → IsBytes rest
@@ -217,72 +251,6 @@ record_found bytes fits v e =
     subst (λ (w : Previous × OwnRecord). IsBody w × (bytes ≡ record_image w.0 (record_of_own w.1))) f.2.value
     (t.0.1.0, whole_is bytes f.0.0.0 f.0.0.1.1 f.0.0.1.0 f.0.1 f.2.first f.2.last f.2.end t.0.1.0 t.1.parts)
 
--- ---- no record is too long for its lengths
-
-optional_short : (width : ℕ) (v : Option ℕ) → optional_length width v ≤ 1 + width
-optional_short width None = omega arith
-optional_short width (Some x) = omega arith
-
-row_short : (r : Row) → IsRow r → row_length r ≤ 683
-row_short (row.Warehouse r) h =
-    omega (
-      arith,
-      h.name.at_most,
-      h.address.street_1.at_most,
-      h.address.street_2.at_most,
-      h.address.city.at_most,
-      h.address.state.at_most,
-      h.address.zip.at_most,
-    )
-row_short (row.District r) h =
-    omega (
-      arith,
-      h.name.at_most,
-      h.address.street_1.at_most,
-      h.address.street_2.at_most,
-      h.address.city.at_most,
-      h.address.state.at_most,
-      h.address.zip.at_most,
-    )
-row_short (row.Customer r) h =
-    omega (
-      arith,
-      h.name.first.at_most,
-      h.name.middle.at_most,
-      h.name.last.at_most,
-      h.address.street_1.at_most,
-      h.address.street_2.at_most,
-      h.address.city.at_most,
-      h.address.state.at_most,
-      h.address.zip.at_most,
-      h.phone.at_most,
-      h.text.at_most,
-    )
-row_short (row.History r) h = omega (arith, h.text.at_most)
-row_short (row.NewOrder r) h = omega arith
-row_short (row.Order r) h = omega (arith, optional_short 1 r.carrier)
-row_short (row.OrderLine r) h = omega (arith, optional_short 8 r.delivery, h.dist_info.at_most)
-row_short (row.Item r) h = omega (arith, h.name.at_most, h.text.at_most)
-row_short (row.Stock r) h = omega (arith, h.text.at_most)
-
-key_short : (k : Key) → key_length k ≤ 8
-key_short (key.Warehouse k) = omega arith
-key_short (key.District k) = omega arith
-key_short (key.Customer k) = omega arith
-key_short (key.History k) = omega arith
-key_short (key.NewOrder k) = omega arith
-key_short (key.Order k) = omega arith
-key_short (key.OrderLine k) = omega arith
-key_short (key.Item k) = omega arith
-key_short (key.Stock k) = omega arith
-
-before_short : (v : Option Row) → IfSome v IsRow → before_length v ≤ 683
-before_short None h = omega arith
-before_short (Some r) h = row_short r h
-
-record_short : (b : Record) → IsInRanges b → record_length b < 65_536
-record_short b h = omega (arith, key_short (record_key b), before_short (row_before b) h.1)
-
 -- ---- and back
 
 same_number : (n : ℕ) → (n == n) ≡ true
@@ -304,10 +272,36 @@ record_finds v bytes h e =
     ap (λ (r : Option (Whole × List ℕ)). framed_by (length bytes) r) read
     ∙ ap (λ (i : ℕ). framed_by i (Some ((n, (v, n)), []))) size ∙ framed_again n v
 
-pub record_exact : (bytes : List ℕ) → IsBytes bytes → ReadsRecord bytes (record_at bytes)
-record_exact bytes fits = record {
+-- what reading without a layout answers, where it is of the layout
+pub record_of_layout : (layout : Layout) (bytes : List ℕ) (v : Previous × OwnRecord) → IsBytes bytes
+    → record_at bytes ≡ Some v → IsOfLayout layout (record_of_own v.1)
+    → ReadsRecord layout bytes (Some v)
+record_of_layout layout bytes v fits read of = record {
   found = λ p b e.
-      let f = record_found bytes fits (p, b) e in
-      (f.0.0, f.0.1, f.1);
-  finds = λ p b hp hb e. record_finds (p, b) bytes (hp, hb) e;
+      let same : ◌≡◌ {A = Previous × OwnRecord} v (p, b) = some_is v (p, b) e in
+      let f = record_found bytes fits (p, b) (read ∙ ap (λ (w : Previous × OwnRecord). Some w) same) in (
+        f.0.0,
+        f.0.1,
+        f.1,
+        subst (λ (w : Previous × OwnRecord). IsOfLayout layout (record_of_own w.1)) same of,
+      );
+  finds = λ p b hp hb ho e. sym read ∙ record_finds (p, b) bytes (hp, hb) e;
+}
+
+-- where it answers none, or one of the other layout, there is none
+pub no_record : (layout : Layout) (bytes : List ℕ) → record_at bytes ≡ None → ReadsRecord layout bytes None
+no_record layout bytes none = record {
+  found = λ p b e. absurd cc;
+  finds = λ p b hp hb ho e. sym none ∙ record_finds (p, b) bytes (hp, hb) e;
+}
+
+pub record_of_other : (layout : Layout) (bytes : List ℕ) (v : Previous × OwnRecord) → record_at bytes ≡ Some v
+    → is_kind_of layout (kind_of (record_of_own v.1)) ≡ false → ReadsRecord layout bytes None
+record_of_other layout bytes v read other = record {
+  found = λ p b e. absurd cc;
+  finds = λ p b hp hb ho e.
+      let same : v ≡ (p, b) = some_is v (p, b) (sym read ∙ record_finds (p, b) bytes (hp, hb) e) in
+      let of : IsOfLayout layout (record_of_own v.1) =
+      subst (λ (w : Previous × OwnRecord). IsOfLayout layout (record_of_own w.1)) (sym same) ho in
+      absurd cc;
 }

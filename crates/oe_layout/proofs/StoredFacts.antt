@@ -7,19 +7,18 @@ use Rattle.oe_extent.specs.Images.{number}
 use Rattle.oe_rows.specs.declared.keys.Key.{Key}
 use Rattle.oe_rows.specs.declared.keys.Table.{Table}
 use Rattle.oe_rows.specs.Key.{table_of}
-use Rattle.oe_rows.specs.declared.rows.Row.{Row}
 use Rattle.oe_fronts.specs.Fronts.{Reads}
 use Rattle.oe_image.specs.Keys.{key_image, IsKey}
 use Rattle.oe_fronts.specs.KeyFronts.{IsKeyOf}
-use Rattle.oe_image.specs.Rows.{row_image}
 use Rattle.oe_fronts.proofs.FrontFacts.{some_is}
 use Rattle.oe_model.specs.Changes as model
-use Rattle.oe_model.specs.Changes.{Record, record_key, row_before}
+use Rattle.oe_model.specs.Changes.{Record, record_key}
 use Rattle.oe_model.specs.Lengths.{record_length}
 use Rattle.oe_layout.specs.Links.{previous_image, previous_at, IsPrevious, link_numbers}
 use Rattle.oe_layout.specs.Kinds.{kind_image, kind_of, kind_at}
-use Rattle.oe_layout.specs.Records.{followed, contents, record_image, IsInRanges, record_of_own}
-use Rattle.oe_layout.specs.RecordFronts.{ReadsRecord}
+use Rattle.oe_layout.specs.Records.{before_image, followed, contents, record_image, IsInRanges}
+use Rattle.oe_layout.specs.Records.{record_of_own}
+use Rattle.oe_layout.specs.RecordFronts.{record_at}
 use Rattle.oe_layout.specs.Stored.{IsStoredRecord, told_of, told, table_changed, deleted_new_order, deleted_key}
 use Rattle.oe_layout.specs.declared.links.Previous.{Previous}
 use Rattle.oe_layout.specs.declared.records.OwnRecord.{OwnRecord}
@@ -44,10 +43,11 @@ IsStored-told bytes h =
     (h.previous, h.image ∙ ap (record_image h.previous) same, subst IsInRanges same h.ranges)
 
 -- it is read whole
-pub read_is : (bytes : List ℕ) (r : Option (Previous × OwnRecord)) → IsStoredRecord bytes → ReadsRecord bytes r
+pub read_is : (bytes : List ℕ) (r : Option (Previous × OwnRecord)) → IsStoredRecord bytes → r ≡ record_at bytes
     → (v : Previous × OwnRecord) × (r ≡ Some v) × (record_of_own v.1 ≡ told bytes)
-read_is bytes r h reads =
-    ((h.previous, h.before), reads.finds h.previous h.before h.link h.ranges h.image, sym (told_is bytes h))
+read_is bytes r h e =
+    let v : Previous × OwnRecord = (h.previous, h.before) in
+    (v, e ∙ record_finds v bytes (h.link, h.ranges) h.image, sym (told_is bytes h))
 
 -- ---- where its parts stand
 
@@ -115,13 +115,14 @@ contents_there bytes h =
     ∙ drop_at (length_image b ++ (kind_image (kind_of b) ++ previous_image s.0)) (contents b ++ length_image b) 16
     (front_length s.0 b)
 
-key_first : (k : List ℕ) (r : Option Row) (tail : List ℕ) → (rest : List ℕ) × (followed k r ++ tail ≡ k ++ rest)
+key_first : (k : List ℕ) (r : Option (List ℕ)) (tail : List ℕ)
+    → (rest : List ℕ) × (followed k r ++ tail ≡ k ++ rest)
 key_first k None tail = (tail, refl)
-key_first k (Some r) tail = (row_image r ++ tail, append_assoc k (row_image r) tail)
+key_first k (Some r) tail = (r ++ tail, append_assoc k r tail)
 
 pub key_there : (b : Record) → (rest : List ℕ)
     × (contents b ++ number 2 (record_length b) ≡ key_image (record_key b) ++ rest)
-key_there b = key_first (key_image (record_key b)) (row_before b) (number 2 (record_length b))
+key_there b = key_first (key_image (record_key b)) (before_image b) (number 2 (record_length b))
 
 pub table_is : (b : Record) → table_of (record_key b) ≡ table_changed (kind_of b)
 table_is (model.InsertedHistory k v) = refl
@@ -135,6 +136,12 @@ table_is (model.UpdatedOrder k v) = refl
 table_is (model.UpdatedOrderLine k v) = refl
 table_is (model.UpdatedStock k v) = refl
 table_is (model.DeletedNewOrder k v) = refl
+table_is (model.ChangedWarehouse k v) = refl
+table_is (model.ChangedDistrict k v) = refl
+table_is (model.ChangedCustomer k v) = refl
+table_is (model.ChangedOrder k v) = refl
+table_is (model.ChangedOrderLine k v) = refl
+table_is (model.ChangedStock k v) = refl
 
 pub deleted_is : (b : Record) → deleted_key (kind_of b) (record_key b) ≡ deleted_new_order b
 deleted_is (model.InsertedHistory k v) = refl
@@ -148,6 +155,12 @@ deleted_is (model.UpdatedOrder k v) = refl
 deleted_is (model.UpdatedOrderLine k v) = refl
 deleted_is (model.UpdatedStock k v) = refl
 deleted_is (model.DeletedNewOrder k v) = refl
+deleted_is (model.ChangedWarehouse k v) = refl
+deleted_is (model.ChangedDistrict k v) = refl
+deleted_is (model.ChangedCustomer k v) = refl
+deleted_is (model.ChangedOrder k v) = refl
+deleted_is (model.ChangedOrderLine k v) = refl
+deleted_is (model.ChangedStock k v) = refl
 
 -- ---- what was read of the front of bytes
 

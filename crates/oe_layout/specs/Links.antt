@@ -1,5 +1,5 @@
 -- What leads from a record to the previous one of its row, as three numbers: extent, offset and moment.
-use Rattle.std.specs.Prelude.{◌≡◌, ◌==◌, ◌≤◌, ◌&&◌, ⊤, ℕ, nat_le, List, ◌++◌, Option, Some, None, if◌then◌else◌}
+use Rattle.std.specs.Prelude.{◌==◌, ◌≤◌, ◌&&◌, ⊤, ℕ, nat_le, List, ◌++◌, Option, Some, None, if◌then◌else◌}
 use Rattle.oe_extent.specs.Images.{number, number_at}
 use Rattle.oe_fronts.specs.Fronts.{pair_at}
 use Rattle.oe_layout.specs.declared.links.RecordAddress.{RecordAddress}

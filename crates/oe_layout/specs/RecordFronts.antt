@@ -6,16 +6,19 @@ use Rattle.oe_fronts.specs.Fronts.{◌>>=◌, seen, pair_at}
 use Rattle.oe_fronts.specs.KeyFronts.{history_key_at, new_order_key_at, order_key_at, order_line_key_at}
 use Rattle.oe_fronts.specs.KeyFronts.{warehouse_key_at, district_key_at, customer_key_at, stock_key_at}
 use Rattle.oe_fronts.specs.RowFronts.{warehouse_at, district_at, customer_at, order_at, order_line_at, stock_at}
+use Rattle.oe_fronts.specs.BeforeFronts.{warehouse_before_at, district_before_at, customer_before_at, order_before_at}
+use Rattle.oe_fronts.specs.BeforeFronts.{order_line_before_at, stock_before_at}
+use Rattle.oe_rows.specs.declared.layouts.Layout.{Layout}
 use Rattle.oe_layout.specs.Links.{previous_at, IsPrevious}
 use Rattle.oe_layout.specs.Kinds.{kind_at}
-use Rattle.oe_layout.specs.Records.{record_image, record_of_own, IsInRanges}
+use Rattle.oe_layout.specs.Records.{record_image, record_of_own, IsInRanges, IsOfLayout}
 use Rattle.oe_layout.specs.declared.links.Previous.{Previous}
 use Rattle.oe_layout.specs.declared.kinds.RecordKind.{RecordKind}
 use Rattle.oe_layout.specs.declared.kinds.RecordKind.TheVariants as kind
 use Rattle.oe_layout.specs.declared.records.OwnRecord.{OwnRecord}
 use Rattle.oe_layout.specs.declared.records.OwnRecord.TheVariants as own
 
--- the key at the front, and the row behind it where there is one, of a record of that kind
+-- the key at the front, and what a record of that kind has of the row before behind it, if anything
 abbrev pub contents_at : RecordKind → List ℕ → Option (OwnRecord × List ℕ)
 contents_at kind.InsertedHistory bytes = seen (λ k. own.InsertedHistory k) (history_key_at bytes)
 contents_at kind.InsertedNewOrder bytes =
@@ -36,6 +39,18 @@ contents_at kind.UpdatedOrderLine bytes =
 contents_at kind.UpdatedStock bytes =
     seen (λ p. own.UpdatedStock p.0 p.1) (pair_at stock_key_at stock_at bytes)
 contents_at kind.DeletedNewOrder bytes = seen (λ k. own.DeletedNewOrder k) (new_order_key_at bytes)
+contents_at kind.ChangedWarehouse bytes =
+    seen (λ p. own.ChangedWarehouse p.0 p.1) (pair_at warehouse_key_at warehouse_before_at bytes)
+contents_at kind.ChangedDistrict bytes =
+    seen (λ p. own.ChangedDistrict p.0 p.1) (pair_at district_key_at district_before_at bytes)
+contents_at kind.ChangedCustomer bytes =
+    seen (λ p. own.ChangedCustomer p.0 p.1) (pair_at customer_key_at customer_before_at bytes)
+contents_at kind.ChangedOrder bytes =
+    seen (λ p. own.ChangedOrder p.0 p.1) (pair_at order_key_at order_before_at bytes)
+contents_at kind.ChangedOrderLine bytes =
+    seen (λ p. own.ChangedOrderLine p.0 p.1) (pair_at order_line_key_at order_line_before_at bytes)
+contents_at kind.ChangedStock bytes =
+    seen (λ p. own.ChangedStock p.0 p.1) (pair_at stock_key_at stock_before_at bytes)
 
 -- what stands between the two lengths
 unfoldable pub body_at : List ℕ → Option ((Previous × OwnRecord) × List ℕ)
@@ -54,9 +69,10 @@ unfoldable pub record_at : List ℕ → Option (Previous × OwnRecord)
 record_at bytes =
     framed_by (length bytes) (pair_at (number_at LENGTH_BYTES) (pair_at body_at (number_at LENGTH_BYTES)) bytes)
 
--- The bytes are the image of a record that is in its ranges: then it is read. Nothing else is read.
-pub record ReadsRecord (bytes : List ℕ) (result : Option (Previous × OwnRecord)) : Type 0 where
+-- The bytes are the image of a record of the layout that is in its ranges: then it is read. Nothing else is read.
+pub record ReadsRecord (layout : Layout) (bytes : List ℕ) (result : Option (Previous × OwnRecord)) : Type 0 where
   pub found : (p : Previous) (b : OwnRecord) → result ≡ Some (p, b)
       → IsPrevious p × IsInRanges (record_of_own b) × (bytes ≡ record_image p (record_of_own b))
+      × IsOfLayout layout (record_of_own b)
   pub finds : (p : Previous) (b : OwnRecord) → IsPrevious p → IsInRanges (record_of_own b)
-      → bytes ≡ record_image p (record_of_own b) → result ≡ Some (p, b)
+      → IsOfLayout layout (record_of_own b) → bytes ≡ record_image p (record_of_own b) → result ≡ Some (p, b)

@@ -56,6 +56,12 @@ table_changed kind.UpdatedOrder = table.Order
 table_changed kind.UpdatedOrderLine = table.OrderLine
 table_changed kind.UpdatedStock = table.Stock
 table_changed kind.DeletedNewOrder = table.NewOrder
+table_changed kind.ChangedWarehouse = table.Warehouse
+table_changed kind.ChangedDistrict = table.District
+table_changed kind.ChangedCustomer = table.Customer
+table_changed kind.ChangedOrder = table.Order
+table_changed kind.ChangedOrderLine = table.OrderLine
+table_changed kind.ChangedStock = table.Stock
 
 -- the key of the queue entry that was deleted, where the record is of a delete
 abbrev pub deleted_new_order : model.Record → Option NewOrderKey

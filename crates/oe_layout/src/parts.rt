@@ -15,14 +15,14 @@ pub const KIND_START: usize = LENGTH_BYTES;
 /// Where the link begins.
 pub const LINK_START: usize = KIND_START + KIND_BYTES;
 
-/// Where the contents begin: the key, and behind it the row before.
+/// Where the contents begin: the key, and behind it the row before, or the columns that changed.
 pub const CONTENTS_START: usize = LINK_START + LINK_BYTES;
 
 /// How many bytes stand before the contents and behind them.
 pub const OTHER_BYTES: usize = CONTENTS_START + LENGTH_BYTES;
 
-/// The most bytes that contents have: a customer's key and row.
-pub const MOST_CONTENTS: usize = 688;
+/// The most bytes that contents have: a customer's key, the mask, and all columns.
+pub const MOST_CONTENTS: usize = 691;
 
-/// The most bytes that a record has.
+/// The most bytes that a record has: 709.
 pub const MOST_BYTES: usize = MOST_CONTENTS + OTHER_BYTES;

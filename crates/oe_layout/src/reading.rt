@@ -10,6 +10,10 @@ use crate::links::{Previous, read_previous};
 use crate::records::OwnRecord;
 use oe_extent::LENGTH_BYTES;
 use oe_extent::numbers::read_number;
+use oe_fronts::before::{
+    read_customer_before, read_district_before, read_order_before, read_order_line_before,
+    read_stock_before, read_warehouse_before,
+};
 use oe_fronts::customers::read_customer;
 use oe_fronts::items::read_stock;
 use oe_fronts::keys::{
@@ -18,8 +22,10 @@ use oe_fronts::keys::{
 };
 use oe_fronts::orders::{read_order, read_order_line};
 use oe_fronts::warehouses::{read_district, read_warehouse};
+use oe_rows::layouts::Layout;
 
-/// Reads the key of a record of that kind at the front of the bytes, and the row behind it.
+/// Reads the key of a record of that kind at the front of the bytes, and the row behind it, or the
+/// columns that changed.
 fn read_contents(kind: RecordKind, bytes: &[u8]) -> Option<(OwnRecord, &[u8])>
     ensures { option_map (λ x. (x.0, x.1.now)) result ≡ contents_at kind bytes.now }
 {
@@ -50,6 +56,12 @@ fn read_contents(kind: RecordKind, bytes: &[u8]) -> Option<(OwnRecord, &[u8])>
             Some((key, rest)) => Some((OwnRecord::DeletedNewOrder(key), rest)),
             None => None,
         },
+        RecordKind::ChangedWarehouse => read_changed_warehouse(bytes),
+        RecordKind::ChangedDistrict => read_changed_district(bytes),
+        RecordKind::ChangedCustomer => read_changed_customer(bytes),
+        RecordKind::ChangedOrder => read_changed_order(bytes),
+        RecordKind::ChangedOrderLine => read_changed_order_line(bytes),
+        RecordKind::ChangedStock => read_changed_stock(bytes),
     }
 }
 
@@ -135,6 +147,90 @@ fn read_stock_update(bytes: &[u8]) -> Option<(OwnRecord, &[u8])>
     Some((OwnRecord::UpdatedStock(key, row), rest))
 }
 
+/// Reads the key of a WAREHOUSE row at the front of the bytes, and its changed columns.
+fn read_changed_warehouse(bytes: &[u8]) -> Option<(OwnRecord, &[u8])>
+    ensures { option_map (λ x. (x.0, x.1.now)) result
+        ≡ contents_at kind.ChangedWarehouse bytes.now }
+{
+    let Some((key, rest)) = read_warehouse_key(bytes) else {
+        return None;
+    };
+    let Some((columns, rest)) = read_warehouse_before(rest) else {
+        return None;
+    };
+    Some((OwnRecord::ChangedWarehouse(key, columns), rest))
+}
+
+/// Reads the key of a DISTRICT row at the front of the bytes, and its changed columns.
+fn read_changed_district(bytes: &[u8]) -> Option<(OwnRecord, &[u8])>
+    ensures { option_map (λ x. (x.0, x.1.now)) result
+        ≡ contents_at kind.ChangedDistrict bytes.now }
+{
+    let Some((key, rest)) = read_district_key(bytes) else {
+        return None;
+    };
+    let Some((columns, rest)) = read_district_before(rest) else {
+        return None;
+    };
+    Some((OwnRecord::ChangedDistrict(key, columns), rest))
+}
+
+/// Reads the key of a CUSTOMER row at the front of the bytes, and its changed columns.
+fn read_changed_customer(bytes: &[u8]) -> Option<(OwnRecord, &[u8])>
+    ensures { option_map (λ x. (x.0, x.1.now)) result
+        ≡ contents_at kind.ChangedCustomer bytes.now }
+{
+    let Some((key, rest)) = read_customer_key(bytes) else {
+        return None;
+    };
+    let Some((columns, rest)) = read_customer_before(rest) else {
+        return None;
+    };
+    Some((OwnRecord::ChangedCustomer(key, columns), rest))
+}
+
+/// Reads the key of an ORDER row at the front of the bytes, and its changed columns.
+fn read_changed_order(bytes: &[u8]) -> Option<(OwnRecord, &[u8])>
+    ensures { option_map (λ x. (x.0, x.1.now)) result
+        ≡ contents_at kind.ChangedOrder bytes.now }
+{
+    let Some((key, rest)) = read_order_key(bytes) else {
+        return None;
+    };
+    let Some((columns, rest)) = read_order_before(rest) else {
+        return None;
+    };
+    Some((OwnRecord::ChangedOrder(key, columns), rest))
+}
+
+/// Reads the key of an ORDER-LINE row at the front of the bytes, and its changed columns.
+fn read_changed_order_line(bytes: &[u8]) -> Option<(OwnRecord, &[u8])>
+    ensures { option_map (λ x. (x.0, x.1.now)) result
+        ≡ contents_at kind.ChangedOrderLine bytes.now }
+{
+    let Some((key, rest)) = read_order_line_key(bytes) else {
+        return None;
+    };
+    let Some((columns, rest)) = read_order_line_before(rest) else {
+        return None;
+    };
+    Some((OwnRecord::ChangedOrderLine(key, columns), rest))
+}
+
+/// Reads the key of a STOCK row at the front of the bytes, and its changed columns.
+fn read_changed_stock(bytes: &[u8]) -> Option<(OwnRecord, &[u8])>
+    ensures { option_map (λ x. (x.0, x.1.now)) result
+        ≡ contents_at kind.ChangedStock bytes.now }
+{
+    let Some((key, rest)) = read_stock_key(bytes) else {
+        return None;
+    };
+    let Some((columns, rest)) = read_stock_before(rest) else {
+        return None;
+    };
+    Some((OwnRecord::ChangedStock(key, columns), rest))
+}
+
 /// Reads what stands between the two lengths, and answers the bytes behind it too.
 #[tactic(auto, unfolding(crate::specs::RecordFronts::body_at))]
 fn read_body(bytes: &[u8]) -> Option<((Previous, OwnRecord), &[u8])>
@@ -152,9 +248,9 @@ fn read_body(bytes: &[u8]) -> Option<((Previous, OwnRecord), &[u8])>
     Some(((previous, record), rest))
 }
 
-/// Reads the record, where both its lengths are the number of bytes.
+/// Reads the record, of any layout, where both its lengths are the number of bytes.
 #[tactic(auto, unfolding(crate::specs::RecordFronts::record_at))]
-fn whole_record(bytes: &[u8]) -> Option<(Previous, OwnRecord)>
+pub(crate) fn whole_record(bytes: &[u8]) -> Option<(Previous, OwnRecord)>
     ensures { result ≡ record_at bytes.now }
 {
     let size = bytes.len() as u64;
@@ -175,9 +271,16 @@ fn whole_record(bytes: &[u8]) -> Option<(Previous, OwnRecord)>
 }
 
 /// Reads the record that the bytes are, with what leads to the previous one of its row; `None`
-/// exactly where the bytes are no record's.
-pub fn read_record(bytes: &[u8]) -> Option<(Previous, OwnRecord)>
-    ensures { ReadsRecord bytes.now result }
+/// exactly where the bytes are no record's of that layout.
+pub fn read_record(layout: Layout, bytes: &[u8]) -> Option<(Previous, OwnRecord)>
+    ensures { ReadsRecord layout bytes.now result }
 {
-    whole_record(bytes)
+    let Some((previous, record)) = whole_record(bytes) else {
+        return None;
+    };
+    if record.kind().is_of(layout) {
+        Some((previous, record))
+    } else {
+        None
+    }
 }

@@ -12,7 +12,7 @@ ghost use Rattle.oe_layout.specs.Stored.{IsStoredRecord, told, IsTold, IsToldLin
 use crate::kinds::{RecordKind, read_kind};
 use crate::links::{Previous, read_previous};
 use crate::parts::{CONTENTS_START, KIND_START, LINK_START};
-use crate::reading::read_record;
+use crate::reading::whole_record;
 use crate::records::OwnRecord;
 use oe_fronts::keys::read_key;
 use oe_rows::{Key, NewOrderKey, Table};
@@ -52,6 +52,12 @@ fn table_changed(kind: RecordKind) -> Table
         RecordKind::UpdatedOrderLine => Table::OrderLine,
         RecordKind::UpdatedStock => Table::Stock,
         RecordKind::DeletedNewOrder => Table::NewOrder,
+        RecordKind::ChangedWarehouse => Table::Warehouse,
+        RecordKind::ChangedDistrict => Table::District,
+        RecordKind::ChangedCustomer => Table::Customer,
+        RecordKind::ChangedOrder => Table::Order,
+        RecordKind::ChangedOrderLine => Table::OrderLine,
+        RecordKind::ChangedStock => Table::Stock,
     }
 }
 
@@ -125,10 +131,10 @@ impl<'a> StoredRecord<'a> {
         deleted_key(self.kind(), self.key())
     }
 
-    /// Gives the record with its row.
+    /// Gives the record with its row, or its columns.
     pub fn read(&self) -> OwnRecord
         ensures { record_of_own result ≡ self.now }
     {
-        read_record(self.bytes).unwrap().1
+        whole_record(self.bytes).unwrap().1
     }
 }

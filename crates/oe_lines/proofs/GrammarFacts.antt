@@ -35,6 +35,9 @@ use Rattle.oe_lines.specs.declared.commands.Command.TheVariants as command
 use Rattle.oe_lines.specs.declared.commands.Display.TheVariants as display
 use Rattle.oe_lines.specs.declared.commands.MomentChoice.{MomentChoice}
 use Rattle.oe_lines.specs.declared.commands.MomentChoice.TheVariants as moment
+use Rattle.oe_lines.specs.declared.commands.RingChoice.{RingChoice}
+use Rattle.oe_rows.specs.declared.layouts.Layout.{Layout}
+use Rattle.oe_rows.specs.declared.layouts.Layout.TheVariants.{WholeRows, ChangedColumns}
 use Rattle.oe_rows.specs.declared.scales.Scale.{Scale}
 use Rattle.oe_model.specs.Population.{IsScale}
 use Rattle.oe_model.specs.Requests.{IsDistrict, IsChoice, IsPayment, IsRequestLine, IsNewOrder, IsDelivery}
@@ -42,6 +45,8 @@ use Rattle.oe_model.specs.Requests.{IsDeliveries}
 use Rattle.oe_lines.specs.Grammar.{Says, HasForm, IsRequest, IsQuery, IsMoment, words_of, request_words, query_words}
 use Rattle.oe_lines.specs.Grammar.{customer_word, line_word, moment_word}
 use Rattle.oe_lines.specs.Reading.{begun, number_or_name, last_number_or_name, table_of, moment_of, moment_before}
+use Rattle.oe_lines.specs.Rings.{layout_word}
+use Rattle.oe_lines.specs.Reading.{layout_at, ring_of}
 use Rattle.oe_lines.specs.Reading.{condition_of, audit_of, opening_of, district_of, customer_of, last_customer_of}
 use Rattle.oe_lines.specs.Reading.{status_of, level_of, query_of, reading_of, payment_of, line_of, line_and}
 use Rattle.oe_lines.specs.Reading.{lines_within, lines_of, new_order_of, delivery_of, deliveries_of, all_or_one}
@@ -285,36 +290,92 @@ audit_only c m k =
 abbrev scale_words : Scale → List ℕ → List ℕ
 scale_words s rest = decimal s.warehouses ++ 32 ∷ (decimal s.customers ++ 32 ∷ (decimal s.items ++ 32 ∷ rest))
 
+-- what stands behind the number of extents
+abbrev layout_text : Option Layout → List ℕ
+layout_text None = []
+layout_text (Some l) = 32 ∷ layout_word l
+
+empty_is : (s : List ℕ) → length s ≡ 0 → s ≡ []
+empty_is [] e = refl
+empty_is (x ∷ xs) e = cc
+
+layout_found : (s : List ℕ) (l : Option Layout) → layout_at s ≡ Some l → s ≡ layout_text l
+unfolding layout_at
+layout_found s l e = elim (chosen (length s == 0) _ _ (Some l) e) [
+  | inl h ↦ empty_is s (eqb-true (length s) 0 h.0) ∙ ap layout_text (some_same _ l h.1)
+  | inr h ↦ elim (chosen (is_word s (codes " 1")) _ _ (Some l) h.1) [
+    | inl w ↦ word_is s (codes " 1") w.0 ∙ ap layout_text (some_same _ l w.1)
+    | inr w ↦ elim (chosen (is_word s (codes " 2")) _ _ (Some l) w.1) [
+      | inl v ↦ word_is s (codes " 2") v.0 ∙ ap layout_text (some_same _ l v.1)
+      | inr v ↦ cc
+    ]
+  ]
+]
+
+layout_only : (l : Option Layout) → layout_at (layout_text l) ≡ Some l
+unfolding layout_at is_word
+layout_only None = refl
+layout_only (Some WholeRows) = refl
+layout_only (Some ChangedColumns) = refl
+
+layout_ends : (l : Option Layout) → ends (layout_text l) ≡ true
+layout_ends None = refl
+layout_ends (Some l) = refl
+
+ring_found : (s : List ℕ) (r : RingChoice) → ring_of s ≡ Some r
+    → (s ≡ decimal r.extents ++ layout_text r.layout) × IsInRange 2 4_096 r.extents
+unfolding ring_of
+ring_found s r e =
+    let n = bind_some (number_of 2 4_096 s) _ r e in
+    let l = bind_some (layout_at n.0.1) _ r n.2 in
+    let f = number_found 2 4_096 s n.0.0 n.0.1 n.1 in
+    rw (← some_same (record { extents = n.0.0; layout = l.0 }) r l.2)
+    (f.0 ∙ ap (λ z. decimal n.0.0 ++ z) (layout_found n.0.1 l.0 l.1), (f.1, f.2))
+
+ring_only : (x : ℕ) (l : Option Layout) → IsInRange 2 4_096 x
+    → ring_of (decimal x ++ layout_text l) ≡ Some (record { extents = x; layout = l })
+unfolding ring_of
+ring_only x l k = rw (number_only 2 4_096 x (layout_text l) (omega arith) k (layout_ends l), layout_only l) refl
+
+-- the words of an opening
+opening_words : (s : Scale) (x : ℕ) (l : Option Layout)
+    → join_with_byte 32 (words_of (command.Open s (record { extents = x; layout = l })))
+    ≡ codes "open" ++ 32 ∷ scale_words s (decimal x ++ layout_text l)
+opening_words s x None = ap (λ z. codes "open" ++ 32 ∷ scale_words s z) (sym (append-nil (decimal x)))
+opening_words s x (Some l) = refl
+
 opening_found : (s : List ℕ) (c : Command) → opening_of s ≡ Some c → Says (codes "open" ++ 32 ∷ s) c
 unfolding opening_of
 opening_found s c e =
     let a = bind_some (number_before 1 16 s) _ c e in
     let b = bind_some (number_before 1 3_000 a.0.1) _ c a.2 in
     let d = bind_some (number_before 1 100_000 b.0.1) _ c b.2 in
-    let x = bind_some (last_number 2 4_096 d.0.1) _ c d.2 in
+    let x = bind_some (ring_of d.0.1) _ c d.2 in
     let f = before_found 1 16 s a.0.0 a.0.1 a.1 in
     let g = before_found 1 3_000 a.0.1 b.0.0 b.0.1 b.1 in
     let h = before_found 1 100_000 b.0.1 d.0.0 d.0.1 d.1 in
-    let i = last_found 2 4_096 d.0.1 x.0 x.1 in
+    let i = ring_found d.0.1 x.0 x.1 in
+    let scale : Scale = record { warehouses = a.0.0; customers = b.0.0; items = d.0.0 } in
     let spelled =
     f.0 ∙ ap (λ z. decimal a.0.0 ++ 32 ∷ z)
     (g.0 ∙ ap (λ z. decimal b.0.0 ++ 32 ∷ z) (h.0 ∙ ap (λ z. decimal d.0.0 ++ 32 ∷ z) i.0)) in
-    says_at _ _ c (command.Open (record { warehouses = a.0.0; customers = b.0.0; items = d.0.0 }) x.0)
+    says_at _ _ c (command.Open scale x.0)
     (ap (λ z. codes "open" ++ 32 ∷ z) spelled) (some_same _ c x.2)
     (record {
-      form = (record { warehouses = (f.1, f.2); customers = (g.1, g.2); items = (h.1, h.2) }, (i.1, i.2));
-      spelled = refl;
+      form = (record { warehouses = (f.1, f.2); customers = (g.1, g.2); items = (h.1, h.2) }, i.1);
+      spelled = sym (opening_words scale x.0.extents x.0.layout);
     })
 
-opening_only : (s : Scale) (x : ℕ) → IsScale s → IsInRange 2 4_096 x
-    → opening_of (scale_words s (decimal x)) ≡ Some (command.Open s x)
+opening_only : (s : Scale) (x : ℕ) (l : Option Layout) → IsScale s → IsInRange 2 4_096 x
+    → opening_of (scale_words s (decimal x ++ layout_text l))
+    ≡ Some (command.Open s (record { extents = x; layout = l }))
 unfolding opening_of
-opening_only s x h k =
+opening_only s x l h k =
     rw (
       before_only 1 16 s.warehouses _ (omega arith) h.warehouses,
       before_only 1 3_000 s.customers _ (omega arith) h.customers,
       before_only 1 100_000 s.items _ (omega arith) h.items,
-      last_only 2 4_096 x (omega arith) k,
+      ring_only x l k,
     )
     refl
 
@@ -890,7 +951,8 @@ read_only m q h k = ap command_of (read_words m q) ∙ rw (reading_only m q h k)
 
 spelled : (c : Command) → HasForm c → command_of (join_with_byte 32 (words_of c)) ≡ Some c
 unfolding command_of rare_command_of at_end
-spelled (command.Open s x) h = opening_only s x h.0 h.1
+spelled (command.Open s x) h = ap command_of (opening_words s x.extents x.layout)
+    ∙ opening_only s x.extents x.layout h.0 h.1
 spelled (command.Begin t r) h = begin_only t r h.0 h.1
 spelled (command.Next t) h = rw (terminal t h) refl
 spelled (command.Run t) h = rw (terminal t h) refl

@@ -18,6 +18,7 @@ use Rattle.oe_requests.specs.declared.audits.Condition.TheVariants as condition
 use Rattle.oe_texts.specs.Stamp.{stamp_text}
 use Rattle.oe_model.specs.Population.{IsScale}
 use Rattle.oe_model.specs.Requests as model
+use Rattle.oe_lines.specs.Rings.{layout_words}
 use Rattle.oe_lines.specs.declared.commands.Command.{Command}
 use Rattle.oe_lines.specs.declared.commands.Command.TheVariants as command
 use Rattle.oe_lines.specs.declared.commands.Display.{Display}
@@ -69,8 +70,9 @@ display_words display.Locks = codes "locks" ∷ []
 
 -- the words of a command
 abbrev pub words_of : Command → List (List ℕ)
-words_of (command.Open s extents) =
-    codes "open" ∷ decimal s.warehouses ∷ decimal s.customers ∷ decimal s.items ∷ decimal extents ∷ []
+words_of (command.Open s ring) =
+    codes "open" ∷ decimal s.warehouses ∷ decimal s.customers ∷ decimal s.items ∷ decimal ring.extents
+    ∷ layout_words ring.layout
 words_of (command.Begin terminal r) = codes "begin" ∷ decimal terminal ∷ request_words r
 words_of (command.Next terminal) = codes "next" ∷ decimal terminal ∷ []
 words_of (command.Run terminal) = codes "run" ∷ decimal terminal ∷ []
@@ -102,7 +104,7 @@ IsMoment (moment.At m) = m ≤ 999_999_999_999
 
 -- a command that has a form, with its numbers in their ranges
 abbrev pub HasForm : Command → Type 0
-HasForm (command.Open s extents) = IsScale s × IsInRange 2 4_096 extents
+HasForm (command.Open s ring) = IsScale s × IsInRange 2 4_096 ring.extents
 HasForm (command.Begin terminal r) = IsInRange 1 TERMINALS terminal × IsRequest r
 HasForm (command.Next terminal) = IsInRange 1 TERMINALS terminal
 HasForm (command.Run terminal) = IsInRange 1 TERMINALS terminal

@@ -1,4 +1,5 @@
--- What the clauses of this crate cite. The grammar stands in Grammar; the other two read a line from its front.
+-- What the clauses of this crate cite. The grammar stands in Grammar; Reading and Words read a line from its front.
 pub mod Grammar
 pub mod Reading
+pub mod Rings
 pub mod Words

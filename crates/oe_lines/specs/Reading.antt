@@ -2,6 +2,8 @@
 use Rattle.std.specs.Prelude.{ℕ, zero, suc, ◌==◌, nat_le, List, [], ◌∷◌, length, Option, Some, None, codes}
 use Rattle.std.specs.Prelude.{if◌then◌else◌}
 use Rattle.std.specs.Option.{option_map}
+use Rattle.oe_rows.specs.declared.layouts.Layout.{Layout}
+use Rattle.oe_rows.specs.declared.layouts.Layout.TheVariants.{WholeRows, ChangedColumns}
 use Rattle.oe_rows.specs.declared.keys.DistrictKey.{DistrictKey}
 use Rattle.oe_rows.specs.declared.keys.Table.{Table}
 use Rattle.oe_rows.specs.declared.keys.Table.TheVariants as table
@@ -24,6 +26,7 @@ use Rattle.oe_lines.specs.declared.commands.Command.{Command}
 use Rattle.oe_lines.specs.declared.commands.Command.TheVariants as command
 use Rattle.oe_lines.specs.declared.commands.Display.TheVariants as display
 use Rattle.oe_lines.specs.declared.commands.MomentChoice.{MomentChoice}
+use Rattle.oe_lines.specs.declared.commands.RingChoice.{RingChoice}
 use Rattle.oe_lines.specs.declared.commands.MomentChoice.TheVariants as moment
 use Rattle.oe_values.specs.Front.{◌>>=◌, after_of, decimal_of, alone}
 use Rattle.oe_values.specs.declared.numbers.TheConstants.{TERMINALS}
@@ -89,13 +92,27 @@ audit_of s = do
   m ← moment_of n.1
   Some (command.Audit c m)
 
+-- what stands behind the number of extents: nothing, or a layout
+unfoldable pub layout_at : List ℕ → Option (Option Layout)
+layout_at s =
+    if length s == 0 then Some None
+    else if is_word s (codes " 1") then Some (Some WholeRows)
+    else if is_word s (codes " 2") then Some (Some ChangedColumns)
+    else None
+
+unfoldable pub ring_of : List ℕ → Option RingChoice
+ring_of s = do
+  n ← number_of 2 4_096 s
+  layout ← layout_at n.1
+  Some (record { extents = n.0; layout = layout })
+
 unfoldable pub opening_of : List ℕ → Option Command
 opening_of s = do
   w ← number_before 1 16 s
   c ← number_before 1 3_000 w.1
   i ← number_before 1 100_000 c.1
-  extents ← last_number 2 4_096 i.1
-  Some (command.Open (record { warehouses = w.0; customers = c.0; items = i.0 }) extents)
+  ring ← ring_of i.1
+  Some (command.Open (record { warehouses = w.0; customers = c.0; items = i.0 }) ring)
 
 unfoldable pub district_of : List ℕ → Option (DistrictKey × List ℕ)
 district_of s = do

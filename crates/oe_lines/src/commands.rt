@@ -2,9 +2,11 @@
 //!
 //! A `Command` keeps its parts as plain values, in their ranges by type. A line has at most one
 //! meaning.
+ghost use Rattle.std.specs.Prelude.{◌≡◌};
+ghost use Rattle.oe_lines.specs.Rings.{layout_of};
 
 use oe_requests::{Condition, Query, Request};
-use oe_rows::{Scale, Table};
+use oe_rows::{Layout, Scale, Table};
 use oe_values::{ExtentCount, Moment, Number, Terminal};
 
 /// The newest moment, or one by its number.
@@ -25,11 +27,31 @@ pub enum Display {
     Locks,
 }
 
+/// The undo ring that a line opens: how many extents, and the layout of its records, where the line
+/// says one.
+#[derive(Clone, Copy)]
+pub struct RingChoice {
+    pub extents: ExtentCount,
+    pub layout: Option<Layout>,
+}
+
+impl RingChoice {
+    /// Gives the layout of records: whole rows where the line says none.
+    pub fn layout_or_whole_rows(&self) -> Layout
+        ensures { result ≡ layout_of self.now }
+    {
+        match self.layout {
+            Some(layout) => layout,
+            None => Layout::WholeRows,
+        }
+    }
+}
+
 /// What a line asks for.
 #[derive(Drop)]
 pub enum Command {
-    /// Opens a population of that scale, with that number of extents.
-    Open(Scale, ExtentCount),
+    /// Opens a population of that scale, with such an undo ring.
+    Open(Scale, RingChoice),
     /// The terminal begins a transaction.
     Begin(Terminal, Request),
     /// The terminal's transaction advances by one stage.

@@ -7,9 +7,9 @@ ghost use Rattle.oe_requests.specs.declared.requests.Request.TheVariants as kind
 ghost use Rattle.oe_lines.specs.declared.commands.Command.{Command};
 ghost use Rattle.oe_lines.specs.declared.commands.Command.TheVariants as asks;
 ghost use Rattle.oe_lines.specs.Grammar.{Says};
-ghost use Rattle.oe_lines.specs.Reading.{command_of, run_of, begun_payment_of, rare_command_of, at_end, opening_of, beginning_of, request_of, district_of, customer_of, payment_of, new_order_of, delivery_of, deliveries_of, line_of, lines_of, table_of, moment_of, moment_before, condition_of, audit_of, last_customer_of, status_of, level_of, query_of, reading_of};
+ghost use Rattle.oe_lines.specs.Reading.{command_of, run_of, begun_payment_of, rare_command_of, at_end, opening_of, layout_at, ring_of, beginning_of, request_of, district_of, customer_of, payment_of, new_order_of, delivery_of, deliveries_of, line_of, lines_of, table_of, moment_of, moment_before, condition_of, audit_of, last_customer_of, status_of, level_of, query_of, reading_of};
 
-use crate::commands::{Command, Display, MomentChoice};
+use crate::commands::{Command, Display, MomentChoice, RingChoice};
 use crate::words::{
     amount_before, is_word, last_name, last_number, name_before, number, number_before,
     number_then, stamp, stamp_before,
@@ -18,7 +18,7 @@ use oe_requests::{
     Condition, CustomerChoice, DeliveriesRequest, DeliveryRequest, LevelQuery, NewOrderRequest,
     PaymentRequest, Query, Request, RequestLine, RequestLines, StatusQuery,
 };
-use oe_rows::{DistrictKey, Scale, Table, WarehouseKey};
+use oe_rows::{DistrictKey, Layout, Scale, Table, WarehouseKey};
 use oe_values::fronts::{after, decimal};
 use oe_values::{Lines, Moment, Number, Terminal};
 
@@ -142,7 +142,35 @@ fn at_end(rest: &[u8], command: Command) -> Option<Command>
     if rest.is_empty() { Some(command) } else { None }
 }
 
-/// Reads `W C I E`.
+/// Reads what stands behind the number of extents: nothing, or a layout.
+#[tactic(auto, unfolding(crate::specs::Reading::layout_at))]
+fn layout(rest: &[u8]) -> Option<Option<Layout>>
+    ensures { result ≡ layout_at rest.now }
+{
+    if rest.is_empty() {
+        Some(None)
+    } else if is_word(rest, b" 1") {
+        Some(Some(Layout::WholeRows))
+    } else if is_word(rest, b" 2") {
+        Some(Some(Layout::ChangedColumns))
+    } else {
+        None
+    }
+}
+
+/// Reads `E`, or `E L`.
+#[tactic(auto, unfolding(crate::specs::Reading::ring_of))]
+fn ring(text: &[u8]) -> Option<RingChoice>
+    ensures { result ≡ ring_of text.now }
+{
+    let Some((extents, rest)) = number(text) else {
+        return None;
+    };
+    let layout = layout(rest)?;
+    Some(RingChoice { extents, layout })
+}
+
+/// Reads `W C I E`, or `W C I E L`.
 #[tactic(auto, unfolding(crate::specs::Reading::opening_of))]
 fn opening(text: &[u8]) -> Option<Command>
     ensures { result ≡ opening_of text.now }
@@ -156,13 +184,13 @@ fn opening(text: &[u8]) -> Option<Command>
     let Some((items, rest)) = number_before(rest) else {
         return None;
     };
-    let extents = last_number(rest)?;
+    let ring = ring(rest)?;
     let scale = Scale {
         warehouses,
         customers,
         items,
     };
-    Some(Command::Open(scale, extents))
+    Some(Command::Open(scale, ring))
 }
 
 /// Reads `T`, and the request.

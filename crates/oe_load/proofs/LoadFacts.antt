@@ -24,9 +24,10 @@ use Rattle.oe_plans.specs.declared.plans.Asked.{Asked}
 use Rattle.oe_plans.specs.declared.plans.Asked.TheVariants as asked
 use Rattle.oe_plans.specs.Plans.{asked_of}
 use Rattle.oe_model.specs.Rows.{Rows}
+use Rattle.oe_rows.specs.declared.layouts.Layout.TheVariants.{WholeRows}
 use Rattle.oe_model.specs.Population.{IsPopulated}
 use Rattle.oe_theory.specs.Theorems.{opened}
-use Rattle.oe_load.specs.Loads.{IsNext, Line, Told, Lines, IsScript, none_served, script_text}
+use Rattle.oe_load.specs.Loads.{opening, IsNext, Line, Told, Lines, IsScript, none_served, script_text}
 use Rattle.oe_load.specs.Loads.{begins, goes_on, waits, commits, reads, gives_way, purges}
 use Rattle.oe_load.specs.Turns.{Tells}
 
@@ -55,7 +56,7 @@ script_more p cs v t c x u h k = record {
 pub text_more : (p : Plan) (cs : List Command) (c : Command)
     → script_text p cs ++ line_text c ≡ script_text p (cs ++ c ∷ [])
 text_more p cs c =
-    flat_map_more line_text (line_text (command.Open p.numbers.scale p.numbers.extents)) cs c
+    flat_map_more line_text (line_text (opening p)) cs c
 
 -- WHAT A LINE TELLS
 
@@ -129,7 +130,7 @@ next_is p s t r a b low high left e f g = record {
 -- AT THE OPENING
 
 pub script_opened : {A E : Type 0} (w : A → World system) (p : Plan) (x : Rows) → IsPopulated p.numbers.scale x
-    → (r : Result A E) → IfOk r (λ c. w c ≡ opened system x p.numbers.extents)
+    → (r : Result A E) → IfOk r (λ c. w c ≡ opened system x p.numbers.extents WholeRows)
     → IfOk r (λ c. IsScript p [] (w c) none_served)
 script_opened w p x h (Ok c) e = record { base = x; populated = h; lines = (e, refl) }
 script_opened w p x h (Err e) u = u

@@ -1,5 +1,5 @@
 -- The script of a load: a run of the machine in which each line is answered, and by no refusal but `Busy`.
-use Rattle.std.specs.Prelude.{◌≡◌, ℕ, suc, ◌≤◌, ◌<◌, List, [], ◌∷◌, length}
+use Rattle.std.specs.Prelude.{◌≡◌, ℕ, suc, ◌≤◌, ◌<◌, List, [], ◌∷◌, length, None}
 use Rattle.std.specs.List.{flat_map}
 use Rattle.oe_theory.specs.World.{World, newest, bump}
 use Rattle.oe_theory.specs.Next.{Next, IsQuiet, Begin, Advance, Rollback, Read, Purge}
@@ -11,6 +11,7 @@ use Rattle.oe_requests.specs.declared.requests.Query.{Query}
 use Rattle.oe_requests.specs.declared.replies.Reply.{Reply}
 use Rattle.oe_requests.specs.declared.replies.QueryReply.{QueryReply}
 use Rattle.oe_model.specs.Rows.{Rows}
+use Rattle.oe_rows.specs.declared.layouts.Layout.TheVariants.{WholeRows}
 use Rattle.oe_model.specs.Population.{IsPopulated}
 use Rattle.oe_model.specs.System.{system}
 use Rattle.oe_lines.specs.declared.commands.Command.{Command}
@@ -74,7 +75,7 @@ none_served t = 0
 pub record IsScript (p : Plan) (cs : List Command) (w : World system) (served : ℕ → ℕ) : Type 0 where
   pub base : Rows
   pub populated : IsPopulated p.numbers.scale base
-  pub lines : Lines p (opened system base p.numbers.extents) none_served cs w served
+  pub lines : Lines p (opened system base p.numbers.extents WholeRows) none_served cs w served
 
 -- each terminal has had all of its requests served
 abbrev pub AreServed : Plan → (ℕ → ℕ) → Type 0
@@ -85,9 +86,13 @@ pub record IsDone (p : Plan) (w : World system) (served : ℕ → ℕ) : Type 0 
   pub quiet : IsQuiet system w
   pub all : AreServed p served
 
+-- the line that opens the population, and says no layout
+abbrev pub opening : Plan → Command
+opening p = command.Open p.numbers.scale (record { extents = p.numbers.extents; layout = None })
+
 -- the opening and these lines as text
 abbrev pub opening_text : Plan → List ℕ
-opening_text p = line_text (command.Open p.numbers.scale p.numbers.extents)
+opening_text p = line_text (opening p)
 
 abbrev pub script_text : Plan → List Command → List ℕ
-script_text p cs = flat_map line_text (command.Open p.numbers.scale p.numbers.extents ∷ cs)
+script_text p cs = flat_map line_text (opening p ∷ cs)

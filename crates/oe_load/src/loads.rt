@@ -19,7 +19,7 @@ use oe_plans::Plan;
 use oe_population::populate;
 use oe_ports::output::{flush, make_room};
 use oe_ports::ports::{Failed, Outlet};
-use oe_rows::Scale;
+use oe_rows::{Layout, Scale};
 use oe_terms::words;
 use oe_texts::{LONGEST, Pending, SIZE};
 use oe_values::{NoMemory, Terminal};
@@ -141,7 +141,7 @@ fn opened(alloc: Global, plan: &Plan) -> Result<Core, NoMemory>
 {
     scale_holds(&plan.numbers.scale);
     match populate(alloc, plan.numbers.scale) {
-        Ok(tables) => Core::open(alloc, tables, plan.numbers.extents),
+        Ok(tables) => Core::open(alloc, tables, plan.numbers.extents, Layout::WholeRows),
         Err(e) => Err(e),
     }
 }

@@ -10,6 +10,7 @@ use Rattle.std.proofs.lemmas.List.Elements.{All-get_or}
 use Rattle.std.proofs.lemmas.List.{length-map, length-set, get_or-set_same, get_or-set_other, get_or_read, set-get_or}
 use Rattle.std.proofs.lemmas.List.{length-replicate, get_or_past}
 use Rattle.oe_values.specs.declared.numbers.TheConstants.{TERMINALS}
+use Rattle.oe_rows.specs.declared.layouts.Layout.{Layout}
 use Rattle.oe_extent.specs.Ring as ring
 use Rattle.oe_log.specs.Records.{Logged}
 use Rattle.oe_log.specs.Strings.{records_in}
@@ -30,8 +31,13 @@ use Rattle.oe_log.proofs.ZipFacts.{seen_other, commits-length, commits-take, com
 use Rattle.oe_log.proofs.ZipFacts.{commits-owner, head_owner}
 
 -- what is seen of lists of records beside their heads
-abbrev pub seen_as : List TerminalHead → List Head → RecordLists → SegmentLog
-seen_as hs cs l = record { terminals = states hs l.active; committed = commits cs l.committed; extents = l.extents }
+abbrev pub seen_as : Layout → List TerminalHead → List Head → RecordLists → SegmentLog
+seen_as y hs cs l = record {
+  terminals = states hs l.active;
+  committed = commits cs l.committed;
+  extents = l.extents;
+  layout = y;
+}
 
 -- heads stand beside the records of each
 pub record AreBeside (hs : List TerminalHead) (cs : List Head) (active committed : List (List Logged)) : Type 0 where
@@ -49,10 +55,11 @@ pub record Keeps (hs : List TerminalHead) (cs : List Head) (capacity : ℕ) (l :
   pub records : AreBeside hs cs l.active l.committed
 
 -- and they are seen so
-pub record Stands (hs : List TerminalHead) (cs : List Head) (capacity : ℕ) (l : RecordLists) (v : SegmentLog) : Type
+pub record Stands (y : Layout) (hs : List TerminalHead) (cs : List Head) (capacity : ℕ) (l : RecordLists)
+    (v : SegmentLog) : Type
     0 where
   pub kept : Keeps hs cs capacity l
-  pub view : seen_as hs cs l ≡ v
+  pub view : seen_as y hs cs l ≡ v
 
 -- all that is kept, where the records lie in the ring
 pub inside : {hs : List TerminalHead} {cs : List Head} {capacity : ℕ} {r : ring.RingStrings} {opens newest : ℕ}
@@ -80,7 +87,8 @@ past_all [] later e = omega arith
 past_all (c ∷ cs) zero e = let no : ⊥ = cc in absurd no
 past_all (c ∷ cs) (suc later) e = omega (arith, past_all cs later e)
 
-module _ {hs : List TerminalHead} {cs : List Head} {capacity : ℕ} {l : RecordLists} (K : Keeps hs cs capacity l) where
+module _ (y : Layout) {hs : List TerminalHead} {cs : List Head} {capacity : ℕ} {l : RecordLists}
+    (K : Keeps hs cs capacity l) where
   pub as_many : length l.active ≡ length hs
   as_many = K.records.slots ∙ sym K.heads.size
 
@@ -90,33 +98,33 @@ module _ {hs : List TerminalHead} {cs : List Head} {capacity : ℕ} {l : RecordL
   pub is_head : (t : ℕ) (x : TerminalHead) → t ≤ 64 → x ≡ get_or hs t x → x ≡ head_at hs t
   is_head t x high read = get_or_read hs t x (within t high) read idle_head
 
-  pub total_is : seen.total_count (seen_as hs cs l) ≡ l.newest
+  pub total_is : seen.total_count (seen_as y hs cs l) ≡ l.newest
   total_is = states-total hs l.active as_many ∙ sym K.heads.moments
 
-  pub opens_is : seen.open_total (seen_as hs cs l) ≡ l.opens
+  pub opens_is : seen.open_total (seen_as y hs cs l) ≡ l.opens
   opens_is = states-opens hs l.active as_many ∙ sym K.heads.opens_are
 
-  pub records_are : (t : ℕ) → seen.records_at (seen_as hs cs l) t ≡ log.records_at l t
+  pub records_are : (t : ℕ) → seen.records_at (seen_as y hs cs l) t ≡ log.records_at l t
   records_are t = ap (λ (s : TerminalState). seen.records_in s.active) (states-at hs l.active t as_many)
       ∙ seen_records (log.records_at l t) (head_at hs t).active (K.records.empty t)
 
-  pub count_is : (t : ℕ) → seen.count_at (seen_as hs cs l) t ≡ (head_at hs t).count
+  pub count_is : (t : ℕ) → seen.count_at (seen_as y hs cs l) t ≡ (head_at hs t).count
   count_is t = ap (λ (s : TerminalState). s.count) (states-at hs l.active t as_many)
 
-  pub seen_size : length (seen_as hs cs l).terminals ≡ 65
+  pub seen_size : length (seen_as y hs cs l).terminals ≡ 65
   seen_size = states-length hs l.active as_many ∙ K.heads.size
 
-  pub seen_commits : length (seen_as hs cs l).committed ≡ length cs
+  pub seen_commits : length (seen_as y hs cs l).committed ≡ length cs
   seen_commits = commits-length cs l.committed K.records.one_by_one
 
-  pub seen_committed : seen.committed_records (seen_as hs cs l) ≡ l.committed
+  pub seen_committed : seen.committed_records (seen_as y hs cs l) ≡ l.committed
   seen_committed = commits-records cs l.committed K.records.one_by_one
 
   open_as : (rs : List Logged) (a : Option SegmentOwner) → is_some (option_map (open_with rs) a) ≡ is_some a
   open_as rs None = refl
   open_as rs (Some n) = refl
 
-  pub open_is : (t : ℕ) → is_some (seen.active_at (seen_as hs cs l) t) ≡ is_some (head_at hs t).active
+  pub open_is : (t : ℕ) → is_some (seen.active_at (seen_as y hs cs l) t) ≡ is_some (head_at hs t).active
   open_is t = ap (λ (s : TerminalState). is_some s.active) (states-at hs l.active t as_many)
       ∙ open_as (log.records_at l t) (head_at hs t).active
 
@@ -133,7 +141,7 @@ module _ {hs : List TerminalHead} {cs : List Head} {capacity : ℕ} {l : RecordL
   none_as rs (Some n) h = cc
 
   -- a terminal whose segment is seen open has it open
-  pub some_open : (t : ℕ) → IsSome (seen.active_at (seen_as hs cs l) t) → IsSome (head_at hs t).active
+  pub some_open : (t : ℕ) → IsSome (seen.active_at (seen_as y hs cs l) t) → IsSome (head_at hs t).active
   some_open t h = some_as (log.records_at l t) (head_at hs t).active
       (subst (λ (s : TerminalState). IsSome s.active) (states-at hs l.active t as_many) h)
 
@@ -147,7 +155,7 @@ module _ {hs : List TerminalHead} {cs : List Head} {capacity : ℕ} {l : RecordL
             (ap (λ (z : TerminalHead). z.active) (get_or_past hs t idle_head past)))
       ]
 
-  pub none_open : (t : ℕ) → seen.active_at (seen_as hs cs l) t ≡ None → (head_at hs t).active ≡ None
+  pub none_open : (t : ℕ) → seen.active_at (seen_as y hs cs l) t ≡ None → (head_at hs t).active ≡ None
   none_open t h = none_as (log.records_at l t) (head_at hs t).active
       (ap (λ (s : TerminalState). s.active) (sym (states-at hs l.active t as_many)) ∙ h)
 
@@ -209,36 +217,36 @@ module _ {hs : List TerminalHead} {cs : List Head} {capacity : ℕ} {l : RecordL
 
   -- a commit that does not say that it deletes has no record of a deleted row
   pub told_deletes : (later : ℕ) (c : Head) → slice_get cs later ≡ Some c → c.deletes ≡ false
-      → DeletesNothing (model_records (get_or (seen.committed_records (seen_as hs cs l)) later []))
+      → DeletesNothing (model_records (get_or (seen.committed_records (seen_as y hs cs l)) later []))
   told_deletes later c found none =
       subst (λ (rss : List (List Logged)). DeletesNothing (model_records (get_or rss later []))) (sym seen_committed)
       (K.records.commit_deletes later c found none)
 
   -- and so has none past the last
   pub none_past : (later : ℕ) → None ≡ slice_get cs later
-      → DeletesNothing (model_records (get_or (seen.committed_records (seen_as hs cs l)) later []))
+      → DeletesNothing (model_records (get_or (seen.committed_records (seen_as y hs cs l)) later []))
   none_past later past =
-      let all : length (seen.committed_records (seen_as hs cs l)) ≤ later =
+      let all : length (seen.committed_records (seen_as y hs cs l)) ≤ later =
       (let n = ap length seen_committed in let m = K.records.one_by_one in let q = past_all cs later past in
       omega arith) in
-      none_deleted _ (get_or_past (seen.committed_records (seen_as hs cs l)) later [] all)
+      none_deleted _ (get_or_past (seen.committed_records (seen_as y hs cs l)) later [] all)
 
   -- ---- what calls ask for
 
-  pub some_opens : (u : ℕ) → IsSome (seen.active_at (seen_as hs cs l) u) → 0 < l.opens
+  pub some_opens : (u : ℕ) → IsSome (seen.active_at (seen_as y hs cs l) u) → 0 < l.opens
   some_opens u some =
       let active = some_open u some in
       heads.some_open hs cs capacity l.newest l.opens u K.heads (known u active) active
 
-  pub few_opens : (t u : ℕ) → t ≡ u → 1 ≤ t → t ≤ 64 → seen.active_at (seen_as hs cs l) u ≡ None → l.opens < 64
+  pub few_opens : (t u : ℕ) → t ≡ u → 1 ≤ t → t ≤ 64 → seen.active_at (seen_as y hs cs l) u ≡ None → l.opens < 64
   few_opens t u tu low high none =
       heads.few_open hs cs capacity l.newest l.opens t K.heads low high
-      (none_open t (ap (λ z. seen.active_at (seen_as hs cs l) z) tu ∙ none))
+      (none_open t (ap (λ z. seen.active_at (seen_as y hs cs l) z) tu ∙ none))
 
   pub below_count : (t u n : ℕ) (x : TerminalHead) → t ≡ u → t ≤ 64 → x ≡ get_or hs t x
-      → seen.count_at (seen_as hs cs l) u < n → x.count < n
+      → seen.count_at (seen_as y hs cs l) u < n → x.count < n
   below_count t u n x tu high read less =
-      subst (λ k. k < n) (ap (λ z. seen.count_at (seen_as hs cs l) z) (sym tu) ∙ count_is t
+      subst (λ k. k < n) (ap (λ z. seen.count_at (seen_as y hs cs l) z) (sym tu) ∙ count_is t
       ∙ ap (λ z. z.count) (sym (is_head t x high read))) less
 
   pub below_open : (t : ℕ) (x : TerminalHead) (a : SegmentOwner) → t ≤ 64 → x ≡ get_or hs t x → x.active ≡ Some a
@@ -247,21 +255,21 @@ module _ {hs : List TerminalHead} {cs : List Head} {capacity : ℕ} {l : RecordL
       (heads.is_of hs cs capacity l.newest l.opens t x a K.heads (is_head t x high read) active).below
 
   pub never_none : (t u : ℕ) (x : TerminalHead) → t ≡ u → t ≤ 64 → x ≡ get_or hs t x
-      → IsSome (seen.active_at (seen_as hs cs l) u) → x.active ≡ None → ⊥
+      → IsSome (seen.active_at (seen_as y hs cs l) u) → x.active ≡ None → ⊥
   never_none t u x tu high read some none =
       open_not_none (head_at hs t).active
-      (some_open t (subst (λ z. IsSome (seen.active_at (seen_as hs cs l) z)) (sym tu) some))
+      (some_open t (subst (λ z. IsSome (seen.active_at (seen_as y hs cs l) z)) (sym tu) some))
       (ap (λ z. z.active) (sym (is_head t x high read)) ∙ none)
 
   -- the open transaction of a terminal is its next
   pub owner_is : (t u : ℕ) (x : TerminalHead) (a : SegmentOwner) → t ≡ u → t ≤ 64 → x ≡ get_or hs t x
       → x.active ≡ Some a
-      → a ≡ record { terminal = u; number = suc (seen.count_at (seen_as hs cs l) u) }
+      → a ≡ record { terminal = u; number = suc (seen.count_at (seen_as y hs cs l) u) }
   owner_is t u x a tu high read active =
       let is = is_head t x high read in
       let of = heads.is_of hs cs capacity l.newest l.opens t x a K.heads is active in
-      let count : x.count ≡ seen.count_at (seen_as hs cs l) u =
-      ap (λ z. z.count) is ∙ sym (count_is t) ∙ ap (λ z. seen.count_at (seen_as hs cs l) z) tu in
+      let count : x.count ≡ seen.count_at (seen_as y hs cs l) u =
+      ap (λ z. z.count) is ∙ sym (count_is t) ∙ ap (λ z. seen.count_at (seen_as y hs cs l) z) tu in
       λ i. record { terminal = (of.terminal ∙ tu) i; number = (of.number ∙ ap suc count) i }
 
   pub moment_fits : l.newest < 999_999_999_999
@@ -269,7 +277,7 @@ module _ {hs : List TerminalHead} {cs : List Head} {capacity : ℕ} {l : RecordL
 
   -- a commit's number
   pub number_is : (n : ℕ) (d : Head) → Some d ≡ slice_get cs n
-      → d.number + seen.commits_of d.terminal (take n (commits cs l.committed)) ≡ seen.count_at (seen_as hs cs l)
+      → d.number + seen.commits_of d.terminal (take n (commits cs l.committed)) ≡ seen.count_at (seen_as y hs cs l)
       d.terminal
   number_is n d found =
       ap (λ k. d.number + k) (commits-count d.terminal n cs l.committed K.records.one_by_one)
@@ -287,7 +295,7 @@ module _ {hs : List TerminalHead} {cs : List Head} {capacity : ℕ} {l : RecordL
 
   pub oldest_found : (now : Option Head) → now ≡ slice_get cs (length cs - 1)
       → option_map head_owner now ≡ option_map seen.owner_of
-      (slice_get (seen_as hs cs l).committed (length (seen_as hs cs l).committed - 1))
+      (slice_get (seen_as y hs cs l).committed (length (seen_as y hs cs l).committed - 1))
   oldest_found now found =
       owner_found now (length cs - 1) found
       ∙ ap (λ n. option_map seen.owner_of (slice_get (commits cs l.committed) (n - 1)))
@@ -297,19 +305,19 @@ module _ {hs : List TerminalHead} {cs : List Head} {capacity : ℕ} {l : RecordL
 
   pub opened : (t u capacity' more : ℕ) (x : TerminalHead) (b : SegmentOwner) (hs' : List TerminalHead)
       (cs' : List Head) (l' : RecordLists)
-      → t ≡ u → 1 ≤ t → t ≤ 64 → x ≡ get_or hs t x → seen.active_at (seen_as hs cs l) u ≡ None
-      → seen.count_at (seen_as hs cs l) u < 4_294_967_295
+      → t ≡ u → 1 ≤ t → t ≤ 64 → x ≡ get_or hs t x → seen.active_at (seen_as y hs cs l) u ≡ None
+      → seen.count_at (seen_as y hs cs l) u < 4_294_967_295
       → b.terminal ≡ u → b.number ≡ x.count + 1
       → hs' ≡ set hs t (record { count = x.count; active = Some b; deletes = false; len = x.len }) → cs' ≡ cs
       → more ≡ l.opens + 1 → length cs' + more ≤ capacity' → l' ≡ log.opened l
-      → Stands hs' cs' capacity' l' (seen.opened (seen_as hs cs l) u)
+      → Stands y hs' cs' capacity' l' (seen.opened (seen_as y hs cs l) u)
   opened t u capacity' more x b hs' cs' l' tu low high read none below whose which eh ec em room el =
       let is = is_head t x high read in
       let closed : (head_at hs t).active ≡ None =
-      none_open t (ap (λ z. seen.active_at (seen_as hs cs l) z) tu ∙ none) in
+      none_open t (ap (λ z. seen.active_at (seen_as y hs cs l) z) tu ∙ none) in
       let few : (head_at hs t).count < 4_294_967_295 = subst (λ n. n < 4_294_967_295)
-      (ap (λ z. seen.count_at (seen_as hs cs l) z) (sym tu) ∙ count_is t) below in
-      let b_is : b ≡ record { terminal = t; number = suc (seen.count_at (seen_as hs cs l) t) } =
+      (ap (λ z. seen.count_at (seen_as y hs cs l) z) (sym tu) ∙ count_is t) below in
+      let b_is : b ≡ record { terminal = t; number = suc (seen.count_at (seen_as y hs cs l) t) } =
       (λ i. record {
         terminal = (whose ∙ sym tu) i;
         number = (which ∙ one_more x.count ∙ ap suc (ap (λ z. z.count) is ∙ sym (count_is t))) i;
@@ -332,7 +340,7 @@ module _ {hs : List TerminalHead} {cs : List Head} {capacity : ℕ} {l : RecordL
             commit_deletes = K.records.commit_deletes;
           };
         };
-        view = ap (λ z. record (seen_as hs cs l) { terminals = z })
+        view = ap (λ z. record (seen_as y hs cs l) { terminals = z })
             (head_set t h ∙ (λ i. set (states hs l.active) t
             (record {
               count = (ap (λ z. z.count) is ∙ sym (count_is t)) i;
@@ -344,14 +352,14 @@ module _ {hs : List TerminalHead} {cs : List Head} {capacity : ℕ} {l : RecordL
       one_more n = omega arith
 
   pub dropped : (t u : ℕ) (x : TerminalHead) (hs' : List TerminalHead) (l' : RecordLists)
-      → t ≡ u → 1 ≤ t → t ≤ 64 → x ≡ get_or hs t x → IsSome (seen.active_at (seen_as hs cs l) u)
-      → seen.records_at (seen_as hs cs l) u ≡ []
+      → t ≡ u → 1 ≤ t → t ≤ 64 → x ≡ get_or hs t x → IsSome (seen.active_at (seen_as y hs cs l) u)
+      → seen.records_at (seen_as y hs cs l) u ≡ []
       → hs' ≡ set hs t (record { count = x.count; active = None; deletes = x.deletes; len = x.len }) → l' ≡ log.closed l
-      → Stands hs' cs capacity l' (seen.dropped (seen_as hs cs l) u)
+      → Stands y hs' cs capacity l' (seen.dropped (seen_as y hs cs l) u)
   dropped t u x hs' l' tu low high read some none eh el =
       let is = is_head t x high read in
-      let active = some_open t (subst (λ z. IsSome (seen.active_at (seen_as hs cs l) z)) (sym tu) some) in
-      let empty : log.records_at l t ≡ [] = sym (records_are t) ∙ ap (λ z. seen.records_at (seen_as hs cs l) z) tu
+      let active = some_open t (subst (λ z. IsSome (seen.active_at (seen_as y hs cs l) z)) (sym tu) some) in
+      let empty : log.records_at l t ≡ [] = sym (records_are t) ∙ ap (λ z. seen.records_at (seen_as y hs cs l) z) tu
       ∙ none in
       let h : TerminalHead = record { count = x.count; active = None; deletes = x.deletes; len = x.len } in
       rw (eh, el, ← tu)
@@ -368,7 +376,7 @@ module _ {hs : List TerminalHead} {cs : List Head} {capacity : ℕ} {l : RecordL
             commit_deletes = K.records.commit_deletes;
           };
         };
-        view = ap (λ z. record (seen_as hs cs l) { terminals = z })
+        view = ap (λ z. record (seen_as y hs cs l) { terminals = z })
             (head_set t h ∙ (λ i. set (states hs l.active) t
             (record { count = (ap (λ z. z.count) is ∙ sym (count_is t)) i; active = None })));
       }
@@ -377,8 +385,8 @@ module _ {hs : List TerminalHead} {cs : List Head} {capacity : ℕ} {l : RecordL
   recorded : (t : ℕ) (x : TerminalHead) (m : Bool) (n : ℕ) (rs : List Logged) → 1 ≤ t → t ≤ 64 → x ≡ head_at hs t
       → IsSome (head_at hs t).active
       → (m ≡ false → DeletesNothing (model_records rs))
-      → Stands (set hs t (head_told x m n)) cs capacity (log.with_records l t rs)
-      (seen.with_records (seen_as hs cs l) t rs)
+      → Stands y (set hs t (head_told x m n)) cs capacity (log.with_records l t rs)
+      (seen.with_records (seen_as y hs cs l) t rs)
   recorded t x m n rs low high is some none =
       let h = head_told x m n in
       record {
@@ -393,7 +401,7 @@ module _ {hs : List TerminalHead} {cs : List Head} {capacity : ℕ} {l : RecordL
             commit_deletes = K.records.commit_deletes;
           };
         };
-        view = ap (λ z. record (seen_as hs cs l) { terminals = z })
+        view = ap (λ z. record (seen_as y hs cs l) { terminals = z })
             (terminals_set t h rs ∙ (λ i. set (states hs l.active) t
             (record {
               count = (ap (λ z. z.count) is ∙ sym (count_is t)) i;
@@ -406,25 +414,25 @@ module _ {hs : List TerminalHead} {cs : List Head} {capacity : ℕ} {l : RecordL
 
   pub pushed : (t u : ℕ) (x : TerminalHead) (m : Bool) (n : ℕ) (r : Logged) (l' : RecordLists) → t ≡ u → 1 ≤ t → t ≤ 64
       → x ≡ get_or hs t x
-      → IsSome (seen.active_at (seen_as hs cs l) u) → (m ≡ false → x.deletes ≡ false)
+      → IsSome (seen.active_at (seen_as y hs cs l) u) → (m ≡ false → x.deletes ≡ false)
       → (m ≡ false → deleted_new_order r.before ≡ None) → l' ≡ log.pushed l t r
-      → Stands (set hs t (head_told x m n)) cs capacity l' (seen.pushed (seen_as hs cs l) u r)
+      → Stands y (set hs t (head_told x m n)) cs capacity l' (seen.pushed (seen_as y hs cs l) u r)
   pushed t u x m n r l' tu low high read some before none el =
       let is = is_head t x high read in
       rw (el, ← tu, records_are t)
       (recorded t x m n (r ∷ log.records_at l t) low high is
-      (some_open t (subst (λ z. IsSome (seen.active_at (seen_as hs cs l) z)) (sym tu) some))
+      (some_open t (subst (λ z. IsSome (seen.active_at (seen_as y hs cs l) z)) (sym tu) some))
       (λ e. (none e, K.records.open_deletes t (ap (λ z. z.deletes) (sym is) ∙ before e))))
 
   -- the newest record of an open segment is taken off
   pub popped : (t u : ℕ) (x : TerminalHead) (n : ℕ) (l' : RecordLists) → t ≡ u → 1 ≤ t → t ≤ 64 → x ≡ get_or hs t x
-      → IsSome (seen.active_at (seen_as hs cs l) u) → l' ≡ log.popped l t
-      → Stands (set hs t (head_told x x.deletes n)) cs capacity l' (seen.popped (seen_as hs cs l) u)
+      → IsSome (seen.active_at (seen_as y hs cs l) u) → l' ≡ log.popped l t
+      → Stands y (set hs t (head_told x x.deletes n)) cs capacity l' (seen.popped (seen_as y hs cs l) u)
   popped t u x n l' tu low high read some el =
       let is = is_head t x high read in
       rw (el, ← tu, records_are t)
       (recorded t x x.deletes n (drop 1 (log.records_at l t)) low high is
-      (some_open t (subst (λ z. IsSome (seen.active_at (seen_as hs cs l) z)) (sym tu) some))
+      (some_open t (subst (λ z. IsSome (seen.active_at (seen_as y hs cs l) z)) (sym tu) some))
       (λ e. fewer (log.records_at l t) (K.records.open_deletes t (ap (λ z. z.deletes) (sym is) ∙ e))))
     where
       fewer : (rs : List Logged) → DeletesNothing (model_records rs) → DeletesNothing (model_records (drop 1 rs))
@@ -432,9 +440,9 @@ module _ {hs : List TerminalHead} {cs : List Head} {capacity : ℕ} {l : RecordL
       fewer (r ∷ rs) h = h.1
 
   -- where it has none, there is nothing to be taken off
-  pub none_popped : (u : ℕ) → seen.records_at (seen_as hs cs l) u ≡ []
-      → seen_as hs cs l ≡ seen.popped (seen_as hs cs l) u
-  none_popped u none = sym (states_of.none_popped (seen_as hs cs l) u none)
+  pub none_popped : (u : ℕ) → seen.records_at (seen_as y hs cs l) u ≡ []
+      → seen_as y hs cs l ≡ seen.popped (seen_as y hs cs l) u
+  none_popped u none = sym (states_of.none_popped (seen_as y hs cs l) u none)
 
   -- ---- commits
 
@@ -445,13 +453,13 @@ module _ {hs : List TerminalHead} {cs : List Head} {capacity : ℕ} {l : RecordL
       → hs' ≡ set hs t (record { count = m; active = left; deletes = x.deletes; len = 0 }) → cs' ≡ d ∷ cs
       → capacity' ≡ capacity
       → l' ≡ log.sealed l t
-      → Stands hs' cs' capacity' l' (seen.sealed (seen_as hs cs l) u d.request d.reply)
+      → Stands y hs' cs' capacity' l' (seen.sealed (seen_as y hs cs l) u d.request d.reply)
   sealed t u m x a left d capacity' hs' cs' l' tu low high read active none more whose which says eh ec ecap el =
       let is = is_head t x high read in
       let of = heads.is_of hs cs capacity l.newest l.opens t x a K.heads is active in
       let count : m ≡ suc x.count = more ∙ one_more x.count in
       let h : TerminalHead = record { count = suc x.count; active = None; deletes = x.deletes; len = 0 } in
-      let counted : x.count ≡ seen.count_at (seen_as hs cs l) t = ap (λ z. z.count) is ∙ sym (count_is t) in
+      let counted : x.count ≡ seen.count_at (seen_as y hs cs l) t = ap (λ z. z.count) is ∙ sym (count_is t) in
       let heads' = heads.sealed hs cs capacity l.newest l.opens capacity (suc l.newest) t x x.deletes 0 a d K.heads low
       high is active whose which refl refl in
       rw (eh, ec, ecap, el, ← tu, none, count)
@@ -477,6 +485,7 @@ module _ {hs : List TerminalHead} {cs : List Head} {capacity : ℕ} {l : RecordL
             records = sym (records_are t) i;
           } ∷ commits cs l.committed;
           extents = l.extents;
+          layout = y;
         };
       }
     where
@@ -490,7 +499,7 @@ module _ {hs : List TerminalHead} {cs : List Head} {capacity : ℕ} {l : RecordL
 
   pub cut : (m capacity' : ℕ) (cs' : List Head) (l' : RecordLists) → m ≡ length cs → cs' ≡ take (m - 1) cs
       → capacity' ≡ capacity → l' ≡ log.without_oldest l
-      → Stands hs cs' capacity' l' (seen.with_newest (length (seen_as hs cs l).committed - 1) (seen_as hs cs l))
+      → Stands y hs cs' capacity' l' (seen.with_newest (length (seen_as y hs cs l).committed - 1) (seen_as y hs cs l))
   cut m capacity' cs' l' em ec ecap el =
       let n : ℕ = length cs - 1 in
       let fewer : length l.committed - 1 ≡ n = ap (λ z. z - 1) K.records.one_by_one in
@@ -512,7 +521,7 @@ module _ {hs : List TerminalHead} {cs : List Head} {capacity : ℕ} {l : RecordL
                 (K.records.commit_deletes later c (heads.found_in_front cs n later c found) e);
           };
         };
-        view = ap (λ z. record (seen_as hs cs l) { committed = z }) (commits-take n cs l.committed);
+        view = ap (λ z. record (seen_as y hs cs l) { committed = z }) (commits-take n cs l.committed);
       }
     where
       fewer_commits : (n : ℕ) (rss : List (List Logged)) (later : ℕ)
@@ -532,8 +541,8 @@ module _ {hs : List TerminalHead} {cs : List Head} {capacity : ℕ} {l : RecordL
       both_taken (suc n) (rs ∷ rss) (d ∷ ds) e = ap suc (both_taken n rss ds (omega (arith, e)))
 
 -- the newest commit is opened again
-module _ (hs : List TerminalHead) (d : Head) (cs : List Head) (rs : List Logged) (rss : List (List Logged))
-    (capacity extents opens newest : ℕ) (active : List (List Logged))
+module _ (y : Layout) (hs : List TerminalHead) (d : Head) (cs : List Head) (rs : List Logged)
+    (rss : List (List Logged)) (capacity extents opens newest : ℕ) (active : List (List Logged))
     (K : Keeps hs (d ∷ cs) capacity
     (record { extents = extents; opens = opens; active = active; committed = rs ∷ rss; newest = newest })) where
   abbrev below : RecordLists
@@ -541,12 +550,13 @@ module _ (hs : List TerminalHead) (d : Head) (cs : List Head) (rs : List Logged)
 
   reopened_at : (t n : ℕ) (x : TerminalHead) (b : SegmentOwner)
       → 1 ≤ t → t ≤ 64 → d.terminal ≡ t → x ≡ get_or hs t x → (head_at hs t).active ≡ None → b ≡ head_owner d
-      → Stands (set hs t (record { count = x.count - 1; active = Some b; deletes = d.deletes; len = n })) cs capacity
+      → Stands y (set hs t (record { count = x.count - 1; active = Some b; deletes = d.deletes; len = n })) cs capacity
       (log.reopened below t)
-      (seen.reopened (seen_as hs (d ∷ cs) below) (seen_as hs (d ∷ cs) below).committed)
+      (seen.reopened (seen_as y hs (d ∷ cs) below) (seen_as y hs (d ∷ cs) below).committed)
   reopened_at t n x b low high whose read closed same =
-      let is = is_head K t x high read in
-      let counted : x.count ≡ seen.count_at (seen_as hs (d ∷ cs) below) t = ap (λ z. z.count) is ∙ sym (count_is K t) in
+      let is = is_head y K t x high read in
+      let counted : x.count ≡ seen.count_at (seen_as y hs (d ∷ cs) below) t = ap (λ z. z.count) is ∙ sym
+      (count_is y K t) in
       let h : TerminalHead = record { count = x.count - 1; active = Some b; deletes = d.deletes; len = n } in
       record {
         kept = record {
@@ -555,8 +565,8 @@ module _ (hs : List TerminalHead) (d : Head) (cs : List Head) (rs : List Logged)
           records = record {
             slots = length-set active t rs ∙ K.records.slots;
             one_by_one = let both : suc (length rss) ≡ suc (length cs) = K.records.one_by_one in omega arith;
-            empty = empty_still K t h rs high (λ e. cc);
-            open_deletes = deletes_still K t h rs high (λ e. K.records.commit_deletes 0 d refl e);
+            empty = empty_still y K t h rs high (λ e. cc);
+            open_deletes = deletes_still y K t h rs high (λ e. K.records.commit_deletes 0 d refl e);
             commit_deletes = λ later c found e. K.records.commit_deletes (suc later) c found e;
           };
         };
@@ -564,15 +574,16 @@ module _ (hs : List TerminalHead) (d : Head) (cs : List Head) (rs : List Logged)
           terminals = (states-set hs active t h rs
               ∙ (λ j. set (states hs active) (sym whose j)
               (record {
-                count = (counted ∙ ap (λ z. seen.count_at (seen_as hs (d ∷ cs) below) z) (sym whose)) j - 1;
+                count = (counted ∙ ap (λ z. seen.count_at (seen_as y hs (d ∷ cs) below) z) (sym whose)) j - 1;
                 active = Some (open_with rs (same j));
               }))) i;
           committed = commits cs rss;
           extents = extents;
+          layout = y;
         };
       }
 
-pub reopened : (hs hs' : List TerminalHead) (cs cs' : List Head) (d : Head)
+pub reopened : (y : Layout) (hs hs' : List TerminalHead) (cs cs' : List Head) (d : Head)
     (capacity capacity' extents opens newest : ℕ) (active committed : List (List Logged)) (t u n : ℕ) (x : TerminalHead)
     (m : Bool) (b : SegmentOwner) (l' : RecordLists)
     → Keeps hs cs capacity
@@ -587,30 +598,33 @@ pub reopened : (hs hs' : List TerminalHead) (cs cs' : List Head) (d : Head)
       committed = committed;
       newest = newest;
     }) t
-    → Stands hs' cs' capacity' l'
-    (seen.reopened (seen_as hs cs
+    → Stands y hs' cs' capacity' l'
+    (seen.reopened (seen_as y hs cs
     (record { extents = extents; opens = opens; active = active; committed = committed; newest = newest })) (commits
     cs committed))
-reopened hs hs' cs cs' d capacity capacity' extents opens newest active [] t u n x m b l' K ec ecap tu low high whose
+reopened y hs hs' cs cs' d capacity capacity' extents opens newest active [] t u n x m b l' K ec ecap tu low high whose
     read closed same says eh el =
     absurd (let none : 0 ≡ length cs = K.records.one_by_one in omega (arith, none, ap length ec))
-reopened hs hs' cs cs' d capacity capacity' extents opens newest active (rs ∷ rss) t u n x m b l' K ec ecap tu low high
+reopened y hs hs' cs cs' d capacity capacity' extents opens newest active (rs ∷ rss) t u n x m b l' K ec ecap tu low
+    high
     whose read closed same says eh el =
     let l : RecordLists =
     record { extents = extents; opens = opens; active = active; committed = rs ∷ rss; newest = newest } in
     let now : hs' ≡ set hs t (record { count = x.count - 1; active = Some b; deletes = d.deletes; len = n }) =
     eh ∙ ap (λ z. set hs t (record { count = x.count - 1; active = Some b; deletes = z; len = n })) says in
     rw (now, ecap, el)
-    (subst (λ ds. Stands (set hs t (record { count = x.count - 1; active = Some b; deletes = d.deletes; len = n })) cs'
-    capacity (log.reopened l t) (seen.reopened (seen_as hs ds l) (commits ds (rs ∷ rss)))) (sym ec)
-    (reopened_at hs d cs' rs rss capacity extents opens newest active (subst (λ ds. Keeps hs ds capacity l) ec K) t n x
+    (subst (λ ds. Stands y (set hs t (record { count = x.count - 1; active = Some b; deletes = d.deletes; len = n }))
+    cs'
+    capacity (log.reopened l t) (seen.reopened (seen_as y hs ds l) (commits ds (rs ∷ rss)))) (sym ec)
+    (reopened_at y hs d cs' rs rss capacity extents opens newest active (subst (λ ds. Keeps hs ds capacity l) ec K) t n
+    x
     b low high (whose ∙ sym tu) read closed same))
 
 -- a new log, and no terminal's state
-new_at : (m e k : ℕ) (hs : List TerminalHead) → m ≡ 65 → AreHeads hs [] k 0 0 → hs ≡ replicate m idle_head
-    → Stands hs [] k (record { extents = e; opens = 0; active = replicate m []; committed = []; newest = 0 })
-    (record { terminals = replicate m seen.idle; committed = []; extents = e })
-new_at m e k hs size H eh =
+new_at : (y : Layout) (m e k : ℕ) (hs : List TerminalHead) → m ≡ 65 → AreHeads hs [] k 0 0 → hs ≡ replicate m idle_head
+    → Stands y hs [] k (record { extents = e; opens = 0; active = replicate m []; committed = []; newest = 0 })
+    (record { terminals = replicate m seen.idle; committed = []; extents = e; layout = y })
+new_at y m e k hs size H eh =
     record {
       kept = record {
         heads = H;
@@ -622,7 +636,7 @@ new_at m e k hs size H eh =
           commit_deletes = λ later c found e. let no : ⊥ = cc in absurd no;
         };
       };
-      view = ap (λ z. record { terminals = z; committed = []; extents = e })
+      view = ap (λ z. record { terminals = z; committed = []; extents = e; layout = y })
           (ap (λ ks. states ks (replicate m [])) eh ∙ all_idle m);
     }
   where
@@ -635,9 +649,10 @@ new_at m e k hs size H eh =
     none_at (suc m) zero = refl
     none_at (suc m) (suc t) = none_at m t
 
-pub new_is : (e k : ℕ) (hs : List TerminalHead) (cs : List Head) (l : RecordLists) → hs ≡ idle_heads → cs ≡ []
+pub new_is : (y : Layout) (e k : ℕ) (hs : List TerminalHead) (cs : List Head) (l : RecordLists) → hs ≡ idle_heads → cs ≡
+    []
     → l ≡ log.no_records e
-    → Stands hs cs k l (seen.no_segments e)
+    → Stands y hs cs k l (seen.no_segments e y)
 unfolding idle_heads no_lists idle_terminals
-new_is e k hs cs l eh ec el =
-    rw (ec, el) (new_at 65 e k hs refl (subst (λ ks. AreHeads ks [] k 0 0) (sym eh) (heads.first k)) eh)
+new_is y e k hs cs l eh ec el =
+    rw (ec, el) (new_at y 65 e k hs refl (subst (λ ks. AreHeads ks [] k 0 0) (sym eh) (heads.first k)) eh)

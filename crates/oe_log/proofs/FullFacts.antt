@@ -4,6 +4,7 @@ use Rattle.std.specs.List.{sum_by}
 use Rattle.std.proofs.lemmas.List.Sums.{sum_by-cons}
 use Rattle.oe_extent.specs.declared.extents.Address.{Address}
 use Rattle.oe_extent.specs.Ring as ring
+use Rattle.oe_rows.specs.declared.layouts.Layout.{Layout}
 use Rattle.oe_log.specs.Records.{Logged, lengths, StandElsewhere}
 use Rattle.oe_log.specs.Strings.{record_address, records_in}
 use Rattle.oe_log.specs.Log.{TerminalState, records_in as seen_in, records_of, records_at, IsFull, IsFresh}
@@ -32,14 +33,14 @@ sum_seen see (x ∷ xs) =
       sum_by-cons (λ x. extents_of (see x)) x xs,
     )
 
-module _ {hs : List TerminalHead} {cs : List Head} {capacity : ℕ} {r : ring.RingStrings} {opens newest : ℕ}
-    (K : IsKept hs cs capacity r opens newest) where
+module _ (y : Layout) {hs : List TerminalHead} {cs : List Head} {capacity : ℕ} {r : ring.RingStrings}
+    {opens newest : ℕ} (K : IsKept hs cs capacity r opens newest) where
   same_active : sum_by (λ ss. (ring.filled (ring.lengths_of ss)).0) r.active ≡ sum_by (λ s. extents_of (recs s))
       (states hs (map records_in r.active))
   same_active =
       sym (same_used r.active K.lie.active_are)
       ∙ ap (λ rss. sum_by (λ (rs : List Logged). extents_of rs) rss)
-      (sym (states-records hs (map records_in r.active) (as_many (inside K)) K.empty))
+      (sym (states-records hs (map records_in r.active) (as_many y (inside K)) K.empty))
       ∙ sum_seen recs (states hs (map records_in r.active))
 
   same_committed : sum_by (λ ss. (ring.filled (ring.lengths_of ss)).0) r.committed ≡ sum_by
@@ -50,25 +51,25 @@ module _ {hs : List TerminalHead} {cs : List Head} {capacity : ℕ} {r : ring.Ri
       (sym (commits-records cs (map records_in r.committed) (inside K).records.one_by_one))
       ∙ sum_seen records_of (commits cs (map records_in r.committed))
 
-  same_rest : (t : ℕ) → (ring.filled (lengths (records_at (stored hs cs r) t))).1
+  same_rest : (t : ℕ) → (ring.filled (lengths (records_at (stored y hs cs r) t))).1
       ≡ (ring.filled (ring.lengths_of (get_or r.active t []))).1
   same_rest t =
-      ap (λ (rs : List Logged). (ring.filled (lengths rs)).1) (records_are (inside K) t ∙ at_slot r.active t)
+      ap (λ (rs : List Logged). (ring.filled (lengths rs)).1) (records_are y (inside K) t ∙ at_slot r.active t)
       ∙ ap (λ (ls : List ℕ). (ring.filled ls).1)
       (lengths_are (get_or r.active t []) (are_at r.active t K.lie.active_are))
 
-  pub full_here : (t n : ℕ) → ring.IsFull r t n → IsFull (stored hs cs r) t n
+  pub full_here : (t n : ℕ) → ring.IsFull r t n → IsFull (stored y hs cs r) t n
   full_here t n f = (omega (arith, f.0, same_rest t), omega (arith, f.1, same_active, same_committed))
 
-  pub full_there : (t n : ℕ) → IsFull (stored hs cs r) t n → ring.IsFull r t n
+  pub full_there : (t n : ℕ) → IsFull (stored y hs cs r) t n → ring.IsFull r t n
   full_there t n f = (omega (arith, f.0, same_rest t), omega (arith, f.1, same_active, same_committed))
 
-  pub fresh : (a : Address) → ring.IsFresh r a → IsFresh (stored hs cs r) (record_address a)
+  pub fresh : (a : Address) → ring.IsFresh r a → IsFresh (stored y hs cs r) (record_address a)
   fresh a f = record {
-    active = λ t. subst (StandElsewhere (record_address a)) (sym (records_are (inside K) t))
+    active = λ t. subst (StandElsewhere (record_address a)) (sym (records_are y (inside K) t))
         (all_elsewhere a r.active K.lie.active_are f.active t);
     committed = λ later.
         subst (λ (rss : List (List Logged)). StandElsewhere (record_address a) (get_or rss later []))
-        (sym (seen_committed (inside K)))
+        (sym (seen_committed y (inside K)))
         (all_elsewhere a r.committed K.lie.committed_are f.committed later);
   }

@@ -5,6 +5,7 @@ use Rattle.std.specs.Option.{IsSome}
 use Rattle.std.proofs.lemmas.List.{length-map, map-set, get_or-map, set-get_or}
 use Rattle.oe_extent.specs.declared.extents.Address.{Address}
 use Rattle.oe_extent.specs.Ring as ring
+use Rattle.oe_rows.specs.declared.layouts.Layout.{Layout}
 use Rattle.oe_layout.specs.declared.links.Previous.{Previous}
 use Rattle.oe_layout.specs.declared.loans.LentRecord.{LentRecord}
 use Rattle.oe_layout.specs.Links.{IsPrevious}
@@ -26,16 +27,18 @@ use Rattle.oe_log.proofs.CallFacts as calls
 use Rattle.oe_log.proofs.CallFacts.{inside, head_told}
 
 -- the log keeps its promise, and is seen so
-pub record Stands (hs : List TerminalHead) (cs : List Head) (capacity : ℕ) (r : ring.RingStrings) (opens newest : ℕ)
+pub record Stands (y : Layout) (hs : List TerminalHead) (cs : List Head) (capacity : ℕ) (r : ring.RingStrings)
+    (opens newest : ℕ)
     (v : SegmentLog) : Type 0 where
   pub kept : IsKept hs cs capacity r opens newest
-  pub view : stored hs cs r ≡ v
+  pub view : stored y hs cs r ≡ v
 
-both : (hs : List TerminalHead) (cs : List Head) (capacity : ℕ) (r : ring.RingStrings) (opens newest : ℕ)
+both : (y : Layout) (hs : List TerminalHead) (cs : List Head) (capacity : ℕ) (r : ring.RingStrings) (opens newest : ℕ)
     (v : SegmentLog)
-    → calls.Stands hs cs capacity (lists_of r opens newest) v → HoldsRecords r (lens_of hs) (committed_lens_of cs) opens
-    → Stands hs cs capacity r opens newest v
-both hs cs capacity r opens newest v s h = record {
+    → calls.Stands y hs cs capacity (lists_of r opens newest) v → HoldsRecords r (lens_of hs) (committed_lens_of cs)
+    opens
+    → Stands y hs cs capacity r opens newest v
+both y hs cs capacity r opens newest v s h = record {
   kept = record {
     heads = s.kept.heads;
     lie = h;
@@ -75,10 +78,10 @@ moved r ls cls ls' cls' opens room' opens' k el ec h = record {
   room = h;
 }
 
-module _ {hs : List TerminalHead} {cs : List Head} {capacity : ℕ} {r : ring.RingStrings} {opens newest : ℕ}
-    (K : IsKept hs cs capacity r opens newest) where
+module _ (y : Layout) {hs : List TerminalHead} {cs : List Head} {capacity : ℕ} {r : ring.RingStrings}
+    {opens newest : ℕ} (K : IsKept hs cs capacity r opens newest) where
   pub within : (t : ℕ) → t ≤ 64 → t < length hs
-  within t high = calls.within (inside K) t high
+  within t high = calls.within y (inside K) t high
 
   pub within_slots : (t : ℕ) → t ≤ 64 → t < length r.active
   within_slots t high = let slots : length r.active ≡ 65 = K.lie.slots in omega arith
@@ -89,34 +92,41 @@ module _ {hs : List TerminalHead} {cs : List Head} {capacity : ℕ} {r : ring.Ri
       (len_there hs t x (within t high) read)
 
   pub len_is : (t u : ℕ) (x : TerminalHead) → t ≡ u → t ≤ 64 → x ≡ get_or hs t x
-      → x.len ≡ length (seen.records_at (stored hs cs r) u)
+      → x.len ≡ length (seen.records_at (stored y hs cs r) u)
   len_is t u x tu high read =
       lists.len_is newest K.lie t x.len (omega (arith, high)) (len_there hs t x (within t high) read)
-      ∙ ap length (sym (calls.records_are (inside K) t)) ∙ ap (λ z. length (seen.records_at (stored hs cs r) z)) tu
+      ∙ ap length (sym (calls.records_are y (inside K) t)) ∙ ap (λ z. length (seen.records_at (stored y hs cs r) z)) tu
 
   -- where the head says none, there is none
   pub none_newest : (t u : ℕ) (x : TerminalHead) → t ≡ u → t ≤ 64 → x ≡ get_or hs t x → x.len ≡ 0
-      → None ≡ newest_of (seen.records_at (stored hs cs r) u)
-  none_newest t u x tu high read none = lists.none_there (seen.records_at (stored hs cs r) u)
+      → None ≡ newest_of (seen.records_at (stored y hs cs r) u)
+  none_newest t u x tu high read none = lists.none_there (seen.records_at (stored y hs cs r) u)
       (sym (len_is t u x tu high read) ∙ none)
 
   -- each commit that is seen has its strings
-  pub commit_there : (later : ℕ) → later < length (stored hs cs r).committed → later < length r.committed
+  pub commit_there : (later : ℕ) → later < length (stored y hs cs r).committed → later < length r.committed
   commit_there later h =
-      omega (arith, h, calls.seen_commits (inside K), (inside K).records.one_by_one, length-map r.committed records_in)
+      omega (
+        arith,
+        h,
+        calls.seen_commits y (inside K),
+        (inside K).records.one_by_one,
+        length-map r.committed
+            records_in,
+      )
 
   -- as many moments before the newest as commits are kept
   pub horizon_value : (n m : ℕ) → m ≡ length cs → n ≡ newest - m
-      → n + length (stored hs cs r).committed ≡ seen.total_count (stored hs cs r)
+      → n + length (stored y hs cs r).committed ≡ seen.total_count (stored y hs cs r)
   horizon_value n m em en =
-      let size : length (stored hs cs r).committed ≡ length cs = calls.seen_commits (inside K) in
-      let total : seen.total_count (stored hs cs r) ≡ newest = calls.total_is (inside K) in
+      let size : length (stored y hs cs r).committed ≡ length cs = calls.seen_commits y (inside K) in
+      let total : seen.total_count (stored y hs cs r) ≡ newest = calls.total_is y (inside K) in
       let kept : length cs ≤ newest = K.heads.kept in
       omega (arith, size, total, kept, em, en)
 
   -- a terminal without an open segment has no strings
-  pub strings_none : (t : ℕ) → seen.active_at (stored hs cs r) t ≡ None → get_or r.active t [] ≡ []
-  strings_none t none = commits.empty_slot newest K.lie t (K.empty t (calls.none_open (inside K) t none))
+  pub strings_none : (t : ℕ) → seen.active_at (stored y hs cs r) t ≡ None → get_or r.active t [] ≡ []
+  strings_none t none = commits.empty_slot newest K.lie t (K.empty t (calls.none_open y (inside K) t none))
 
   -- where there is a commit, there are strings of one, and a moment before it
   pub some_strings : (d : Head) (cs' : List Head) → cs ≡ d ∷ cs' → 0 < length r.committed
@@ -128,7 +138,7 @@ module _ {hs : List TerminalHead} {cs : List Head} {capacity : ℕ} {r : ring.Ri
   -- another list of commits, and room for more in the ring
   pub same : (capacity' room' : ℕ) (cs' : List Head) (r' : ring.RingStrings) → cs' ≡ cs → length cs' + opens ≤ capacity'
       → r' ≡ record r { room = room' } → opens ≤ room'
-      → Stands hs cs' capacity' r' opens newest (stored hs cs r)
+      → Stands y hs cs' capacity' r' opens newest (stored y hs cs r)
   same capacity' room' cs' r' ec spare er room =
       rw (ec, er)
       record {
@@ -156,18 +166,18 @@ module _ {hs : List TerminalHead} {cs : List Head} {capacity : ℕ} {r : ring.Ri
 
   pub opened : (t u capacity' more room' : ℕ) (x : TerminalHead) (b : SegmentOwner) (hs' : List TerminalHead)
       (cs' : List Head) (r' : ring.RingStrings)
-      → t ≡ u → 1 ≤ t → t ≤ 64 → x ≡ get_or hs t x → seen.active_at (stored hs cs r) u ≡ None
-      → seen.count_at (stored hs cs r) u < 4_294_967_295
+      → t ≡ u → 1 ≤ t → t ≤ 64 → x ≡ get_or hs t x → seen.active_at (stored y hs cs r) u ≡ None
+      → seen.count_at (stored y hs cs r) u < 4_294_967_295
       → b.terminal ≡ u → b.number ≡ x.count + 1
       → hs' ≡ set hs t (record { count = x.count; active = Some b; deletes = false; len = x.len }) → cs' ≡ cs
       → more ≡ opens + 1 → length cs' + more ≤ capacity' → r' ≡ record r { room = room' } → more ≤ room'
-      → Stands hs' cs' capacity' r' more newest (seen.opened (stored hs cs r) u)
+      → Stands y hs' cs' capacity' r' more newest (seen.opened (stored y hs cs r) u)
   opened t u capacity' more room' x b hs' cs' r' tu low high read none below whose which eh ec em spare er room =
       let h : TerminalHead = record { count = x.count; active = Some b; deletes = false; len = x.len } in
       let lists_are : lists_of r' more newest ≡ log.opened (lists_of r opens newest) =
       (λ i. lists_of (er i) ((em ∙ one_more opens) i) newest) in
-      both hs' cs' capacity' r' more newest (seen.opened (stored hs cs r) u)
-      (calls.opened (inside K) t u capacity' more x b hs' cs' (lists_of r' more newest) tu low high read none below
+      both y hs' cs' capacity' r' more newest (seen.opened (stored y hs cs r) u)
+      (calls.opened y (inside K) t u capacity' more x b hs' cs' (lists_of r' more newest) tu low high read none below
       whose which eh ec em spare lists_are)
       (subst (λ z. HoldsRecords z (lens_of hs') (committed_lens_of cs') more) (sym er)
       (moved r (lens_of hs) (committed_lens_of cs) (lens_of hs') (committed_lens_of cs') opens room' more K.lie
@@ -177,30 +187,30 @@ module _ {hs : List TerminalHead} {cs : List Head} {capacity : ℕ} {r : ring.Ri
       one_more n = omega arith
 
   pub dropped : (t u : ℕ) (x : TerminalHead) (hs' : List TerminalHead)
-      → t ≡ u → 1 ≤ t → t ≤ 64 → x ≡ get_or hs t x → IsSome (seen.active_at (stored hs cs r) u)
-      → seen.records_at (stored hs cs r) u ≡ []
+      → t ≡ u → 1 ≤ t → t ≤ 64 → x ≡ get_or hs t x → IsSome (seen.active_at (stored y hs cs r) u)
+      → seen.records_at (stored y hs cs r) u ≡ []
       → hs' ≡ set hs t (record { count = x.count; active = None; deletes = x.deletes; len = x.len })
-      → Stands hs' cs capacity r (opens - 1) newest (seen.dropped (stored hs cs r) u)
+      → Stands y hs' cs capacity r (opens - 1) newest (seen.dropped (stored y hs cs r) u)
   dropped t u x hs' tu low high read some none eh =
       let h : TerminalHead = record { count = x.count; active = None; deletes = x.deletes; len = x.len } in
-      both hs' cs capacity r (opens - 1) newest (seen.dropped (stored hs cs r) u)
-      (calls.dropped (inside K) t u x hs' (lists_of r (opens - 1) newest) tu low high read some none eh refl)
+      both y hs' cs capacity r (opens - 1) newest (seen.dropped (stored y hs cs r) u)
+      (calls.dropped y (inside K) t u x hs' (lists_of r (opens - 1) newest) tu low high read some none eh refl)
       (moved r (lens_of hs) (committed_lens_of cs) (lens_of hs') (committed_lens_of cs) opens r.room (opens - 1) K.lie
       (ap lens_of eh ∙ lens_same hs t x h (within t high) read refl) refl (omega (arith, K.lie.room)))
 
   pub pushed : (t u : ℕ) (x : TerminalHead) (m : Bool) (a : Address) (p : Previous) (l : LentRecord)
       (r' : ring.RingStrings) → t ≡ u → 1 ≤ t → t ≤ 64 → x ≡ get_or hs t x
-      → IsSome (seen.active_at (stored hs cs r) u) → (m ≡ false → x.deletes ≡ false)
+      → IsSome (seen.active_at (stored y hs cs r) u) → (m ≡ false → x.deletes ≡ false)
       → (m ≡ false → deleted_new_order (record_of_lent l) ≡ None)
       → IsPrevious p → IsInRanges (record_of_lent l) → r' ≡ ring.pushed_at r t a (record_image p (record_of_lent l))
-      → Stands (set hs t (head_told x m (x.len + 1))) cs capacity r' opens newest
-      (seen.pushed (stored hs cs r) u (logged (record_address a) p (record_of_lent l)))
+      → Stands y (set hs t (head_told x m (x.len + 1))) cs capacity r' opens newest
+      (seen.pushed (stored y hs cs r) u (logged (record_address a) p (record_of_lent l)))
   pushed t u x m a p l r' tu low high read some before none hp hb er =
       let there = lists.pushed newest K.lie t x.len r' a p l (omega (arith, high))
       (len_there hs t x (within t high) read) hp hb er in
-      let v = seen.pushed (stored hs cs r) u (logged (record_address a) p (record_of_lent l)) in
-      both (set hs t (head_told x m (x.len + 1))) cs capacity r' opens newest v
-      (calls.pushed (inside K) t u x m (x.len + 1) (logged (record_address a) p (record_of_lent l))
+      let v = seen.pushed (stored y hs cs r) u (logged (record_address a) p (record_of_lent l)) in
+      both y (set hs t (head_told x m (x.len + 1))) cs capacity r' opens newest v
+      (calls.pushed y (inside K) t u x m (x.len + 1) (logged (record_address a) p (record_of_lent l))
       (lists_of r' opens newest) tu low high read some before none there.view)
       (subst (λ (ls : List ℕ). HoldsRecords r' ls (committed_lens_of cs) opens)
       (sym (lens_set hs t (head_told x m (x.len + 1)))) there.kept)
@@ -215,21 +225,21 @@ module _ {hs : List TerminalHead} {cs : List Head} {capacity : ℕ} {r : ring.Ri
       er used
 
   pub popped : (t u n : ℕ) (x : TerminalHead) (r' : ring.RingStrings) → t ≡ u → 1 ≤ t → t ≤ 64 → x ≡ get_or hs t x
-      → IsSome (seen.active_at (stored hs cs r) u) → n ≡ x.len - 1 → r' ≡ ring.popped_at r t
-      → Stands (set hs t (head_told x x.deletes n)) cs capacity r' opens newest (seen.popped (stored hs cs r) u)
+      → IsSome (seen.active_at (stored y hs cs r) u) → n ≡ x.len - 1 → r' ≡ ring.popped_at r t
+      → Stands y (set hs t (head_told x x.deletes n)) cs capacity r' opens newest (seen.popped (stored y hs cs r) u)
   popped t u n x r' tu low high read some en er =
       let there = lists.popped newest K.lie t x.len r' (omega (arith, high)) (len_there hs t x (within t high) read)
       er in
-      both (set hs t (head_told x x.deletes n)) cs capacity r' opens newest (seen.popped (stored hs cs r) u)
-      (calls.popped (inside K) t u x n (lists_of r' opens newest) tu low high read some there.view)
+      both y (set hs t (head_told x x.deletes n)) cs capacity r' opens newest (seen.popped (stored y hs cs r) u)
+      (calls.popped y (inside K) t u x n (lists_of r' opens newest) tu low high read some there.view)
       (subst (λ (ls : List ℕ). HoldsRecords r' ls (committed_lens_of cs) opens)
       (sym (lens_set hs t (head_told x x.deletes n) ∙ ap (set (lens_of hs) t) en)) there.kept)
 
   pub not_popped : (t u : ℕ) (x : TerminalHead) → t ≡ u → t ≤ 64 → x ≡ get_or hs t x → x.len ≡ 0
-      → stored hs cs r ≡ seen.popped (stored hs cs r) u
+      → stored y hs cs r ≡ seen.popped (stored y hs cs r) u
   not_popped t u x tu high read none =
-      calls.none_popped (inside K) u
-      (lists.none_of (seen.records_at (stored hs cs r) u) (sym (len_is t u x tu high read) ∙ none))
+      calls.none_popped y (inside K) u
+      (lists.none_of (seen.records_at (stored y hs cs r) u) (sym (len_is t u x tu high read) ∙ none))
 
   -- ---- commits
 
@@ -241,7 +251,7 @@ module _ {hs : List TerminalHead} {cs : List Head} {capacity : ℕ} {r : ring.Ri
       → capacity' ≡ capacity
       → r' ≡ record (ring.sealed_at r t) { room = room' } → room' + 1 ≡ r.room → newest' ≡ newest + 1
       → opens' ≡ opens - 1 → 0 < opens
-      → Stands hs' cs' capacity' r' opens' newest' (seen.sealed (stored hs cs r) u d.request d.reply)
+      → Stands y hs' cs' capacity' r' opens' newest' (seen.sealed (stored y hs cs r) u d.request d.reply)
   sealed t u m k newest' opens' room' x a left d capacity' hs' cs' r' tu low high read active none more whose which says
       long eh ek ec ecap er room en eo some =
       let emptied : hs' ≡ set hs t (record { count = m; active = left; deletes = x.deletes; len = 0 }) =
@@ -250,8 +260,8 @@ module _ {hs : List TerminalHead} {cs : List Head} {capacity : ℕ} {r : ring.Ri
       (omega (arith, high)) (len_there hs t x (within t high) read) some
       er room (ap lens_of emptied ∙ lens_set hs t _)
       (ap committed_lens_of ec ∙ ap (λ (n : ℕ). n ∷ committed_lens_of cs) long) eo (en ∙ one_more newest) in
-      both hs' cs' capacity' r' opens' newest' (seen.sealed (stored hs cs r) u d.request d.reply)
-      (calls.sealed (inside K) t u m x a left d capacity' hs' cs' (lists_of r' opens' newest') tu low high read active
+      both y hs' cs' capacity' r' opens' newest' (seen.sealed (stored y hs cs r) u d.request d.reply)
+      (calls.sealed y (inside K) t u m x a left d capacity' hs' cs' (lists_of r' opens' newest') tu low high read active
       none more whose which says emptied ec ecap there.view)
       there.kept
     where
@@ -261,16 +271,17 @@ module _ {hs : List TerminalHead} {cs : List Head} {capacity : ℕ} {r : ring.Ri
   pub cut : (m room' capacity' : ℕ) (cs' : List Head) (r' : ring.RingStrings) → m ≡ length cs → cs' ≡ take (m - 1) cs
       → capacity' ≡ capacity
       → r' ≡ ring.without_oldest r room' → ring.capacity_of r' ≡ ring.capacity_of r
-      → Stands hs cs' capacity' r' opens newest
-      (seen.with_newest (length (stored hs cs r).committed - 1) (stored hs cs r))
+      → Stands y hs cs' capacity' r' opens newest
+      (seen.with_newest (length (stored y hs cs r).committed - 1) (stored y hs cs r))
   cut m room' capacity' cs' r' em ec ecap er room =
       let taken : committed_lens_of cs' ≡ take (length (committed_lens_of cs) - 1) (committed_lens_of cs) =
       ap committed_lens_of (ec ∙ ap (λ n. take (n - 1) cs) em) ∙ commits.take_map (λ (c : Head). c.len) (length cs - 1)
       cs
       ∙ ap (λ n. take (n - 1) (committed_lens_of cs)) (sym (length-map cs (λ (c : Head). c.len))) in
       let there = commits.without_oldest newest K.lie room' r' (committed_lens_of cs') er room taken in
-      both hs cs' capacity' r' opens newest (seen.with_newest (length (stored hs cs r).committed - 1) (stored hs cs r))
-      (calls.cut (inside K) m capacity' cs' (lists_of r' opens newest) em ec ecap there.view) there.kept
+      both y hs cs' capacity' r' opens newest (seen.with_newest (length (stored y hs cs r).committed - 1)
+      (stored y hs cs r))
+      (calls.cut y (inside K) m capacity' cs' (lists_of r' opens newest) em ec ecap there.view) there.kept
 
   pub reopened : (hs' : List TerminalHead) (cs' : List Head) (d : Head) (capacity' room' newest' opens' t u n : ℕ)
       (x : TerminalHead) (m : Bool) (b : SegmentOwner) (r' : ring.RingStrings)
@@ -280,14 +291,14 @@ module _ {hs : List TerminalHead} {cs : List Head} {capacity : ℕ} {r : ring.Ri
       → hs' ≡ set hs t (record { count = x.count - 1; active = Some b; deletes = m; len = n })
       → r' ≡ record (ring.reopened_at r t) { room = room' } → ring.capacity_of r' ≡ ring.capacity_of r
       → newest' ≡ newest - 1 → opens' ≡ opens + 1
-      → Stands hs' cs' capacity' r' opens' newest' (seen.reopened (stored hs cs r) (stored hs cs r).committed)
+      → Stands y hs' cs' capacity' r' opens' newest' (seen.reopened (stored y hs cs r) (stored y hs cs r).committed)
   reopened hs' cs' d capacity' room' newest' opens' t u n x m b r' ec ecap tu low high whose read closed same says long
       eh er room en eo =
       let there = commits.reopened newest K.lie t d.len room' opens' newest' r' (lens_of hs') (committed_lens_of cs')
       (ap committed_lens_of ec) er room
       (ap lens_of eh ∙ lens_set hs t _ ∙ ap (set (lens_of hs) t) long) (eo ∙ one_more opens) en in
-      both hs' cs' capacity' r' opens' newest' (seen.reopened (stored hs cs r) (stored hs cs r).committed)
-      (calls.reopened hs hs' cs cs' d capacity capacity' r.extents opens newest (map records_in r.active)
+      both y hs' cs' capacity' r' opens' newest' (seen.reopened (stored y hs cs r) (stored y hs cs r).committed)
+      (calls.reopened y hs hs' cs cs' d capacity capacity' r.extents opens newest (map records_in r.active)
       (map records_in r.committed) t u n x m b (lists_of r' opens' newest') (inside K)
       ec ecap tu low high whose read closed same says eh there.view) there.kept
     where
@@ -299,13 +310,14 @@ idle_lens : (n : ℕ) → lens_of (replicate n idle_head) ≡ replicate n 0
 idle_lens zero = refl
 idle_lens (suc n) = ap (λ (l : List ℕ). 0 ∷ l) (idle_lens n)
 
-pub new_is : (extents room capacity : ℕ) (hs : List TerminalHead) (cs : List Head) (r : ring.RingStrings)
+pub new_is : (y : Layout) (extents room capacity : ℕ) (hs : List TerminalHead) (cs : List Head) (r : ring.RingStrings)
     → extents ≤ 4096 → hs ≡ idle_heads → cs ≡ []
-    → r ≡ record (ring.no_strings extents 65) { room = room } → Stands hs cs capacity r 0 0 (seen.no_segments extents)
+    → r ≡ record (ring.no_strings extents 65) { room = room } → Stands y hs cs capacity r 0 0
+    (seen.no_segments extents y)
 unfolding idle_heads no_lists
-new_is extents room capacity hs cs r most eh ec er =
+new_is y extents room capacity hs cs r most eh ec er =
     let there = lists.new_at 65 extents room r refl most er in
-    both hs cs capacity r 0 0 (seen.no_segments extents)
-    (calls.new_is extents capacity hs cs (lists_of r 0 0) eh ec there.view)
+    both y hs cs capacity r 0 0 (seen.no_segments extents y)
+    (calls.new_is y extents capacity hs cs (lists_of r 0 0) eh ec there.view)
     (subst (λ (ls : List ℕ). HoldsRecords r ls (committed_lens_of cs) 0) (sym (ap lens_of eh ∙ idle_lens 65))
     (subst (λ (ls : List ℕ). HoldsRecords r (replicate 65 0) ls 0) (sym (ap committed_lens_of ec)) there.kept))

@@ -5,6 +5,7 @@ use mathlib.Core.Path.{fun_ext}
 use Rattle.std.proofs.lemmas.Bool.{cases_eq, cases_lt, eq-eqb, ne_eqb, cond-true, cond-false}
 use Rattle.std.proofs.lemmas.List.{get_or-set_same, get_or-set_other, get_or_past, get_or-replicate, length-replicate}
 use Rattle.std.proofs.lemmas.List.{set_past, take-map}
+use Rattle.oe_rows.specs.declared.layouts.Layout.{Layout}
 use Rattle.oe_requests.specs.declared.requests.Request.{Request}
 use Rattle.oe_requests.specs.declared.replies.Reply.{Reply}
 use Rattle.oe_model.specs.Changes.{Record}
@@ -35,6 +36,7 @@ alike v t s records counts =
       undo = λ i. record { active = λ u. active u i; history = (undo_of v).history };
       seals = refl;
       counts = fun_ext (seen_same see_count v.terminals t s counts);
+      layout = refl;
     }
 
 pub opens : (v : SegmentLog) (t : ℕ) → active_at v t ≡ None → StandAlike (opened v t) v
@@ -62,6 +64,7 @@ seals v t o q y is =
       undo = λ i. record { active = λ u. active u i; history = (undo_of v).active t ∷ (undo_of v).history };
       seals = refl;
       counts = fun_ext (seen_set see_count v.terminals t s (known v t o is));
+      layout = refl;
     }
 
 pub drops : (v : SegmentLog) (t : ℕ) → records_at v t ≡ [] → StandAlike (dropped v t) v
@@ -75,6 +78,7 @@ cuts v n =
       undo = λ i. record { active = (undo_of v).active; history = history i };
       seals = sym (take-map seal_of n v.committed);
       counts = refl;
+      layout = refl;
     }
 
 minus_none : (n : ℕ) → n ≡ n - 0
@@ -123,6 +127,7 @@ reopens v c cs e within =
       seals = ap (λ z. drop 1 (map seal_of z)) (sym e);
       counts = fun_ext (λ u. less_counted v c a u
           ∙ ap (λ z. count_at v u - commit_count system u (take 1 (map seal_of z))) (sym e));
+      layout = refl;
     })
 
 pub idle_at : (n t : ℕ) → get_or (replicate n idle) t idle ≡ idle
@@ -131,10 +136,10 @@ idle_at n t = elim (cases_lt t n) [
   | inr h ↦ get_or_past (replicate n idle) t idle (subst (λ z. z ≤ t) (sym (length-replicate n idle)) h)
 ]
 
-pub begun : (e : ℕ) → (undo_of (no_segments e) ≡ no_records system) × (seals_of (no_segments e) ≡ [])
-    × (counts_of (no_segments e) ≡ (λ t. 0))
+pub begun : (e : ℕ) (l : Layout) → (undo_of (no_segments e l) ≡ no_records system) × (seals_of (no_segments e l) ≡ [])
+    × (counts_of (no_segments e l) ≡ (λ t. 0))
 unfolding idle_terminals
-begun e = (
+begun e l = (
   λ i. record { active = λ t. see_records (idle_at 65 t i); history = [] },
   refl,
   fun_ext

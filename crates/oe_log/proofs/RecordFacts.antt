@@ -1,6 +1,6 @@
 -- Strings of the ring that are records.
 use Rattle.std.proofs.Common.{◌≡◌, ℕ, zero, suc, ◌<◌, List, [], ◌∷◌, length, map, drop, get_or, set, Option, Some}
-use Rattle.std.proofs.Common.{option_map, refl, sym, ap, ◌∙◌, subst, arith}
+use Rattle.std.proofs.Common.{refl, sym, ap, ◌∙◌, subst, arith}
 use Rattle.std.specs.List.{AllByRecursion}
 use Rattle.oe_extent.specs.declared.extents.Address.{Address}
 use Rattle.oe_extent.specs.Ring as ring
@@ -14,8 +14,8 @@ use Rattle.oe_layout.specs.declared.loans.LentRecord.TheVariants as lent
 use Rattle.oe_model.specs.Lengths.{record_length}
 use Rattle.oe_layout.specs.Links.{IsPrevious}
 use Rattle.oe_layout.specs.Records.{record_image, record_of_own, record_of_lent, IsInRanges}
-use Rattle.oe_layout.specs.RecordFronts.{record_at, ReadsRecord}
-use Rattle.oe_layout.specs.Stored.{IsStoredRecord}
+use Rattle.oe_layout.specs.RecordFronts.{record_at}
+use Rattle.oe_layout.specs.Stored.{IsStoredRecord, IsToldLinked}
 use Rattle.oe_layout.proofs.LengthFacts.{record_long}
 use Rattle.oe_layout.proofs.RecordFacts.{record_finds}
 use Rattle.oe_log.specs.Records.{Logged, newest_of, lengths, StandElsewhere}
@@ -37,6 +37,12 @@ owned (lent.UpdatedOrder k x) = (own.UpdatedOrder k x.now, refl)
 owned (lent.UpdatedOrderLine k x) = (own.UpdatedOrderLine k x.now, refl)
 owned (lent.UpdatedStock k x) = (own.UpdatedStock k x.now, refl)
 owned (lent.DeletedNewOrder k) = (own.DeletedNewOrder k, refl)
+owned (lent.ChangedWarehouse k c) = (own.ChangedWarehouse k c.now, refl)
+owned (lent.ChangedDistrict k c) = (own.ChangedDistrict k c.now, refl)
+owned (lent.ChangedCustomer k c) = (own.ChangedCustomer k c.now, refl)
+owned (lent.ChangedOrder k c) = (own.ChangedOrder k c.now, refl)
+owned (lent.ChangedOrderLine k c) = (own.ChangedOrderLine k c.now, refl)
+owned (lent.ChangedStock k c) = (own.ChangedStock k c.now, refl)
 
 -- what was lent is a record, once it is written
 pub written_is : (p : Previous) (l : LentRecord) → IsPrevious p → IsInRanges (record_of_lent l)
@@ -108,21 +114,17 @@ pub none_in : (ss : List (ring.Addressed)) → AreRecords ss → records_in ss �
 none_in [] h e = refl
 none_in (s ∷ ss) h e = absurd (let size = ap length (sym (seen s ss h.0) ∙ e) in omega (arith, size))
 
--- the newest string is read as the newest record
-newest_read : (bytes : List ℕ) (r : Option (Previous × OwnRecord)) (h : IsStoredRecord bytes) → ReadsRecord bytes r
-    → r ≡ Some (h.previous, h.before)
-newest_read bytes r h reads = reads.finds h.previous h.before h.link h.ranges h.image
+-- the newest string is the newest record
+pub newest_stored : (ss : List (ring.Addressed)) (bytes : List ℕ) → AreRecords ss → 0 < length ss
+    → bytes ≡ ring.newest_bytes ss → IsStoredRecord bytes
+newest_stored [] bytes h some e = absurd (omega (arith, some))
+newest_stored (s ∷ ss) bytes h some e = subst IsStoredRecord (sym e) h.0
 
-abbrev told : Option (Previous × OwnRecord) → Option (Previous × Record)
-told r = option_map (λ x. (x.0, record_of_own x.1)) r
-
-pub newest_is : (ss : List (ring.Addressed)) (bytes : List ℕ) (r : Option (Previous × OwnRecord)) → AreRecords ss
-    → 0 < length ss
-    → ring.newest_bytes ss ≡ bytes → ReadsRecord bytes r → told r ≡ newest_of (records_in ss)
-newest_is [] bytes r h some e reads = absurd (omega (arith, some))
-newest_is (s ∷ ss) bytes r h some e reads =
-    let here : ReadsRecord s.bytes r = subst (λ (b : List ℕ). ReadsRecord b r) (sym e) reads in
-    ap told (newest_read s.bytes r h.0 here) ∙ sym (ap newest_of (seen s ss h.0))
+pub newest_is : (ss : List (ring.Addressed)) (bytes : List ℕ) (x : Previous × Record) → AreRecords ss → 0 < length ss
+    → bytes ≡ ring.newest_bytes ss → IsToldLinked bytes x → Some x ≡ newest_of (records_in ss)
+newest_is [] bytes x h some e told = absurd (omega (arith, some))
+newest_is (s ∷ ss) bytes x h some e told =
+    ap Some (told h.0.previous h.0.before h.0.link h.0.ranges (e ∙ h.0.image)) ∙ sym (ap newest_of (seen s ss h.0))
 
 -- ---- addresses
 

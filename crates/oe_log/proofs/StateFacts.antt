@@ -100,7 +100,7 @@ own_records v t =
     (record { count = count_at v t; active = with_those (records_at v t) (active_at v t) }) ≡ v.terminals =
     ap (λ a. set v.terminals t (record { count = count_at v t; active = a })) (own_are (active_at v t))
     ∙ set-get_or v.terminals t idle in
-    λ i. record { terminals = states i; committed = v.committed; extents = v.extents }
+    λ i. record v { terminals = states i }
 
 -- without the newest of them
 pub one_popped : (v : SegmentLog) (t : ℕ) (o : Open) (rs : List Logged) → active_at v t ≡ Some o
@@ -114,7 +114,7 @@ one_popped v t o rs e =
     set_twice v.terminals t s (less (get_or (set v.terminals t s) t idle))
     ∙ ap (λ z. set v.terminals t (less z)) (get_or-set_same v.terminals t s idle (known v t o e))
     ∙ ap (λ a. set v.terminals t (record { count = count_at v t; active = a })) (one_less rs (active_at v t)) in
-    λ i. record { terminals = states i; committed = v.committed; extents = v.extents }
+    λ i. record v { terminals = states i }
 
 -- a record that is pushed and popped leaves the log as it was
 pub pushed_popped : (v : SegmentLog) (t : ℕ) (o : Open) (r : Logged) → active_at v t ≡ Some o
@@ -140,4 +140,5 @@ records_stand v t o rs e =
       undo = λ i. record { active = λ u. active u i; history = (undo_of v).history };
       seals = refl;
       counts = fun_ext (seen_same (λ z. z.count) v.terminals t s refl);
+      layout = refl;
     }

@@ -6,30 +6,30 @@ use Rattle.std.specs.List.{sum_by}
 use Rattle.std.proofs.lemmas.List.{take_all}
 use Rattle.std.proofs.lemmas.List.Sums.{sum_by_more, sum_by-cons}
 use Rattle.oe_model.specs.Lengths.{record_length}
-use Rattle.oe_model.specs.System.{machine, InExtents, length_in, terminal_limit}
+use Rattle.oe_model.specs.System.{system, size_of, terminal_limit}
 use Rattle.oe_theory.specs.Next as theory
 use Rattle.oe_theory.specs.Undo.{lengths_of, used_open, used_commits}
 use Rattle.oe_extent.specs.Ring as ring
 use Rattle.oe_log.specs.Records.{Logged, lengths}
 use Rattle.oe_log.specs.Log.{SegmentLog, TerminalState, Committed, idle, records_in, records_at, IsFull}
-use Rattle.oe_log.specs.Stands.{model_records, undo_in}
+use Rattle.oe_log.specs.Stands.{model_records, undo_of}
 use Rattle.oe_log.specs.Laws.{IsFullIn}
 
 -- strings fill extents as the theory's records do
-same_filled : (ls : List ℕ) → theory.filled (machine InExtents) ls ≡ ring.filled ls
+same_filled : (ls : List ℕ) → theory.filled system ls ≡ ring.filled ls
 same_filled [] = refl
 same_filled (l ∷ ls) = ap (λ (f : ℕ × ℕ). cond {A = ℕ × ℕ} (nat_le l f.1) (f.0, f.1 - l) (suc f.0, 4096 - l))
     (same_filled ls)
 
 -- the machine's lengths are the log's
-same_lengths : (rs : List Logged) → lengths_of (machine InExtents) (model_records rs) ≡ lengths rs
-unfolding length_in
+same_lengths : (rs : List Logged) → lengths_of system (model_records rs) ≡ lengths rs
+unfolding size_of
 same_lengths [] = refl
 same_lengths (r ∷ rs) = ap (λ ls. record_length r.before ∷ ls) (same_lengths rs)
 
-pub same_room : (rs : List Logged) → theory.filled (machine InExtents)
-    (lengths_of (machine InExtents) (model_records rs)) ≡ ring.filled (lengths rs)
-same_room rs = same_filled (lengths_of (machine InExtents) (model_records rs))
+pub same_room : (rs : List Logged) → theory.filled system
+    (lengths_of system (model_records rs)) ≡ ring.filled (lengths rs)
+same_room rs = same_filled (lengths_of system (model_records rs))
     ∙ ap (λ (ls : List ℕ). ring.filled ls) (same_lengths rs)
 
 abbrev extents_of : List Logged → ℕ
@@ -40,7 +40,7 @@ recs s = records_in s.active
 
 -- of the open segments of the terminals below n
 used_below : (ts : List TerminalState) (n : ℕ) → n ≤ length ts
-    → used_open (machine InExtents) (λ t. model_records (recs (get_or ts t idle))) n ≡ sum_by (λ s. extents_of (recs s))
+    → used_open system (λ t. model_records (recs (get_or ts t idle))) n ≡ sum_by (λ s. extents_of (recs s))
     (take n ts)
 used_below ts zero h = refl
 used_below ts (suc n) h =
@@ -54,16 +54,16 @@ used_below ts (suc n) h =
     omega (arith, rest, more, same, own)
 
 used_opens : (v : SegmentLog) → length v.terminals ≡ terminal_limit
-    → used_open (machine InExtents) ((undo_in InExtents v).active) terminal_limit ≡ sum_by (λ s. extents_of (recs s))
+    → used_open system ((undo_of v).active) terminal_limit ≡ sum_by (λ s. extents_of (recs s))
     v.terminals
 used_opens v size =
-    subst (λ n. used_open (machine InExtents) ((undo_in InExtents v).active) n ≡ sum_by
+    subst (λ n. used_open system ((undo_of v).active) n ≡ sum_by
     (λ (s : TerminalState). extents_of (recs s)) v.terminals) size
     (used_below v.terminals (length v.terminals) (omega arith)
     ∙ ap (λ ts. sum_by (λ (s : TerminalState). extents_of (recs s)) ts)
     (take_all (length v.terminals) v.terminals (omega arith)))
 
-used_committed : (cs : List Committed) → used_commits (machine InExtents)
+used_committed : (cs : List Committed) → used_commits system
     (map (λ c. model_records c.records) cs) ≡ sum_by (λ c. extents_of c.records) cs
 used_committed [] = refl
 used_committed (c ∷ cs) =
@@ -72,11 +72,11 @@ used_committed (c ∷ cs) =
 
 module _ (v : SegmentLog) (t n : ℕ) (size : length v.terminals ≡ terminal_limit) where
   same_rest : (ring.filled (lengths (records_at v t))).1
-      ≡ (theory.filled (machine InExtents) (lengths_of (machine InExtents) ((undo_in InExtents v).active t))).1
+      ≡ (theory.filled system (lengths_of system ((undo_of v).active t))).1
   same_rest = sym (ap (λ (f : ℕ × ℕ). f.1) (same_room (recs (get_or v.terminals t idle))))
 
-  pub full_here : IsFull v t n → IsFullIn (undo_in InExtents v) v.extents t n
+  pub full_here : IsFull v t n → IsFullIn (undo_of v) v.extents t n
   full_here f = (omega (arith, f.0, same_rest), omega (arith, f.1, used_opens v size, used_committed v.committed))
 
-  pub full_there : IsFullIn (undo_in InExtents v) v.extents t n → IsFull v t n
+  pub full_there : IsFullIn (undo_of v) v.extents t n → IsFull v t n
   full_there f = (omega (arith, f.0, same_rest), omega (arith, f.1, used_opens v size, used_committed v.committed))

@@ -3,6 +3,7 @@ use Rattle.std.specs.Prelude.{◌≡◌, ℕ, suc, ◌+◌, ◌<◌, ◌≤◌, 
 use Rattle.std.specs.Prelude.{replicate, slice_get, get_or, option_map, None, Some, is_some}
 use Rattle.std.specs.List.{All, sum_by, count_by}
 use Rattle.oe_values.specs.declared.numbers.TheConstants.{TERMINALS}
+use Rattle.oe_rows.specs.declared.layouts.Layout.{Layout}
 use Rattle.oe_extent.specs.Ring as ring
 use Rattle.oe_requests.specs.declared.requests.Request.{Request}
 use Rattle.oe_requests.specs.declared.replies.Reply.{Reply}
@@ -49,12 +50,13 @@ commits [] rss = []
 commits (c ∷ cs) [] = []
 commits (c ∷ cs) (rs ∷ rss) = commit_with c rs ∷ commits cs rss
 
-abbrev pub stored : List TerminalHead → List Head → ring.RingStrings → SegmentLog
-stored hs cs r =
+abbrev pub stored : Layout → List TerminalHead → List Head → ring.RingStrings → SegmentLog
+stored y hs cs r =
     record {
       terminals = states hs (map records_in r.active);
       committed = commits cs (map records_in r.committed);
       extents = r.extents;
+      layout = y;
     }
 
 -- ---- what is promised

@@ -3,6 +3,7 @@ use Rattle.std.specs.Prelude.{◌<◌, ◌≤◌, ℕ, suc, ◌+◌, ◌-◌, �
 use Rattle.std.specs.Prelude.{replicate, option_map, Option, None, Some, is_some}
 use Rattle.std.specs.List.{sum_by, count_by}
 use Rattle.oe_values.specs.declared.numbers.TheConstants.{TERMINALS}
+use Rattle.oe_rows.specs.declared.layouts.Layout.{Layout}
 use Rattle.oe_requests.specs.declared.requests.Request.{Request}
 use Rattle.oe_requests.specs.declared.replies.Reply.{Reply}
 use Rattle.oe_extent.specs.Ring.{filled}
@@ -36,6 +37,7 @@ pub record SegmentLog : Type 0 where
   -- the newest first
   pub committed : List Committed
   pub extents : ℕ
+  pub layout : Layout
 
 -- a terminal that has neither committed nor a segment open
 abbrev pub idle : TerminalState
@@ -89,8 +91,8 @@ unfoldable pub idle_terminals : List TerminalState
 idle_terminals = replicate (suc TERMINALS) idle
 
 -- nothing recorded, nothing committed
-abbrev pub no_segments : ℕ → SegmentLog
-no_segments e = record { terminals = idle_terminals; committed = []; extents = e }
+abbrev pub no_segments : ℕ → Layout → SegmentLog
+no_segments e l = record { terminals = idle_terminals; committed = []; extents = e; layout = l }
 
 -- a terminal's state replaced
 abbrev pub with_state : SegmentLog → ℕ → TerminalState → SegmentLog
@@ -124,6 +126,7 @@ sealed v t q y =
       committed = record { terminal = t; number = suc (count_at v t); request = q; reply = y; records = records_at v t }
           ∷ v.committed;
       extents = v.extents;
+      layout = v.layout;
     }
 
 -- the open segment gone
@@ -145,6 +148,7 @@ reopened v (c ∷ cs) =
       });
       committed = cs;
       extents = v.extents;
+      layout = v.layout;
     }
 
 -- ---- when a record has no room

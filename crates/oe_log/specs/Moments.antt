@@ -19,6 +19,7 @@ store_with r v slots =
       seals = seals_of v;
       counts = counts_of v;
       extents = v.extents;
+      layout = v.layout;
     }
 
 -- the number of all commits so far

@@ -3,7 +3,7 @@ use Rattle.std.specs.Prelude.{◌≡◌, ℕ, List, map, filter_map, None}
 use Rattle.std.specs.List.{AllByRecursion}
 use Rattle.oe_rows.specs.declared.keys.NewOrderKey.{NewOrderKey}
 use Rattle.oe_model.specs.Changes.{Record}
-use Rattle.oe_model.specs.System.{Layout, machine, system}
+use Rattle.oe_model.specs.System.{system}
 use Rattle.oe_theory.specs.Undo.{Undo}
 use Rattle.oe_theory.specs.Store.{Seal}
 use Rattle.oe_layout.specs.Stored.{deleted_new_order}
@@ -25,13 +25,6 @@ deleted_keys bs = filter_map deleted_new_order bs
 -- the records of each open transaction and of each commit
 abbrev pub undo_of : SegmentLog → Undo system
 undo_of v = record {
-  active = λ t. model_records (records_at v t);
-  history = map (λ c. model_records c.records) v.committed;
-}
-
--- these records, for the machine of any layout
-abbrev pub undo_in : (layout : Layout) → SegmentLog → Undo (machine layout)
-undo_in layout v = record {
   active = λ t. model_records (records_at v t);
   history = map (λ c. model_records c.records) v.committed;
 }

@@ -11,6 +11,7 @@ ghost use Rattle.oe_log.specs.Kept.{idle_heads};
 
 use crate::heads::{CommitHead, TerminalHead};
 use oe_extent::Ring;
+use oe_rows::Layout;
 use oe_values::numbers::{Moment, Number, TERMINALS, Terminal};
 use oe_values::{ExtentCount, NoMemory, PerTerminal};
 use std::alloc::Global;
@@ -65,6 +66,7 @@ pub struct Log {
     pub(crate) commits: VecDeque<CommitHead>,
     pub(crate) open_count: usize,
     pub(crate) newest: Moment,
+    pub(crate) layout: Layout,
 }
 
 impl Model for Log {
@@ -74,7 +76,7 @@ impl Model for Log {
 
     ghost Value = { SegmentLog };
 
-    ghost view = { λ s. stored s.terminals s.commits.items s.ring };
+    ghost view = { λ s. stored s.layout s.terminals s.commits.items s.ring };
 
     ghost invariant = { λ s. IsKept s.terminals s.commits.items (deque_capacity s.commits)
         s.ring s.open_count s.newest };
@@ -99,10 +101,10 @@ fn idle_heads(alloc: Global) -> Result<PerTerminal<TerminalHead>, NoMemory>
 }
 
 impl Log {
-    /// Makes a log without a segment or a commit, on a ring of `extents` extents; `NoMemory` where
-    /// memory was refused.
-    pub fn new(alloc: Global, extents: ExtentCount) -> Result<Log, NoMemory>
-        ensures { IfOk result (λ s. s ≡ no_segments extents) }
+    /// Makes a log without a segment or a commit, on a ring of `extents` extents, for records of a
+    /// layout; `NoMemory` where memory was refused.
+    pub fn new(alloc: Global, extents: ExtentCount, layout: Layout) -> Result<Log, NoMemory>
+        ensures { IfOk result (λ s. s ≡ no_segments extents layout) }
     {
         let count = extents.get() as usize;
         let Some(newest) = Moment::new(0) else {
@@ -118,6 +120,7 @@ impl Log {
             commits: VecDeque::new(alloc),
             open_count: 0,
             newest,
+            layout,
         })
     }
 }

@@ -13,7 +13,7 @@ use crate::heads::SegmentOwner;
 use crate::log::{Log, Segment};
 use crate::ticks::Ticks;
 use oe_extent::{Address, Full};
-use oe_layout::{LentRecord, LinkedRecord, OwnRecord, Previous, RecordAddress, read_record};
+use oe_layout::{LentRecord, LinkedRecord, OwnRecord, Previous, RecordAddress, linked_record};
 use oe_values::NoMemory;
 use oe_values::numbers::{Number, Terminal, TransactionNumber};
 
@@ -144,7 +144,8 @@ impl Log {
         if self.terminals.at(terminal).len == 0 {
             return None;
         }
-        read_record(self.ring.newest(slot))
+        let (previous, record) = linked_record(self.ring.newest(slot));
+        Some((previous, record.read()))
     }
 
     /// Takes the newest record of an open segment off, where it has one. An extent without records

@@ -14,6 +14,7 @@ use crate::ticks::Ticks;
 use crate::walks::{Deleted, Records};
 use oe_extent::Address;
 use oe_layout::{Previous, RecordAddress, StoredRecord, linked_record};
+use oe_rows::Layout;
 use oe_values::numbers::{TERMINALS, Terminal, TransactionNumber};
 
 /// Gives a record's address as one of the ring.
@@ -32,6 +33,13 @@ impl Log {
         ensures { result ≡ self.now.extents }
     {
         self.ring.extents()
+    }
+
+    /// Tells the layout of records for which the log was made.
+    pub fn layout(&self) -> Layout
+        ensures { result ≡ self.now.layout }
+    {
+        self.layout
     }
 
     /// States that the log has a state of each terminal, and one of nobody. It does nothing: it is

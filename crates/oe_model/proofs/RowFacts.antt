@@ -1,7 +1,10 @@
 -- The tables read as one map from key to row, and undo records.
 use Rattle.std.proofs.Common.{◌≡◌, refl, sym, ◌∙◌, ap, true, false, Bool, cond, Option, Some, None}
-use Rattle.std.specs.Prelude.{option_map, option_and_then, is_some}
-use Rattle.std.specs.FinMap.{get}
+use Rattle.std.specs.Prelude.{IsSome, option_map, option_and_then, is_some}
+use Rattle.std.specs.FinMap.{FinMap, IsAntisymmetric, get}
+use Rattle.std.specs.Cmp.{IsTotalOrder}
+use Rattle.std.specs.Ordering.{eq_by_cmp}
+use Rattle.std.specs.declared.cmp.Ordering.{Ordering}
 use Rattle.oe_rows.specs.declared.warehouses.Warehouse.{Warehouse}
 use Rattle.oe_rows.specs.declared.districts.District.{District}
 use Rattle.oe_rows.specs.declared.customers.Customer.{Customer}
@@ -15,18 +18,28 @@ use Rattle.oe_rows.specs.declared.keys.Key.{Key}
 use Rattle.oe_rows.specs.declared.keys.Key.TheVariants as key
 use Rattle.oe_rows.specs.declared.rows.Row.{Row}
 use Rattle.oe_rows.specs.declared.rows.Row.TheVariants as row
+use Rattle.oe_rows.specs.Before.{warehouse_before, district_before, customer_before, order_before, order_line_before}
+use Rattle.oe_rows.specs.Before.{stock_before}
+use Rattle.oe_rows.specs.Before.{with_warehouse, with_district, with_customer, with_order, with_order_line, with_stock}
+use Rattle.oe_rows.proofs.BeforeFacts.{warehouse_back, district_back, customer_back, order_back, order_line_back}
+use Rattle.oe_rows.proofs.BeforeFacts.{stock_back}
 use Rattle.oe_rows.proofs.KeyFacts.{warehouse_total, exact_warehouse, district_total, exact_district, customer_total}
 use Rattle.oe_rows.proofs.KeyFacts.{exact_customer, history_total, exact_history, new_order_total, exact_new_order}
 use Rattle.oe_rows.proofs.KeyFacts.{order_total, exact_order, order_line_total, exact_order_line, item_total}
 use Rattle.oe_rows.proofs.KeyFacts.{exact_item, stock_total, exact_stock}
-use Rattle.oe_model.specs.Rows.{Rows, is_key, row_at, as_warehouse, as_district, as_customer, as_history, as_new_order}
+use Rattle.oe_model.specs.Rows.{Rows, with_row, is_key, row_at, as_warehouse, as_district, as_customer, as_history}
+use Rattle.oe_model.specs.Rows.{as_new_order}
 use Rattle.oe_model.specs.Rows.{as_order, as_order_line, as_stock}
 use Rattle.oe_model.specs.Changes.{Change, InsertHistory, InsertNewOrder, InsertOrder, InsertOrderLine, UpdateWarehouse}
 use Rattle.oe_model.specs.Changes.{UpdateDistrict, UpdateCustomer, UpdateOrder, UpdateOrderLine, UpdateStock}
 use Rattle.oe_model.specs.Changes.{DeleteNewOrder, key_of, row_of, changed, Record, InsertedHistory, InsertedNewOrder}
 use Rattle.oe_model.specs.Changes.{InsertedOrder, InsertedOrderLine, UpdatedWarehouse, UpdatedDistrict, UpdatedCustomer}
 use Rattle.oe_model.specs.Changes.{UpdatedOrder, UpdatedOrderLine, UpdatedStock, DeletedNewOrder, IsRecord, record_of}
-use Rattle.oe_model.specs.Changes.{record_key, row_before, put_back, redo}
+use Rattle.oe_model.specs.Changes.{record_key, ChangedWarehouse, ChangedDistrict, ChangedCustomer}
+use Rattle.oe_model.specs.Changes.{ChangedOrder, ChangedOrderLine, ChangedStock}
+use Rattle.oe_rows.specs.declared.layouts.Layout.{Layout}
+use Rattle.oe_rows.specs.declared.layouts.Layout.TheVariants.{WholeRows, ChangedColumns}
+use Rattle.oe_model.specs.Changes.{columns_before, changed_of, record_in, with_columns, restore, put_back, redo}
 use Rattle.oe_model.specs.Meets.{Accepts}
 use Rattle.oe_model.proofs.MapFacts.{is_self, is_same, same, map_get-insert, map_get-remove, map_get-with_row}
 
@@ -76,8 +89,35 @@ at_changed (DeleteNewOrder a) r (key.NewOrder k) = map_get-remove new_order_tota
     r.new_orders a k
 at_changed _ r _ = refl
 
+-- a constructor of rows tells its argument
+module _ {A : Type 0} (c : A → Row) (out : Row → Option A) (h : (x : A) → out (c x) ≡ Some x) where
+  pub out-map : (o : Option A) → option_and_then out (option_map c o) ≡ o
+  out-map None = refl
+  out-map (Some x) = h x
+
+  pub unmapped : (a b : Option A) → option_map c a ≡ option_map c b → a ≡ b
+  unmapped a b e = sym (out-map a) ∙ ap (option_and_then out) e ∙ out-map b
+
+-- columns put back into one table
+columns_back : {K X C : Type 0} {R : K → K → Ordering} (o : IsTotalOrder R) (x : IsAntisymmetric R) (c : X → Row)
+    (out : Row → Option X) (h : (y : X) → out (c y) ≡ Some y) (m : FinMap R X) (put : C → X → X) (a : K) (v : Option C)
+    (k : K)
+    → option_map c (get (with_row a (with_columns put v (get m a)) m) k) ≡ cond (eq_by_cmp R k a)
+    (option_map c (with_columns put v (option_and_then out (option_map c (get m k))))) (option_map c (get m k))
+columns_back {R = R} o x c out h m put a v k =
+    map_get-with_row o x c m a (with_columns put v (get m a)) k
+    ∙ go (eq_by_cmp R k a) refl
+  where
+    go : (b : Bool) → eq_by_cmp R k a ≡ b
+        → cond b (option_map c (with_columns put v (get m a))) (option_map c (get m k)) ≡ cond b
+        (option_map c (with_columns put v (option_and_then out (option_map c (get m k))))) (option_map c (get m k))
+    go true e =
+        ap (λ q. option_map c (with_columns put v (get m q))) (sym (is_same o x k a e))
+        ∙ ap (λ q. option_map c (with_columns put v q)) (sym (out-map c out h (get m k)))
+    go false e = refl
+
 pub at_put_back : (b : Record) (r : Rows) (k : Key)
-    → row_at (put_back b r) k ≡ cond (is_key k (record_key b)) (row_before b) (row_at r k)
+    → row_at (put_back b r) k ≡ cond (is_key k (record_key b)) (restore b (row_at r k)) (row_at r k)
 at_put_back (InsertedHistory a v) r (key.History k) = map_get-with_row history_total exact_history row.History
     r.histories a v k
 at_put_back (InsertedNewOrder a v) r (key.NewOrder k) = map_get-with_row new_order_total exact_new_order row.NewOrder
@@ -97,16 +137,19 @@ at_put_back (UpdatedOrderLine a v) r (key.OrderLine k) = map_get-with_row order_
 at_put_back (UpdatedStock a v) r (key.Stock k) = map_get-with_row stock_total exact_stock row.Stock r.stocks a v k
 at_put_back (DeletedNewOrder a v) r (key.NewOrder k) = map_get-with_row new_order_total exact_new_order row.NewOrder
     r.new_orders a v k
+at_put_back (ChangedWarehouse a v) r (key.Warehouse k) = columns_back warehouse_total exact_warehouse row.Warehouse
+    as_warehouse (λ _. refl) r.warehouses with_warehouse a v k
+at_put_back (ChangedDistrict a v) r (key.District k) = columns_back district_total exact_district row.District
+    as_district (λ _. refl) r.districts with_district a v k
+at_put_back (ChangedCustomer a v) r (key.Customer k) = columns_back customer_total exact_customer row.Customer
+    as_customer (λ _. refl) r.customers with_customer a v k
+at_put_back (ChangedOrder a v) r (key.Order k) = columns_back order_total exact_order row.Order
+    as_order (λ _. refl) r.orders with_order a v k
+at_put_back (ChangedOrderLine a v) r (key.OrderLine k) = columns_back order_line_total exact_order_line row.OrderLine
+    as_order_line (λ _. refl) r.order_lines with_order_line a v k
+at_put_back (ChangedStock a v) r (key.Stock k) = columns_back stock_total exact_stock row.Stock
+    as_stock (λ _. refl) r.stocks with_stock a v k
 at_put_back _ r _ = refl
-
--- a constructor of rows tells its argument
-module _ {A : Type 0} (c : A → Row) (out : Row → Option A) (h : (x : A) → out (c x) ≡ Some x) where
-  pub out-map : (o : Option A) → option_and_then out (option_map c o) ≡ o
-  out-map None = refl
-  out-map (Some x) = h x
-
-  pub unmapped : (a b : Option A) → option_map c a ≡ option_map c b → a ≡ b
-  unmapped a b e = sym (out-map a) ∙ ap (option_and_then out) e ∙ out-map b
 
 as_item : Row → Option Item
 as_item (row.Item x) = Some x
@@ -141,7 +184,7 @@ pub un_stock : (a b : Option Stock) → option_map row.Stock a ≡ option_map ro
 un_stock = unmapped row.Stock as_stock (λ _. refl)
 
 -- undo records
-pub record_key_of : (c : Change) (v : Option Row) → record_key (record_of c v) ≡ key_of c
+record_key_of : (c : Change) (v : Option Row) → record_key (record_of c v) ≡ key_of c
 record_key_of (InsertHistory k x) v = refl
 record_key_of (InsertNewOrder k x) v = refl
 record_key_of (InsertOrder k x) v = refl
@@ -154,7 +197,7 @@ record_key_of (UpdateOrderLine k x) v = refl
 record_key_of (UpdateStock k x) v = refl
 record_key_of (DeleteNewOrder k) v = refl
 
-pub before : (c : Change) (r : Rows) → row_before (record_of c (row_at r (key_of c))) ≡ row_at r (key_of c)
+before : (c : Change) (r : Rows) → restore (record_of c (row_at r (key_of c))) (row_of c) ≡ row_at r (key_of c)
 before (InsertHistory k x) r = ap (option_map row.History)
     (out-map row.History as_history (λ _. refl) (get r.histories k))
 before (InsertNewOrder k x) r = ap (option_map row.NewOrder)
@@ -176,7 +219,7 @@ before (DeleteNewOrder k) r = ap (option_map row.NewOrder)
     (out-map row.NewOrder as_new_order (λ _. refl) (get r.new_orders k))
 
 -- the record of an accepted insert has no row before, and that of an accepted update or delete has one
-pub made : (c : Change) (r : Rows) → Accepts c r → IsRecord (record_of c (row_at r (key_of c)))
+made : (c : Change) (r : Rows) → Accepts c r → IsRecord (record_of c (row_at r (key_of c)))
 made (InsertHistory k x) r a = out-map row.History as_history (λ _. refl) (get r.histories k) ∙ a.0
 made (InsertNewOrder k x) r a = out-map row.NewOrder as_new_order (λ _. refl) (get r.new_orders k) ∙ a.0
 made (InsertOrder k x) r a = out-map row.Order as_order (λ _. refl) (get r.orders k) ∙ a.0
@@ -190,7 +233,7 @@ made (UpdateOrderLine k x) r a = ap is_some (out-map row.OrderLine as_order_line
 made (UpdateStock k x) r a = ap is_some (out-map row.Stock as_stock (λ _. refl) (get r.stocks k)) ∙ a
 made (DeleteNewOrder k) r a = ap is_some (out-map row.NewOrder as_new_order (λ _. refl) (get r.new_orders k)) ∙ a
 
-pub redoes : (c : Change) (v : Option Row) (r : Rows) → row_at r (key_of c) ≡ row_of c → redo (record_of c v) r ≡ Some c
+redoes : (c : Change) (v : Option Row) (r : Rows) → row_at r (key_of c) ≡ row_of c → redo (record_of c v) r ≡ Some c
 redoes (InsertHistory k x) v r e = ap (option_map (InsertHistory k)) (un_history (get r.histories k) (Some x) e)
 redoes (InsertNewOrder k x) v r e = ap (option_map (InsertNewOrder k)) (un_new_order (get r.new_orders k) (Some x) e)
 redoes (InsertOrder k x) v r e = ap (option_map (InsertOrder k)) (un_order (get r.orders k) (Some x) e)
@@ -204,6 +247,103 @@ redoes (UpdateOrderLine k x) v r e = ap (option_map (UpdateOrderLine k))
     (un_order_line (get r.order_lines k) (Some x) e)
 redoes (UpdateStock k x) v r e = ap (option_map (UpdateStock k)) (un_stock (get r.stocks k) (Some x) e)
 redoes (DeleteNewOrder k) v r e = refl
+
+-- by layout
+pub in_layout_key : (l : Layout) (c : Change) (v : Option Row) → record_key (record_in l c v) ≡ key_of c
+in_layout_key WholeRows c v = record_key_of c v
+in_layout_key ChangedColumns (UpdateWarehouse k x) v = refl
+in_layout_key ChangedColumns (UpdateDistrict k x) v = refl
+in_layout_key ChangedColumns (UpdateCustomer k x) v = refl
+in_layout_key ChangedColumns (UpdateOrder k x) v = refl
+in_layout_key ChangedColumns (UpdateOrderLine k x) v = refl
+in_layout_key ChangedColumns (UpdateStock k x) v = refl
+in_layout_key ChangedColumns (InsertHistory k x) v = refl
+in_layout_key ChangedColumns (InsertNewOrder k x) v = refl
+in_layout_key ChangedColumns (InsertOrder k x) v = refl
+in_layout_key ChangedColumns (InsertOrderLine k x) v = refl
+in_layout_key ChangedColumns (DeleteNewOrder k) v = refl
+
+-- the columns that an update changed, put back on its row
+module _ {X C : Type 0} (c : X → Row) (out : Row → Option X) (h : (y : X) → out (c y) ≡ Some y) (old : X → X → C)
+    (put : C → X → X) (back : (y x : X) → put (old y x) x ≡ y) where
+  columns_restored : (o : Option X) (x : X)
+      → option_map c (with_columns put (columns_before old out (option_map c o) x) (out (c x))) ≡ option_map c o
+  columns_restored None x = refl
+  columns_restored (Some y) x =
+      ap (λ z. option_map c (with_columns put (option_map (λ w. old w x) z) (out (c x)))) (h y)
+      ∙ ap (λ z. option_map c (with_columns put (Some (old y x)) z)) (h x)
+      ∙ ap (λ z. Some (c z)) (back y x)
+
+pub in_layout_before : (l : Layout) (c : Change) (r : Rows)
+    → restore (record_in l c (row_at r (key_of c))) (row_of c) ≡ row_at r (key_of c)
+in_layout_before WholeRows c r = before c r
+in_layout_before ChangedColumns (UpdateWarehouse k x) r =
+    columns_restored row.Warehouse as_warehouse (λ _. refl) warehouse_before
+    with_warehouse warehouse_back (get r.warehouses k) x
+in_layout_before ChangedColumns (UpdateDistrict k x) r =
+    columns_restored row.District as_district (λ _. refl) district_before
+    with_district district_back (get r.districts k) x
+in_layout_before ChangedColumns (UpdateCustomer k x) r =
+    columns_restored row.Customer as_customer (λ _. refl) customer_before
+    with_customer customer_back (get r.customers k) x
+in_layout_before ChangedColumns (UpdateOrder k x) r = columns_restored row.Order as_order (λ _. refl) order_before
+    with_order order_back (get r.orders k) x
+in_layout_before ChangedColumns (UpdateOrderLine k x) r =
+    columns_restored row.OrderLine as_order_line (λ _. refl) order_line_before
+    with_order_line order_line_back (get r.order_lines k) x
+in_layout_before ChangedColumns (UpdateStock k x) r = columns_restored row.Stock as_stock (λ _. refl) stock_before
+    with_stock stock_back (get r.stocks k) x
+in_layout_before ChangedColumns (InsertHistory k x) r = before (InsertHistory k x) r
+in_layout_before ChangedColumns (InsertNewOrder k x) r = before (InsertNewOrder k x) r
+in_layout_before ChangedColumns (InsertOrder k x) r = before (InsertOrder k x) r
+in_layout_before ChangedColumns (InsertOrderLine k x) r = before (InsertOrderLine k x) r
+in_layout_before ChangedColumns (DeleteNewOrder k) r = before (DeleteNewOrder k) r
+
+columns_there : {X C : Type 0} (old : X → X → C) (o : Option X) (x : X) → IsSome o
+    → IsSome (option_map (λ y. old y x) o)
+columns_there old (Some y) x h = refl
+columns_there old None x h = h
+
+pub in_layout_made : (l : Layout) (c : Change) (r : Rows) → Accepts c r → IsRecord (record_in l c (row_at r (key_of c)))
+in_layout_made WholeRows c r a = made c r a
+in_layout_made ChangedColumns (UpdateWarehouse k x) r a =
+    columns_there warehouse_before (option_and_then as_warehouse (option_map row.Warehouse (get r.warehouses k))) x
+    (made (UpdateWarehouse k x) r a)
+in_layout_made ChangedColumns (UpdateDistrict k x) r a =
+    columns_there district_before (option_and_then as_district (option_map row.District (get r.districts k))) x
+    (made (UpdateDistrict k x) r a)
+in_layout_made ChangedColumns (UpdateCustomer k x) r a =
+    columns_there customer_before (option_and_then as_customer (option_map row.Customer (get r.customers k))) x
+    (made (UpdateCustomer k x) r a)
+in_layout_made ChangedColumns (UpdateOrder k x) r a =
+    columns_there order_before (option_and_then as_order (option_map row.Order (get r.orders k))) x
+    (made (UpdateOrder k x) r a)
+in_layout_made ChangedColumns (UpdateOrderLine k x) r a =
+    columns_there order_line_before (option_and_then as_order_line (option_map row.OrderLine (get r.order_lines k))) x
+    (made (UpdateOrderLine k x) r a)
+in_layout_made ChangedColumns (UpdateStock k x) r a =
+    columns_there stock_before (option_and_then as_stock (option_map row.Stock (get r.stocks k))) x
+    (made (UpdateStock k x) r a)
+in_layout_made ChangedColumns (InsertHistory k x) r a = made (InsertHistory k x) r a
+in_layout_made ChangedColumns (InsertNewOrder k x) r a = made (InsertNewOrder k x) r a
+in_layout_made ChangedColumns (InsertOrder k x) r a = made (InsertOrder k x) r a
+in_layout_made ChangedColumns (InsertOrderLine k x) r a = made (InsertOrderLine k x) r a
+in_layout_made ChangedColumns (DeleteNewOrder k) r a = made (DeleteNewOrder k) r a
+
+pub in_layout_redoes : (l : Layout) (c : Change) (v : Option Row) (r : Rows) → row_at r (key_of c) ≡ row_of c
+    → redo (record_in l c v) r ≡ Some c
+in_layout_redoes WholeRows c v r e = redoes c v r e
+in_layout_redoes ChangedColumns (UpdateWarehouse k x) v r e = redoes (UpdateWarehouse k x) v r e
+in_layout_redoes ChangedColumns (UpdateDistrict k x) v r e = redoes (UpdateDistrict k x) v r e
+in_layout_redoes ChangedColumns (UpdateCustomer k x) v r e = redoes (UpdateCustomer k x) v r e
+in_layout_redoes ChangedColumns (UpdateOrder k x) v r e = redoes (UpdateOrder k x) v r e
+in_layout_redoes ChangedColumns (UpdateOrderLine k x) v r e = redoes (UpdateOrderLine k x) v r e
+in_layout_redoes ChangedColumns (UpdateStock k x) v r e = redoes (UpdateStock k x) v r e
+in_layout_redoes ChangedColumns (InsertHistory k x) v r e = redoes (InsertHistory k x) v r e
+in_layout_redoes ChangedColumns (InsertNewOrder k x) v r e = redoes (InsertNewOrder k x) v r e
+in_layout_redoes ChangedColumns (InsertOrder k x) v r e = redoes (InsertOrder k x) v r e
+in_layout_redoes ChangedColumns (InsertOrderLine k x) v r e = redoes (InsertOrderLine k x) v r e
+in_layout_redoes ChangedColumns (DeleteNewOrder k) v r e = redoes (DeleteNewOrder k) v r e
 
 -- two tables that answer alike at each key are equal
 pub same_rows : (r s : Rows) → ((k : Key) → row_at r k ≡ row_at s k) → r ≡ s
@@ -236,19 +376,18 @@ same_rows r s h =
     }
 
 -- a change and its undo are the identity
-pub undone : (c : Change) (r : Rows) → put_back (record_of c (row_at r (key_of c))) (changed c r) ≡ r
-undone c r = same_rows _ _ (λ k.
+pub undone : (l : Layout) (c : Change) (r : Rows) → put_back (record_in l c (row_at r (key_of c))) (changed c r) ≡ r
+undone l c r = same_rows _ _ (λ k.
     at_put_back b (changed c r) k
-    ∙ ap (λ (j : Key). cond (is_key k j) (row_before b) (row_at (changed c r) k))
-    (record_key_of c (row_at r (key_of c)))
-    ∙ ap (λ (v : Option Row). cond (is_key k (key_of c)) v (row_at (changed c r) k)) (before c r)
-    ∙ ap (cond (is_key k (key_of c)) (row_at r (key_of c))) (at_changed c r k)
+    ∙ ap (λ (j : Key). cond (is_key k j) (restore b (row_at (changed c r) k)) (row_at (changed c r) k))
+    (in_layout_key l c (row_at r (key_of c)))
+    ∙ ap (λ (v : Option Row). cond (is_key k (key_of c)) (restore b v) v) (at_changed c r k)
     ∙ by_key k (is_key k (key_of c)) refl)
   where
     b : Record
-    b = record_of c (row_at r (key_of c))
+    b = record_in l c (row_at r (key_of c))
 
     by_key : (k : Key) (t : Bool) → is_key k (key_of c) ≡ t
-        → cond t (row_at r (key_of c)) (cond t (row_of c) (row_at r k)) ≡ row_at r k
-    by_key k true e = ap (row_at r) (sym (key_true k (key_of c) e))
+        → cond t (restore b (cond t (row_of c) (row_at r k))) (cond t (row_of c) (row_at r k)) ≡ row_at r k
+    by_key k true e = in_layout_before l c r ∙ ap (row_at r) (sym (key_true k (key_of c) e))
     by_key k false e = refl

@@ -35,8 +35,8 @@ use Rattle.oe_model.specs.System.{system, start_of, ask, act, taken, effect_of}
 use Rattle.oe_model.specs.Headline.{IsReadyFor, Programs_end}
 use Rattle.oe_model.proofs.MapFacts.{is_self, is_same}
 use Rattle.oe_model.proofs.EntryFacts.{EachOf}
-use Rattle.oe_model.proofs.RowFacts.{key_true, key_refl, at_changed, record_key_of, before, at_put_back, redoes}
-use Rattle.oe_model.proofs.RowFacts.{same_rows}
+use Rattle.oe_model.proofs.RowFacts.{key_true, key_refl, at_changed, in_layout_key, in_layout_before}
+use Rattle.oe_model.proofs.RowFacts.{at_put_back, in_layout_redoes, same_rows}
 use Rattle.oe_model.proofs.ChangeFacts.{accepted_meets}
 use Rattle.oe_model.proofs.StepFacts.{EndsSo}
 use Rattle.oe_model.proofs.LawFacts.{IsAskedNow, HeldThen, IsLawful, accepts_alike, rejection_same}
@@ -195,10 +195,10 @@ laws = record {
   key_refl = key_refl;
   at_put = at_changed;
   same_map = same_rows;
-  record_key_of = record_key_of;
-  restores = before;
+  record_key_of = in_layout_key;
+  restores = in_layout_before;
   at_put_back = at_put_back;
-  redoes = redoes;
+  redoes = in_layout_redoes;
   name_true = name_true;
   name_refl = name_refl;
   start_takes = λ x. starts_by x x.request;

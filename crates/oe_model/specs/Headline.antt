@@ -27,12 +27,11 @@ use Rattle.oe_model.specs.Meets.{Meets, Accepts}
 use Rattle.oe_model.specs.Payment.{history_key}
 use Rattle.oe_model.specs.Requests.{IsRequest, MayRefuse, rejection}
 use Rattle.oe_model.specs.Conditions.{IsPopulation, IsStocked, Good, Condition_1, Condition_2, Condition_3, Condition_4}
-use Rattle.oe_model.specs.System.{Layout, machine, system, start_of, effect_of}
+use Rattle.oe_model.specs.System.{system, start_of, effect_of}
 
--- the machine of each layout meets the local laws of the theory; so each program, run alone, is its whole effect, a row
--- at a time
+-- the machine meets the local laws of the theory; so each program, run alone, is its whole effect, a row at a time
 abbrev pub System_is_lawful : Type 0
-System_is_lawful = (layout : Layout) → Laws (machine layout)
+System_is_lawful = Laws system
 
 -- conditions 1 to 4
 pub record Conditions (r : Rows) : Type 0 where

@@ -4,8 +4,9 @@ use Rattle.oe_rows.specs.declared.keys.Key.{Key}
 use Rattle.oe_rows.specs.declared.rows.Row.{Row}
 use Rattle.oe_requests.specs.declared.refusals.Refusal.{Refusal}
 use Rattle.oe_model.specs.Rows.{Rows, is_key, row_at}
-use Rattle.oe_model.specs.Changes.{Change, key_of, row_of, changed, Record, IsRecord, record_of, record_key, row_before}
-use Rattle.oe_model.specs.Changes.{put_back, redo}
+use Rattle.oe_model.specs.Changes.{Change, key_of, row_of, changed, Record, IsRecord, record_in, record_key}
+use Rattle.oe_rows.specs.declared.layouts.Layout.{Layout}
+use Rattle.oe_model.specs.Changes.{restore, put_back, redo}
 use Rattle.oe_model.specs.Meets.{Meets, Accepts, Cause}
 use Rattle.std.specs.Prelude.{Some}
 
@@ -18,18 +19,19 @@ pub record Tables_are_a_map : Type 0 where
   -- tables that have the same row at each key are the same
   pub same_rows : (r s : Rows) → ((k : Key) → row_at r k ≡ row_at s k) → r ≡ s
 
--- an undo record has the row before, and the change is found again while its row stands
+-- an undo record of each layout brings the row before back, and the change is found again while its row stands
 pub record Records_undo : Type 0 where
-  pub key : (c : Change) (v : Option Row) → record_key (record_of c v) ≡ key_of c
-  pub before : (c : Change) (r : Rows) → row_before (record_of c (row_at r (key_of c))) ≡ row_at r (key_of c)
+  pub key : (l : Layout) (c : Change) (v : Option Row) → record_key (record_in l c v) ≡ key_of c
+  pub before : (l : Layout) (c : Change) (r : Rows)
+      → restore (record_in l c (row_at r (key_of c))) (row_of c) ≡ row_at r (key_of c)
   pub at_put_back : (b : Record) (r : Rows) (k : Key)
-      → row_at (put_back b r) k ≡ cond (is_key k (record_key b)) (row_before b) (row_at r k)
+      → row_at (put_back b r) k ≡ cond (is_key k (record_key b)) (restore b (row_at r k)) (row_at r k)
   -- an accepted insert's record has no row before, an accepted update's or delete's has one
-  pub made : (c : Change) (r : Rows) → Accepts c r → IsRecord (record_of c (row_at r (key_of c)))
-  pub redoes : (c : Change) (v : Option Row) (r : Rows) → row_at r (key_of c) ≡ row_of c
-      → redo (record_of c v) r ≡ Some c
+  pub made : (l : Layout) (c : Change) (r : Rows) → Accepts c r → IsRecord (record_in l c (row_at r (key_of c)))
+  pub redoes : (l : Layout) (c : Change) (v : Option Row) (r : Rows) → row_at r (key_of c) ≡ row_of c
+      → redo (record_in l c v) r ≡ Some c
   -- a change and its undo are the identity
-  pub undone : (c : Change) (r : Rows) → put_back (record_of c (row_at r (key_of c))) (changed c r) ≡ r
+  pub undone : (l : Layout) (c : Change) (r : Rows) → put_back (record_in l c (row_at r (key_of c))) (changed c r) ≡ r
 
 -- a change is accepted, or there is a cause to refuse it, and never both; one that is accepted keeps the schema
 pub record Changes_are_judged : Type 0 where

@@ -16,8 +16,9 @@ use Rattle.oe_requests.specs.declared.replies.QueryReply.{QueryReply}
 use Rattle.oe_requests.specs.declared.refusals.Refusal.{Refusal}
 use Rattle.oe_requests.specs.declared.refusals.Refusal.TheVariants.{NoCustomer, Overflow, NotOpen}
 use Rattle.oe_model.specs.Rows.{Rows, is_key, row_at}
-use Rattle.oe_model.specs.Changes.{Change, key_of, row_of, changed, Record, record_of, record_key, row_before, put_back}
-use Rattle.oe_model.specs.Changes.{redo}
+use Rattle.oe_model.specs.Changes.{Change, key_of, row_of, changed, Record, record_in, record_key, restore}
+use Rattle.oe_rows.specs.declared.layouts.Layout.{Layout}
+use Rattle.oe_model.specs.Changes.{put_back, redo}
 use Rattle.oe_model.specs.Lengths.{record_length}
 use Rattle.oe_model.specs.Meets.{Accepts}
 use Rattle.oe_model.specs.Locks.{is_name, governs, Facet, Part, facet_key, part, governs_part}
@@ -102,24 +103,17 @@ yields (InPayment q p) NoCustomer = by_number q.customer
 yields (InNewOrder q p) NoCustomer = true
 yields _ _ = false
 
--- how undo records lie in memory, which gives each its length: as values of the program, outside of any ring, or as
--- bytes in extents
-pub data Layout : Type 0 where
-  AsValues : Layout
-  InExtents : Layout
-
 -- the length of a record; shut, so that no proof computes it
-unfoldable pub length_in : Layout → Record → ℕ
-length_in AsValues b = 0
-length_in InExtents b = record_length b
+unfoldable pub size_of : Record → ℕ
+size_of b = record_length b
 
 -- terminals are 1 to 64, and 0 is the population's in HISTORY; shut, so that no proof counts them
 unfoldable pub terminal_limit : ℕ
 terminal_limit = suc TERMINALS
 
--- the machine, by the layout of its undo records
-abbrev pub machine : Layout → Machine
-machine layout = record {
+-- the server's machine
+abbrev pub system : Machine
+system = record {
   Map = Rows;
   Key = Key;
   Row = Row;
@@ -130,13 +124,14 @@ machine layout = record {
   row_of = row_of;
   put = changed;
   Accepts = Accepts;
+  Layout = Layout;
   Record = Record;
-  record_of = record_of;
+  record_of = record_in;
   record_key = record_key;
-  restore = λ b now. row_before b;
+  restore = restore;
   put_back = put_back;
   redo = redo;
-  size_of = length_in layout;
+  size_of = size_of;
   extent = 4096;
   Facet = Facet;
   Part = Part;
@@ -173,7 +168,3 @@ machine layout = record {
   first_terminal = 1;
   terminal_limit = terminal_limit;
 }
-
--- the server's machine: its records lie in extents
-abbrev pub system : Machine
-system = machine InExtents

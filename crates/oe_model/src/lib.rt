@@ -26,7 +26,7 @@ pub fn changes_are_judged()
     ensures { Changes_are_judged }
 {}
 
-/// The machine of each layout meets the local laws of the theory of transactions: among them that
+/// The machine meets the local laws of the theory of transactions: among them that
 /// each program, run alone a row at a time, has exactly its whole effect or none, and that this
 /// effect keeps what holds between transactions.
 pub fn system_is_lawful()

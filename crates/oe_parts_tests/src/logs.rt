@@ -5,6 +5,7 @@ use crate::opened::request;
 use oe_layout::{LentRecord, LinkedRecord, Previous};
 use oe_log::{Log, Segment};
 use oe_requests::{DistrictDelivery, Reply};
+use oe_rows::Layout;
 use oe_values::numbers::{Number, Terminal};
 use std::snapshot::Snapshot;
 
@@ -103,7 +104,7 @@ fn filled_again(log: &mut Log, first: Terminal, second: Terminal) -> Option<[Pla
 #[test]
 fn records_fill_extents_and_go_around(rt: HostRuntime) {
     let extents = Number::new(2).expect(&rt, "extents");
-    let Ok(mut log) = Log::new(rt.alloc(), extents) else {
+    let Ok(mut log) = Log::new(rt.alloc(), extents, Layout::WholeRows) else {
         panic!(rt; "no log")
     };
     let first = Terminal::new(1).expect(&rt, "a terminal");

@@ -8,7 +8,7 @@ ghost use Rattle.oe_undo.specs.Chains.{IsAlone};
 use oe_layout::{LentRecord, LinkedRecord, Previous};
 use oe_log::Segment;
 use oe_requests::{DeliveryRequest, DistrictDelivery, Reply, Request};
-use oe_rows::{DistrictKey, Order, OrderKey};
+use oe_rows::{DistrictKey, Layout, Order, OrderKey};
 use oe_undo::Undo;
 use oe_values::{ExtentCount, Moment, Number, Stamp, Terminal};
 use std::alloc::Global;
@@ -16,7 +16,7 @@ use std::snapshot::Snapshot;
 
 /// Makes an undo log on a ring of `extents` extents.
 pub(crate) fn undo(alloc: Global, extents: u32) -> Option<Undo> {
-    Undo::new(alloc, ExtentCount::new(extents)?).ok()
+    Undo::new(alloc, ExtentCount::new(extents)?, Layout::WholeRows).ok()
 }
 
 /// Makes the request of a delivery in district (4, 7).

@@ -5,6 +5,8 @@ ghost use Rattle.std.specs.Prelude.{◌≡◌, length};
 use crate::made::{address, committed, order, order_key, queue_entry, stock, stock_key, warehouse};
 use oe_extent::Written;
 use oe_layout::{LentRecord, LinkedRecord, OwnRecord, Previous, read_record};
+use oe_rows::{Layout, StockBefore, StockCounters, WarehouseBefore};
+use oe_values::{Number, YearToDate};
 
 const WAREHOUSE: &[u8] =
     b"\x00\x4d\x02\x01\xff\xff\xff\xff\x00\x00\x00\x00\x00\x00\x00\x00\x00\x01\x00\x06WARE01\x00\x07STREET1\x00\x07STREET2\x00\x04CITY\x00\x02ST\x00\x09000111111\x00\x64\x00\x00\x00\x00\x00\x01\x86\xa0\x00\x4d";
@@ -24,6 +26,14 @@ const ORDER: &[u8] =
 // at offset 132.
 const STOCK: &[u8] =
     b"\x01\x38\x02\x09\x00\x00\x00\x84\xff\xff\xff\xff\xff\xff\xff\xff\x00\x03\x00\x00\x00\x29\x00\x0e\x00\x18STOCK-DIST-01-01-0000001\x00\x18STOCK-DIST-01-01-0000001\x00\x18STOCK-DIST-01-10-0000001\x00\x18STOCK-DIST-01-01-0000001\x00\x18STOCK-DIST-01-10-0000001\x00\x18STOCK-DIST-01-10-0000001\x00\x18STOCK-DIST-01-01-0000001\x00\x18STOCK-DIST-01-10-0000001\x00\x18STOCK-DIST-01-10-0000001\x00\x18STOCK-DIST-01-10-0000001\x00\x00\x00\x0a\x00\x01\x00\x00\x00\x10STOCKDATA-000001\x01\x38";
+
+// The first record of a payment where records have changed columns: W_YTD was 1,000.00.
+const WAREHOUSE_YTD: &[u8] =
+    b"\x00\x1d\x04\x01\xff\xff\xff\xff\x00\x00\x00\x00\x00\x00\x00\x00\x00\x01\x01\x00\x00\x00\x00\x00\x01\x86\xa0\x00\x1d";
+
+// The same of stock (3, 41): S_QUANTITY, S_YTD and S_ORDER_CNT were others.
+const STOCK_COUNTERS: &[u8] =
+    b"\x00\x22\x04\x09\x00\x00\x00\x84\xff\xff\xff\xff\xff\xff\xff\xff\x00\x03\x00\x00\x00\x29\x80\x18\x00\x0e\x00\x00\x00\x0a\x00\x01\x00\x22";
 
 /// Makes room for the longest record and more.
 fn room() -> [u8; 709]
@@ -71,13 +81,40 @@ fn writes_stock() -> Option<bool> {
     Some(is_written(&record, STOCK))
 }
 
+/// Tells whether the record of a payment of 2.00 to a warehouse is written with its W_YTD alone.
+fn writes_warehouse_ytd() -> Option<bool> {
+    let (key, row) = warehouse(100_000)?;
+    let columns = WarehouseBefore::of_ytd(&row, YearToDate::new(100_200)?);
+    let record = LinkedRecord {
+        previous: Previous::Nothing,
+        record: LentRecord::ChangedWarehouse(key, &columns),
+    };
+    Some(is_written(&record, WAREHOUSE_YTD))
+}
+
+/// Tells whether the record of a sale of three is written with the counters that it changes.
+fn writes_stock_counters() -> Option<bool> {
+    let counters = StockCounters {
+        quantity: Number::new(11)?,
+        ytd: Number::new(13)?,
+        order_count: Number::new(2)?,
+        remote_count: Number::new(0)?,
+    };
+    let columns = StockBefore::of_counters(&stock()?, &counters);
+    let record = LinkedRecord {
+        previous: Previous::Own(address(0, 132)?),
+        record: LentRecord::ChangedStock(stock_key(3, 41)?, &columns),
+    };
+    Some(is_written(&record, STOCK_COUNTERS))
+}
+
 /// Tells whether the order is read with its link: its previous record lies in extent 7 at offset
 /// 132 and is of moment 258.
 fn reads_order() -> Option<bool> {
     let key = order_key()?;
     let earlier = committed(7, 132, 258)?;
     let row = order(1_776)?;
-    let Some((previous, record)) = read_record(ORDER) else {
+    let Some((previous, record)) = read_record(Layout::WholeRows, ORDER) else {
         return None;
     };
     let OwnRecord::UpdatedOrder(read_key, read_row) = record else {
@@ -95,39 +132,48 @@ fn records_are_as_worked(rt: HostRuntime) {
     assert!(rt; writes_queue_entry() == Some(true));
     assert!(rt; writes_stock() == Some(true));
     assert!(rt; reads_order() == Some(true));
+    assert!(rt; writes_warehouse_ytd() == Some(true));
+    assert!(rt; writes_stock_counters() == Some(true));
 }
 
-/// A worked record, the offset of a byte, and another byte, with which it is none.
-const SPOILT: [(&[u8], usize, u8); 8] = [
+/// A worked record with its layout, the offset of a byte, and another byte, with which it is none.
+const SPOILT: [(Layout, &[u8], usize, u8); 10] = [
     // the first and the second length, the kind, the table, an offset and a moment
-    (WAREHOUSE, 1, 78),
-    (WAREHOUSE, 76, 78),
-    (WAREHOUSE, 2, 1),
-    (WAREHOUSE, 3, 2),
-    (WAREHOUSE, 6, 0),
-    (WAREHOUSE, 15, 1),
+    (Layout::WholeRows, WAREHOUSE, 1, 78),
+    (Layout::WholeRows, WAREHOUSE, 76, 78),
+    (Layout::WholeRows, WAREHOUSE, 2, 1),
+    (Layout::WholeRows, WAREHOUSE, 3, 2),
+    (Layout::WholeRows, WAREHOUSE, 6, 0),
+    (Layout::WholeRows, WAREHOUSE, 15, 1),
     // a null mark, and an extent
-    (ORDER, 33, 2),
-    (ORDER, 4, 16),
+    (Layout::WholeRows, ORDER, 33, 2),
+    (Layout::WholeRows, ORDER, 4, 16),
+    // a spare bit of a mask, and a column more than there is
+    (Layout::ChangedColumns, STOCK_COUNTERS, 23, 25),
+    (Layout::ChangedColumns, WAREHOUSE_YTD, 18, 3),
 ];
 
 /// Tells whether bytes are a record, and none where one of them is another.
-fn is_spoilt(image: &[u8], offset: usize, byte: u8) -> bool {
+fn is_spoilt(layout: Layout, image: &[u8], offset: usize, byte: u8) -> bool {
     let mut bytes = room();
-    if image.len() > 700 || offset >= image.len() || read_record(image).is_none() {
+    if image.len() > 700 || offset >= image.len() || read_record(layout, image).is_none() {
         return false;
     }
     bytes[..image.len()].copy_from_slice(image);
     bytes[offset] = byte;
-    read_record(&bytes[..image.len()]).is_none()
+    read_record(layout, &bytes[..image.len()]).is_none()
 }
 
 #[test]
 fn other_bytes_are_no_record(rt: HostRuntime) {
     let mut are_spoilt = true;
-    for (image, offset, byte) in SPOILT {
-        are_spoilt = are_spoilt && is_spoilt(image, offset, byte);
+    for (layout, image, offset, byte) in SPOILT {
+        are_spoilt = are_spoilt && is_spoilt(layout, image, offset, byte);
     }
-    assert!(rt; are_spoilt && read_record(&WAREHOUSE[..76]).is_none());
-    assert!(rt; read_record(QUEUE_ENTRY).is_some());
+    assert!(rt; are_spoilt && read_record(Layout::WholeRows, &WAREHOUSE[..76]).is_none());
+    assert!(rt; read_record(Layout::WholeRows, QUEUE_ENTRY).is_some());
+    assert!(rt; read_record(Layout::ChangedColumns, QUEUE_ENTRY).is_some());
+    // A record of the other layout is none.
+    assert!(rt; read_record(Layout::WholeRows, WAREHOUSE_YTD).is_none());
+    assert!(rt; read_record(Layout::ChangedColumns, WAREHOUSE).is_none());
 }

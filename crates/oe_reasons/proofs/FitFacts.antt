@@ -1,7 +1,7 @@
 -- The words of each command fit the columns of its form.
 use Rattle.std.proofs.Common.{◌≡◌, ℕ, zero, suc, ◌+◌, ◌*◌, ◌/◌, ◌%◌, ◌^◌, ◌<◌, ◌≤◌, Bool, true, false, List}
 use Rattle.std.proofs.Common.{[], ◌∷◌, ◌++◌}
-use Rattle.std.proofs.Common.{length, map, None, Some, decimal, codes, nat_lt, refl, append-nil}
+use Rattle.std.proofs.Common.{length, map, Option, None, Some, decimal, codes, nat_lt, refl, append-nil}
 use Rattle.std.proofs.Common.{arith}
 use Rattle.std.proofs.lemmas.List.{length-map}
 use Rattle.std.proofs.lemmas.Bool.Decides.{nat_tests}
@@ -9,11 +9,14 @@ use Rattle.std.specs.Prelude.{is_some, if◌then◌else◌}
 use Rattle.std.specs.List.{All}
 use Rattle.std.specs.Int.{IsInRange}
 use Rattle.std.proofs.lemmas.List.Elements.{All-head, All-tail}
+use Rattle.oe_rows.specs.declared.layouts.Layout.{Layout}
+use Rattle.oe_rows.specs.declared.layouts.Layout.TheVariants.{WholeRows, ChangedColumns}
 use Rattle.oe_rows.specs.declared.keys.Table.{Table}
 use Rattle.oe_rows.specs.declared.keys.Table.TheVariants as table
 use Rattle.oe_rows.specs.Key.{table_name}
 use Rattle.oe_rows.specs.Credit.{money_text}
 use Rattle.oe_values.specs.Stamp.{two_digits}
+use Rattle.oe_values.specs.Front as front
 use Rattle.oe_values.proofs.FrontFacts.{decimal_only, pair_only}
 use Rattle.oe_requests.specs.declared.requests.CustomerChoice.{CustomerChoice}
 use Rattle.oe_requests.specs.declared.requests.CustomerChoice.TheVariants as choice
@@ -29,6 +32,7 @@ use Rattle.oe_lines.specs.declared.commands.Command.TheVariants as command
 use Rattle.oe_lines.specs.declared.commands.Display.TheVariants as display
 use Rattle.oe_lines.specs.declared.commands.MomentChoice.{MomentChoice}
 use Rattle.oe_lines.specs.declared.commands.MomentChoice.TheVariants as moment
+use Rattle.oe_lines.specs.Rings.{layout_word, layout_words}
 use Rattle.oe_lines.specs.Grammar.{IsMoment, customer_word, line_word}
 use Rattle.oe_lines.specs.Grammar.{moment_word}
 use Rattle.oe_lines.proofs.NameFacts.{last_name_only}
@@ -171,9 +175,28 @@ table_right table.OrderLine = refl
 table_right table.Item = refl
 table_right table.Stock = refl
 
+layout_right : (l : Layout) → fault_of column.Layout (layout_word l) ≡ None
+unfolding number_in front.decimal_of
+layout_right WholeRows = refl
+layout_right ChangedColumns = refl
+
+-- the words of an opening behind its items
+ring_right : (n : ℕ) (l : Option Layout) → IsInRange 2 4_096 n
+    → Fits (column.Extents ∷ column.Layout ∷ []) (decimal n ∷ layout_words l)
+ring_right n None h = (right column.Extents n (omega (arith, h.1)) h.0 h.1, tt)
+ring_right n (Some l) h = (right column.Extents n (omega (arith, h.1)) h.0 h.1, (layout_right l, tt))
+
+ring_enough : (a b c d e : List ℕ) (l : Option Layout) → 5 ≤ length (a ∷ b ∷ c ∷ d ∷ e ∷ layout_words l)
+ring_enough a b c d e None = omega arith
+ring_enough a b c d e (Some l) = omega arith
+
+ring_few : (a b c d e : List ℕ) (l : Option Layout) → length (a ∷ b ∷ c ∷ d ∷ e ∷ layout_words l) ≤ 6
+ring_few a b c d e None = omega arith
+ring_few a b c d e (Some l) = omega arith
+
 pub words_are_right : Words_are_right
 unfolding order_lines
-words_are_right (command.Open s e) h = record {
+words_are_right (command.Open s ring) h = record {
   fit = (
     refl,
     (
@@ -182,13 +205,15 @@ words_are_right (command.Open s e) h = record {
         right column.Customers s.customers (omega (arith, h.0.customers.1)) h.0.customers.0 h.0.customers.1,
         (
           right column.Items s.items (omega (arith, h.0.items.1)) h.0.items.0 h.0.items.1,
-          (right column.Extents e (omega (arith, h.1.1)) h.1.0 h.1.1, tt),
+          ring_right ring.extents ring.layout h.1,
         ),
       ),
     ),
   );
-  enough = omega arith;
-  few = omega arith;
+  enough = ring_enough (codes "open") (decimal s.warehouses) (decimal s.customers) (decimal s.items)
+      (decimal ring.extents) ring.layout;
+  few = ring_few (codes "open") (decimal s.warehouses) (decimal s.customers) (decimal s.items)
+      (decimal ring.extents) ring.layout;
 }
 words_are_right (command.Begin t (request.Payment q)) h = record {
   fit = (

@@ -4,7 +4,7 @@ use Rattle.oe_reasons.specs.Laws.{Ranges_are_the_grammars}
 
 pub ranges_are_the_grammars : Ranges_are_the_grammars
 ranges_are_the_grammars = record {
-  opening = λ s extents. (
+  opening = λ s ring. (
     λ h. (h.0.warehouses, h.0.customers, h.0.items, h.1),
     λ h. (record { warehouses = h.0; customers = h.1; items = h.2 }, h.3),
   );

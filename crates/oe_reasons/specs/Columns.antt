@@ -47,7 +47,8 @@ forms = flat_map forms_of verbs
 -- the columns of a form, in the order of its words; its own words stand in it as they are
 abbrev pub columns_of : Form → List Column
 columns_of form.Opening =
-    column.Verb verb.Open ∷ column.Warehouses ∷ column.Customers ∷ column.Items ∷ column.Extents ∷ []
+    column.Verb verb.Open ∷ column.Warehouses ∷ column.Customers ∷ column.Items ∷ column.Extents ∷
+    column.Layout ∷ []
 columns_of form.Payment =
     column.Verb verb.Begin ∷ column.Terminal ∷ column.Kind kind.Payment ∷ column.Warehouse ∷ column.District ∷
     column.CustomerWarehouse ∷ column.CustomerDistrict ∷ column.Buyer ∷ column.Amount ∷ column.Stamp ∷ []
@@ -81,9 +82,10 @@ columns_of form.Dump = column.Verb verb.Dump ∷ column.Table ∷ []
 columns_of form.Waits = column.Verb verb.Waits ∷ []
 columns_of form.Locks = column.Verb verb.Locks ∷ []
 
--- an order has 5 to 15 lines; each other form has as many words as columns
+-- an order has 5 to 15 lines, and an opening need not say a layout; each other form has as many words as columns
 abbrev pub least_words : Form → ℕ
 least_words form.NewOrder = 12
+least_words form.Opening = 5
 least_words f = length (columns_of f)
 
 abbrev pub most_words : Form → ℕ
@@ -95,6 +97,7 @@ least column.Warehouses = 1
 least column.Customers = 1
 least column.Items = 1
 least column.Extents = 2
+least column.Layout = 1
 least column.Terminal = 1
 least column.Warehouse = 1
 least column.District = 1
@@ -116,6 +119,7 @@ greatest column.Warehouses = 16
 greatest column.Customers = 3_000
 greatest column.Items = 100_000
 greatest column.Extents = 4_096
+greatest column.Layout = 2
 greatest column.Terminal = 64
 greatest column.Warehouse = 16
 greatest column.District = 10

@@ -20,6 +20,7 @@ use Rattle.oe_lines.specs.declared.commands.Command.TheVariants as command
 use Rattle.oe_lines.specs.declared.commands.Display.{Display}
 use Rattle.oe_lines.specs.declared.commands.Display.TheVariants as display
 use Rattle.oe_lines.specs.declared.commands.MomentChoice.TheVariants as moment
+use Rattle.oe_lines.specs.declared.commands.RingChoice.{RingChoice}
 use Rattle.oe_lines.specs.Grammar.{HasForm, IsMoment, IsQuery, IsRequest, words_of}
 use Rattle.oe_reasons.specs.declared.forms.Column.{Column}
 use Rattle.oe_reasons.specs.declared.forms.Column.TheVariants as column
@@ -44,9 +45,9 @@ abbrev pub InLine : RequestLine → Type 0
 InLine l = InColumn column.Supply l.supply × InColumn column.Item l.item × InColumn column.Quantity l.quantity
 
 pub record Ranges_are_the_grammars : Type 0 where
-  pub opening : (s : Scale) (extents : ℕ) → HasForm (command.Open s extents)
+  pub opening : (s : Scale) (ring : RingChoice) → HasForm (command.Open s ring)
       ↔ (InColumn column.Warehouses s.warehouses × InColumn column.Customers s.customers
-      × InColumn column.Items s.items × InColumn column.Extents extents)
+      × InColumn column.Items s.items × InColumn column.Extents ring.extents)
   pub terminal : (t : ℕ) → HasForm (command.Next t) ↔ InColumn column.Terminal t
   pub payment : (q : PaymentRequest) → IsRequest (request.Payment q)
       ↔ (InDistrict q.district × InCustomerDistrict q.customer_district × model.IsChoice q.customer

@@ -19,6 +19,7 @@ shown_word column.Warehouses = codes "WAREHOUSES"
 shown_word column.Customers = codes "CUSTOMERS"
 shown_word column.Items = codes "ITEMS"
 shown_word column.Extents = codes "EXTENTS"
+shown_word column.Layout = codes "LAYOUT"
 shown_word column.Terminal = codes "TERMINAL"
 shown_word column.Warehouse = codes "WAREHOUSE"
 shown_word column.District = codes "DISTRICT"
@@ -95,9 +96,9 @@ range_text c = bounds_text c
 -- the columns whose ranges the list has
 abbrev pub ranged : List Column
 ranged =
-    column.Warehouses ∷ column.Customers ∷ column.Items ∷ column.Extents ∷ column.Terminal ∷ column.Warehouse ∷
-    column.District ∷ column.CustomerWarehouse ∷ column.CustomerDistrict ∷ column.Buyer ∷ column.Amount ∷
-    column.Stamp ∷ column.Customer ∷ column.OrderLine ∷ column.Supply ∷ column.Item ∷ column.Quantity ∷
+    column.Warehouses ∷ column.Customers ∷ column.Items ∷ column.Extents ∷ column.Layout ∷ column.Terminal ∷
+    column.Warehouse ∷ column.District ∷ column.CustomerWarehouse ∷ column.CustomerDistrict ∷ column.Buyer ∷
+    column.Amount ∷ column.Stamp ∷ column.Customer ∷ column.OrderLine ∷ column.Supply ∷ column.Item ∷ column.Quantity ∷
     column.Carrier ∷ column.Moment ∷ column.Threshold ∷ column.Condition ∷ column.Table ∷ []
 
 -- a name and the blanks that make it 22 bytes

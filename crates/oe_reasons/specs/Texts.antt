@@ -21,6 +21,7 @@ column_name column.Warehouses = codes "warehouses"
 column_name column.Customers = codes "customers"
 column_name column.Items = codes "items"
 column_name column.Extents = codes "extents"
+column_name column.Layout = codes "layout"
 column_name column.Terminal = codes "terminal"
 column_name column.Warehouse = codes "warehouse"
 column_name column.District = codes "district"
@@ -72,8 +73,12 @@ wrong_text line w =
 abbrev pub counted_text : ℕ → List ℕ
 counted_text n = decimal n ++ (if n == 1 then codes " word" else codes " words")
 
+abbrev pub span_text : Form → List ℕ
+span_text f = decimal (least_words f) ++ codes " to " ++ decimal (most_words f)
+
 abbrev pub count_text : Form → List ℕ
-count_text form.NewOrder = decimal (least_words form.NewOrder) ++ codes " to " ++ decimal (most_words form.NewOrder)
+count_text form.NewOrder = span_text form.NewOrder
+count_text form.Opening = span_text form.Opening
 count_text f = decimal (least_words f)
 
 abbrev pub miscounted_text : List ℕ → Form → List ℕ

@@ -21,6 +21,8 @@ pub enum Column {
     Items,
     /// How many undo extents there are.
     Extents,
+    /// The layout of undo records: 1 for whole rows, 2 for changed columns.
+    Layout,
     /// A terminal.
     Terminal,
     /// A warehouse.
@@ -151,7 +153,8 @@ impl Column {
             | Column::Item
             | Column::Quantity
             | Column::Carrier
-            | Column::Condition => 1,
+            | Column::Condition
+            | Column::Layout => 1,
             Column::Extents => 2,
             Column::Amount => 100,
             Column::Threshold => 10,
@@ -169,6 +172,7 @@ impl Column {
             Column::Customers | Column::Customer => 3_000,
             Column::Items => 100_000,
             Column::Extents => 4_096,
+            Column::Layout => 2,
             Column::Terminal => 64,
             Column::District | Column::CustomerDistrict | Column::Quantity | Column::Carrier => 10,
             Column::Item => 999_999,
@@ -193,6 +197,7 @@ impl Form {
                 Column::Customers,
                 Column::Items,
                 Column::Extents,
+                Column::Layout,
             ],
             Form::Payment => &[
                 Column::Verb(Verb::Begin),
@@ -283,6 +288,7 @@ impl Form {
     {
         match self {
             Form::NewOrder => 12,
+            Form::Opening => 5,
             _ => self.columns().len(),
         }
     }

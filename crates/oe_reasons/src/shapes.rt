@@ -11,11 +11,12 @@ use oe_texts::columns::{money, number};
 use oe_texts::{Pending, SIZE, text};
 
 /// The columns whose ranges the list has.
-const RANGED: [Column; 22] = [
+const RANGED: [Column; 23] = [
     Column::Warehouses,
     Column::Customers,
     Column::Items,
     Column::Extents,
+    Column::Layout,
     Column::Terminal,
     Column::Warehouse,
     Column::District,
@@ -51,6 +52,7 @@ fn shown_word(column: Column) -> &'static [u8]
         Column::Customers => b"CUSTOMERS",
         Column::Items => b"ITEMS",
         Column::Extents => b"EXTENTS",
+        Column::Layout => b"LAYOUT",
         Column::Terminal => b"TERMINAL",
         Column::Warehouse => b"WAREHOUSE",
         Column::District => b"DISTRICT",
@@ -291,7 +293,7 @@ fn range_line(out: &mut Pending, column: Column)
 
 /// Appends the lines of columns.
 fn range_lines(out: &mut Pending, columns: &[Column])
-    requires few { length columns.now ≤ 22 }
+    requires few { length columns.now ≤ 23 }
     requires room { array_vec_len out.old + 120 * length columns.now ≤ SIZE }
     ensures items { out.new.items ≡ out.old.items ++ flat_map range_line columns.now }
     ensures len { array_vec_len out.new ≤ array_vec_len out.old + 120 * length columns.now }
@@ -304,7 +306,7 @@ fn range_lines(out: &mut Pending, columns: &[Column])
 /// Appends the forms of lines, and what may stand in each of their columns.
 #[tactic(auto, unfolding(crate::specs::Shapes::forms_text))]
 pub fn list_forms(out: &mut Pending)
-    requires { array_vec_len out.old + 6_700 ≤ SIZE }
+    requires { array_vec_len out.old + 6_900 ≤ SIZE }
     ensures { out.new.items ≡ out.old.items ++ forms_text }
 {
     text(

@@ -25,6 +25,7 @@ fn column_name(column: Column) -> &'static [u8]
         Column::Customers => b"customers",
         Column::Items => b"items",
         Column::Extents => b"extents",
+        Column::Layout => b"layout",
         Column::Terminal => b"terminal",
         Column::Warehouse => b"warehouse",
         Column::District => b"district",
@@ -145,10 +146,10 @@ fn count(out: &mut Pending, form: Form)
     ensures len { array_vec_len out.new ≤ array_vec_len out.old + 44 }
 {
     match form {
-        Form::NewOrder => {
-            number(out, Form::NewOrder.least_words() as u64);
+        Form::NewOrder | Form::Opening => {
+            number(out, form.least_words() as u64);
             text(out, b" to ");
-            number(out, Form::NewOrder.most_words() as u64);
+            number(out, form.most_words() as u64);
         }
         _ => number(out, form.least_words() as u64),
     }

@@ -1,3 +1,4 @@
+pub mod BeforeFacts
 pub mod ColumnFacts
 pub mod CreditFacts
 pub mod KeyFacts

@@ -1,4 +1,5 @@
 -- What the clauses of this crate cite.
+pub mod Before
 pub mod Credit
 pub mod Customer
 pub mod District

@@ -4,19 +4,28 @@
 //! numbers are TPC Benchmark C 5.11's.
 #![tactic(auto)]
 
+pub mod before;
+mod columns_before;
 pub mod credits;
 pub mod customers;
 pub mod districts;
 pub mod histories;
 pub mod items;
 pub mod keys;
+pub mod layouts;
 pub mod locks;
 pub mod orders;
+mod put_back;
 pub mod rows;
 pub mod scales;
 pub mod table_keys;
 pub mod warehouses;
+mod writes_before;
 
+pub use before::{
+    AccountBefore, AddressBefore, CustomerBefore, CustomerNameBefore, DistrictBefore, OrderBefore,
+    OrderLineBefore, StockBefore, WarehouseBefore,
+};
 pub use credits::{CreditIds, bad_credit_data, credit_entry, total};
 pub use customers::{Account, Credit, Customer, CustomerName};
 pub use districts::District;
@@ -26,6 +35,7 @@ pub use keys::{
     CustomerKey, DistrictKey, HistoryKey, ItemKey, Key, NewOrderKey, OrderKey, OrderLineKey,
     StockKey, Table, WarehouseKey,
 };
+pub use layouts::Layout;
 pub use locks::{Mode, Name};
 pub use orders::{NewOrder, Order, OrderLine};
 pub use rows::Row;

@@ -16,6 +16,8 @@ use Rattle.oe_requests.specs.declared.answers.Answer.TheVariants as answer
 use Rattle.oe_requests.specs.declared.steps.Step.{Step}
 use Rattle.oe_requests.specs.declared.steps.Step.TheVariants as step
 use Rattle.oe_texts.specs.Answer.{answer_line}
+use Rattle.oe_lines.specs.declared.commands.RingChoice.{RingChoice}
+use Rattle.oe_lines.specs.Rings.{layout_of}
 use Rattle.oe_lines.specs.declared.commands.Command.{Command}
 use Rattle.oe_lines.specs.declared.commands.Command.TheVariants as command
 use Rattle.oe_lines.specs.declared.commands.Display.{Display}
@@ -75,10 +77,10 @@ live_runs : (n : ℕ) (w : World system) (t : ℕ) (x : Answer) (w' : World syst
 live_runs zero w t x w' l r = live_step w (step.Advance t) _ w' tt l r.1
 live_runs (suc n) w t x w' l r = live_runs n r.0 t x w' (live_step w (step.Advance t) _ r.0 tt l r.1) r.2
 
-live_opened : (s : Scale) (extents : ℕ) (r : Rows) → IsScale s → IsPopulated s r
-    → IsLive (Some (opened system r extents))
-live_opened s extents r h p = (
-  opening_is_reached system laws r extents
+live_opened : (s : Scale) (ring : RingChoice) (r : Rows) → IsScale s → IsPopulated s r
+    → IsLive (Some (opened system r ring.extents (layout_of ring)))
+live_opened s ring r h p = (
+  opening_is_reached system laws r ring.extents (layout_of ring)
       (population_is_good r (population_is_one.is_population s r h p)),
   λ t. tt,
 )
@@ -89,9 +91,9 @@ live_stepped w i text s b l (x, w', serves, e, same) = subst IsLive (sym same) (
 
 pub live_answers : (s : State) (c : Command) (text : List ℕ) (s' : State) → HasForm c → IsLive s → Answers s c text s'
     → IsLive s'
-live_answers None (command.Open scale extents) text s' f l (inl (r, p, e, same)) =
-    subst IsLive (sym same) (live_opened scale extents r f.0 p)
-live_answers None (command.Open scale extents) text s' f l (inr (e, same)) = subst IsLive (sym same) tt
+live_answers None (command.Open scale ring) text s' f l (inl (r, p, e, same)) =
+    subst IsLive (sym same) (live_opened scale ring r f.0 p)
+live_answers None (command.Open scale ring) text s' f l (inr (e, same)) = subst IsLive (sym same) tt
 live_answers None (command.Begin t q) text s' f l a = absurd a
 live_answers None (command.Next t) text s' f l a = absurd a
 live_answers None (command.Run t) text s' f l a = absurd a
@@ -103,7 +105,7 @@ live_answers None (command.Audit c m) text s' f l a = absurd a
 live_answers None (command.Read m q) text s' f l a = absurd a
 live_answers None (command.Purge m) text s' f l a = absurd a
 live_answers None (command.Rewind m) text s' f l a = absurd a
-live_answers (Some w) (command.Open scale extents) text s' f l a = absurd a
+live_answers (Some w) (command.Open scale ring) text s' f l a = absurd a
 live_answers (Some w) (command.Begin t q) text s' f l a = live_stepped w (step.Begin t q) text s' (has_program q f.1) l
     a
 live_answers (Some w) (command.Next t) text s' f l a = live_stepped w (step.Advance t) text s' tt l a
@@ -138,7 +140,7 @@ stepped : (w : World system) (i : Step) → IsTold w i → (text : List ℕ) × 
 stepped w i (x, w', serves) = (told i x, Some w', (x, w', serves, refl, refl))
 
 answered : (s : State) (c : Command) → HasForm c → IsLive s → IsAllowed s c → IsAnswered s c
-answered None (command.Open scale extents) f l a =
+answered None (command.Open scale ring) f l a =
     (answer_line (answer.Refused refusal.NoMemory), None, inr (refl, refl))
 answered None (command.Begin t q) f l a = absurd a
 answered None (command.Next t) f l a = absurd a
@@ -151,7 +153,7 @@ answered None (command.Audit c m) f l a = absurd a
 answered None (command.Read m q) f l a = absurd a
 answered None (command.Purge m) f l a = absurd a
 answered None (command.Rewind m) f l a = absurd a
-answered (Some w) (command.Open scale extents) f l a = absurd a
+answered (Some w) (command.Open scale ring) f l a = absurd a
 answered (Some w) (command.Begin t q) f l a = stepped w (step.Begin t q)
     (told_begin w t q f.0.0 f.0.1 (is_request q f.1))
 answered (Some w) (command.Next t) f l a = stepped w (step.Advance t) (told_advance w t l.0)
@@ -167,7 +169,7 @@ answered (Some w) (command.Purge m) f l a = stepped w (step.Purge (moment_in w m
 answered (Some w) (command.Rewind m) f l a = stepped w (step.Rewind (moment_in w m)) (told_rewind w (moment_in w m) l.0)
 
 allowed : (s : State) (c : Command) → IsAllowed s c ⊎ (IsAllowed s c → ⊥)
-allowed None (command.Open scale extents) = inl tt
+allowed None (command.Open scale ring) = inl tt
 allowed None (command.Begin t q) = inr (λ h. h)
 allowed None (command.Next t) = inr (λ h. h)
 allowed None (command.Run t) = inr (λ h. h)
@@ -179,7 +181,7 @@ allowed None (command.Audit c m) = inr (λ h. h)
 allowed None (command.Read m q) = inr (λ h. h)
 allowed None (command.Purge m) = inr (λ h. h)
 allowed None (command.Rewind m) = inr (λ h. h)
-allowed (Some w) (command.Open scale extents) = inr (λ h. h)
+allowed (Some w) (command.Open scale ring) = inr (λ h. h)
 allowed (Some w) (command.Begin t q) = inl tt
 allowed (Some w) (command.Next t) = inl tt
 allowed (Some w) (command.Run t) = inl tt
@@ -280,10 +282,11 @@ shown_cut w n line asked t old new waited waits text x short says e is h =
     ((refl, text, Some w, taken w n line asked (command.Show t) text (Some w) short says e tt (is, refl), h), tt)
 
 -- once something is open it can't be opened again
-pub not_opened : (w : World system) (line : List ℕ) (asked : Command) (scale : Scale) (extents : ℕ) → Says line asked
-    → asked ≡ command.Open scale extents → (c : Command) → Asks (Some w) line c → ⊥
-not_opened w line asked scale extents says e c asks =
-    let same : c ≡ command.Open scale extents = one_command line c asked asks.says says ∙ e in
+pub not_opened : (w : World system) (line : List ℕ) (asked : Command) (scale : Scale) (ring : RingChoice)
+    → Says line asked
+    → asked ≡ command.Open scale ring → (c : Command) → Asks (Some w) line c → ⊥
+not_opened w line asked scale ring says e c asks =
+    let same : c ≡ command.Open scale ring = one_command line c asked asks.says says ∙ e in
     subst (IsAllowed (Some w)) same asks.allowed
 
 -- a line that was answered leaves what is live

@@ -1,12 +1,15 @@
 -- Opening a core on a population, and what its line is answered.
 use Rattle.std.proofs.Common.{◌≡◌, ℕ, ◌≤◌, List, length, None, Some, Result, Ok, Err, IfOk, codes, refl, subst, inl}
-use Rattle.std.proofs.Common.{true}
+use Rattle.std.proofs.Common.{true, ap, ◌∙◌}
 use Rattle.oe_theory.specs.World.{World}
 use Rattle.oe_theory.specs.Theorems.{opened}
 use Rattle.oe_rows.specs.declared.scales.Scale.{Scale}
 use Rattle.oe_model.specs.Rows.{Rows}
 use Rattle.oe_model.specs.Population.{IsPopulated}
 use Rattle.oe_model.specs.System.{system}
+use Rattle.oe_rows.specs.declared.layouts.Layout.{Layout}
+use Rattle.oe_lines.specs.declared.commands.RingChoice.{RingChoice}
+use Rattle.oe_lines.specs.Rings.{layout_of}
 use Rattle.oe_lines.specs.declared.commands.Command.{Command}
 use Rattle.oe_lines.specs.declared.commands.Command.TheVariants as command
 use Rattle.oe_lines.specs.Grammar.{Says}
@@ -14,26 +17,28 @@ use Rattle.oe_script.specs.Script.{State, LineAnswer}
 use Rattle.oe_script.specs.Hearing.{Takes}
 
 -- a core that was opened on these rows is one that was opened on rows of the scale
-pub on_population : {A E : Type 0} (w : A → World system) (scale : Scale) (x : Rows) (n : ℕ) → IsPopulated scale x
-    → (r : Result A E) → IfOk r (λ c. w c ≡ opened system x n)
-    → IfOk r (λ c. (y : Rows) × IsPopulated scale y × (w c ≡ opened system y n))
-on_population w scale x n p (Ok c) e = (x, p, e)
-on_population w scale x n p (Err e) h = h
+pub on_population : {A E : Type 0} (w : A → World system) (scale : Scale) (x : Rows) (n : ℕ) (l m : Layout)
+    → l ≡ m → IsPopulated scale x
+    → (r : Result A E) → IfOk r (λ c. w c ≡ opened system x n l)
+    → IfOk r (λ c. (y : Rows) × IsPopulated scale y × (w c ≡ opened system y n m))
+on_population w scale x n l m same p (Ok c) e = (x, p, e ∙ ap (opened system x n) same)
+on_population w scale x n l m same p (Err e) h = h
 
 -- so the line that asks for it is answered
-pub opened_line : (scale : Scale) (extents : ℕ) (w : World system) (asked : Command) (s : State)
-    → ((y : Rows) × IsPopulated scale y × (w ≡ opened system y extents)) → asked ≡ command.Open scale extents
+pub opened_line : (scale : Scale) (ring : RingChoice) (w : World system) (asked : Command) (s : State)
+    → ((y : Rows) × IsPopulated scale y × (w ≡ opened system y ring.extents (layout_of ring)))
+    → asked ≡ command.Open scale ring
     → s ≡ Some w
     → (n : ℕ) (line : List ℕ) → length line ≤ 1_024 → Says line asked → LineAnswer None n line (codes "opened\n") s
-opened_line scale extents w asked s (y, p, e) is same n line short says =
+opened_line scale ring w asked s (y, p, e) is same n line short says =
     inl (
-      command.Open scale extents,
+      command.Open scale ring,
       record { short = short; says = subst (λ z. Says line z) is says; allowed = tt },
       inl (y, p, refl, subst (λ z. s ≡ Some z) e same),
     )
 
 -- and it is a command there
-pub opening_taken : (scale : Scale) (extents : ℕ) (asked : Command) → asked ≡ command.Open scale extents
+pub opening_taken : (scale : Scale) (ring : RingChoice) (asked : Command) → asked ≡ command.Open scale ring
     → (line : List ℕ) → length line ≤ 1_024 → Says line asked → Takes true None line
-opening_taken scale extents asked is line short says =
-    (command.Open scale extents, record { short = short; says = subst (λ z. Says line z) is says; allowed = tt })
+opening_taken scale ring asked is line short says =
+    (command.Open scale ring, record { short = short; says = subst (λ z. Says line z) is says; allowed = tt })

@@ -16,6 +16,8 @@ use Rattle.oe_requests.specs.declared.audits.Condition.{Condition}
 use Rattle.oe_requests.specs.declared.steps.Step.{Step}
 use Rattle.oe_requests.specs.declared.steps.Step.TheVariants as step
 use Rattle.oe_texts.specs.Answer.{answer_line, audit_line}
+use Rattle.oe_lines.specs.declared.commands.RingChoice.{RingChoice}
+use Rattle.oe_lines.specs.Rings.{layout_of}
 use Rattle.oe_lines.specs.declared.commands.Command.{Command}
 use Rattle.oe_lines.specs.declared.commands.Command.TheVariants as command
 use Rattle.oe_lines.specs.declared.commands.Display.{Display}
@@ -64,9 +66,10 @@ Ran w t text s = (n : ℕ) × (x : Answer) × (w' : World system) × RunsIn n w 
     × (s ≡ Some w')
 
 -- an opening gives a population of that scale, or is refused where memory is, and may then be asked for again
-abbrev pub Opens : Scale → ℕ → List ℕ → State → Type 0
-Opens scale extents text s =
-    ((r : Rows) × IsPopulated scale r × (text ≡ codes "opened\n") × (s ≡ Some (opened system r extents)))
+abbrev pub Opens : Scale → RingChoice → List ℕ → State → Type 0
+Opens scale ring text s =
+    ((r : Rows) × IsPopulated scale r × (text ≡ codes "opened\n")
+    × (s ≡ Some (opened system r ring.extents (layout_of ring))))
     ⊎ ((text ≡ answer_line (answer.Refused refusal.NoMemory)) × (s ≡ None))
 
 -- what is shown of a world as it stands: a table's rows, who waits for whom, or who holds what
@@ -77,16 +80,16 @@ shown_text display.Locks w = locks_text w
 
 -- before something is open only `open` is in the grammar, and afterwards it is not
 abbrev pub IsAllowed : State → Command → Type 0
-IsAllowed None (command.Open scale extents) = Unit {0}
+IsAllowed None (command.Open scale ring) = Unit {0}
 IsAllowed None c = ⊥
-IsAllowed (Some w) (command.Open scale extents) = ⊥
+IsAllowed (Some w) (command.Open scale ring) = ⊥
 IsAllowed (Some w) c = Unit {0}
 
 -- the command may be answered by this text, and this state is left
 abbrev pub Answers : State → Command → List ℕ → State → Type 0
-Answers None (command.Open scale extents) text s = Opens scale extents text s
+Answers None (command.Open scale ring) text s = Opens scale ring text s
 Answers None c text s = ⊥
-Answers (Some w) (command.Open scale extents) text s = ⊥
+Answers (Some w) (command.Open scale ring) text s = ⊥
 Answers (Some w) (command.Begin t q) text s = Stepped w (step.Begin t q) text s
 Answers (Some w) (command.Next t) text s = Stepped w (step.Advance t) text s
 Answers (Some w) (command.Run t) text s = Ran w t text s

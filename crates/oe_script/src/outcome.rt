@@ -4,6 +4,7 @@ ghost use Rattle.arrayvec.specs.ArrayVec.{array_vec_len};
 ghost use Rattle.oe_theory.specs.Next.{Next};
 ghost use Rattle.oe_theory.specs.Theorems.{opened};
 ghost use Rattle.oe_model.specs.Rows.{Rows};
+ghost use Rattle.oe_lines.specs.Rings.{layout_of};
 ghost use Rattle.oe_model.specs.Population.{IsPopulated};
 ghost use Rattle.oe_model.specs.System.{system};
 ghost use Rattle.oe_lines.specs.Grammar.{Says, HasForm};
@@ -22,6 +23,7 @@ ghost use Rattle.oe_script.specs.Hearing.{Takes};
 ghost use Rattle.oe_script.specs.Outcome.{IsAnswer, Tells, TellsRun, Sorts};
 
 use oe_core::{Advanced, Core};
+use oe_lines::commands::RingChoice;
 use oe_lines::{Command, Display, MomentChoice, command, payment_to_begin, terminal_to_run};
 use oe_population::populate;
 use oe_ports::dumps::dump;
@@ -30,7 +32,7 @@ use oe_ports::ports::{Failed, Outlet};
 use oe_requests::{Answer, Condition, Query, Refusal, Request, Step};
 use oe_rows::Scale;
 use oe_texts::{LONGEST, Pending, SIZE, answer, audited, begun, committed, more, opened, refused};
-use oe_values::{ExtentCount, Moment, NoMemory, Terminal};
+use oe_values::{Moment, NoMemory, Terminal};
 use oe_waits::{show_locks, show_waits};
 use std::alloc::Global;
 
@@ -182,7 +184,7 @@ fn first(
         × (out.new.items ≡ out.old.items ++ text) × Takes result None line }
 {
     match asked {
-        Command::Open(scale, extents) => match populated(alloc, *scale, *extents) {
+        Command::Open(scale, ring) => match populated(alloc, *scale, *ring) {
             Ok(made) => {
                 let old = core.replace(made);
                 let None = old else { unreachable!() };
@@ -202,13 +204,13 @@ fn first(
 }
 
 /// Opens a core with the population of a scale.
-fn populated(alloc: Global, scale: Scale, extents: ExtentCount) -> Result<Core, NoMemory>
-    requires { HasForm (asks.Open scale extents) }
+fn populated(alloc: Global, scale: Scale, ring: RingChoice) -> Result<Core, NoMemory>
+    requires { HasForm (asks.Open scale ring) }
     ensures { IfOk result (λ c.
-        (r : Rows) × IsPopulated scale r × (world_of c ≡ opened system r extents)) }
+        (r : Rows) × IsPopulated scale r × (world_of c ≡ opened system r ring.extents (layout_of ring))) }
 {
     match populate(alloc, scale) {
-        Ok(tables) => Core::open(alloc, tables, extents),
+        Ok(tables) => Core::open(alloc, tables, ring.extents, ring.layout_or_whole_rows()),
         Err(e) => Err(e),
     }
 }

@@ -57,7 +57,7 @@ module _ (M : Machine) (L : Laws M) where
       let same : u ≡ t = cc in
       let k : HasOpen M b u q w = subst (λ (z : ℕ). HasOpen M b z q w) (sym same) h in
       let own : o ≡ k.who = some_inj _ _ (sym e ∙ k.is_open) in
-      let next : Open M = moved M o (M.ask (tx_of M u o) o.now.position (tables M w)) c p (tables M w) in
+      let next : Open M = moved M w.layout o (M.ask (tx_of M u o) o.now.position (tables M w)) c p (tables M w) in
       let v : World M = put_active M u (Some next) w in
       subst (λ (z : ℕ). HasOpen M b z q v) same
       (record {

@@ -13,6 +13,7 @@ use Rattle.oe_requests.specs.declared.refusals.Refusal.TheVariants as refusal
 use Rattle.oe_requests.specs.declared.steps.Step.TheVariants as step
 use Rattle.oe_rows.specs.declared.scales.Scale.{Scale}
 use Rattle.oe_model.specs.Rows.{Rows}
+use Rattle.oe_rows.specs.declared.layouts.Layout.TheVariants.{WholeRows}
 use Rattle.oe_model.specs.Population.{IsScale, IsPopulated}
 use Rattle.oe_model.specs.System.{system}
 use Rattle.oe_model.proofs.PopulationFacts.{population_is_one}
@@ -119,17 +120,17 @@ purge_keeps w v m a f n =
 
 -- WHERE THE FIRST TRANSACTION BEGINS
 
-opened_free : (s : Scale) (x : Rows) (n : ℕ) → IsScale s → IsPopulated s x → IsFree (opened system x n)
+opened_free : (s : Scale) (x : Rows) (n : ℕ) → IsScale s → IsPopulated s x → IsFree (opened system x n WholeRows)
 opened_free s x n h p = record {
   live = (
-    opening_is_reached system laws x n (population_is_good x (population_is_one.is_population s x h p)),
+    opening_is_reached system laws x n WholeRows (population_is_good x (population_is_one.is_population s x h p)),
     λ t. tt,
   );
   quiet = λ t. refl;
 }
 
 pub opened_so : {A E : Type 0} (w : A → World system) (s : Scale) (x : Rows) (n : ℕ) → IsScale s → IsPopulated s x
-    → (r : Result A E) → IfOk r (λ c. w c ≡ opened system x n)
+    → (r : Result A E) → IfOk r (λ c. w c ≡ opened system x n WholeRows)
     → IfOk r (λ c. IsFree (w c) × ((y : Rows) × IsPopulated s y × (between system (w c) ≡ at_first system y)))
 opened_so w s x n h p (Ok c) e =
     (subst IsFree (sym e) (opened_free s x n h p), (x, p, ap (λ (z : World system). between system z) e))

@@ -3,6 +3,7 @@ use Rattle.std.specs.Prelude.{◌≡◌, ◌≢◌, ℕ, ◌+◌, ◌≤◌, ◌
 use Rattle.std.specs.Prelude.{codes, if◌then◌else◌}
 use Rattle.oe_rows.specs.declared.scales.Scale.{Scale}
 use Rattle.oe_requests.specs.declared.requests.Request.{Request}
+use Rattle.oe_lines.specs.declared.commands.RingChoice.{RingChoice}
 use Rattle.oe_lines.specs.declared.commands.Command.TheVariants as command
 use Rattle.oe_lines.specs.Grammar.{Says}
 use Rattle.oe_serial.specs.declared.lines.BadLines.{BadLines}
@@ -48,11 +49,11 @@ pub record Tells (line : List ℕ) (t : ℕ) (q : Request) (text : List ℕ) : T
 abbrev pub IsTold : List ℕ → Type 0
 IsTold line = (t : ℕ) × (q : Request) × (text : List ℕ) × Tells line t q text
 
--- it opens that scale, with any number of extents
+-- it opens that scale, with any undo ring
 pub record Opens (line : List ℕ) (s : Scale) : Type 0 where
   pub short : length line ≤ 1_024
-  pub extents : ℕ
-  pub says : Says line (command.Open s extents)
+  pub ring : RingChoice
+  pub says : Says line (command.Open s ring)
 
 -- LINES OF NO FORM
 

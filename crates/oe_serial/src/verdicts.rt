@@ -16,7 +16,7 @@ use crate::answers::AnswerText;
 use crate::lines::{BadLines, bad_lines, opening, parted_at, read_request, told};
 use oe_core::Core;
 use oe_population::populate;
-use oe_rows::Scale;
+use oe_rows::{Layout, Scale};
 use oe_store::Tables;
 use oe_values::{NoMemory, Number};
 use std::alloc::Global;
@@ -120,7 +120,12 @@ fn opened(alloc: Global, scale: Scale) -> Result<Core, NoMemory>
         × ((r : Rows) × IsPopulated scale r × (between system (world_of c) ≡ at_first system r))) }
 {
     match populate(alloc, scale) {
-        Ok(tables) => Core::open(alloc, tables, Number::new(4_096).unwrap()),
+        Ok(tables) => Core::open(
+            alloc,
+            tables,
+            Number::new(4_096).unwrap(),
+            Layout::WholeRows,
+        ),
         Err(e) => Err(e),
     }
 }

@@ -3,6 +3,7 @@ pub mod PlaceFacts
 pub mod SoundFacts
 pub mod KeyWalkFacts
 mod ColumnFacts
+mod BackFacts
 mod ChoiceFacts
 mod GroupFacts
 mod NewestFacts

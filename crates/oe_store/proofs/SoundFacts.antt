@@ -26,7 +26,7 @@ use Rattle.oe_rows.specs.declared.orders.OrderLine.{OrderLine}
 use Rattle.oe_rows.specs.declared.items.Stock.{Stock}
 use Rattle.oe_model.specs.Keys.{order_of_new_order}
 use Rattle.oe_model.specs.Rows.{Rows, is_key, row_at}
-use Rattle.oe_model.specs.Changes.{Change, key_of, row_of, changed, Record, record_key, row_before, put_back}
+use Rattle.oe_model.specs.Changes.{Change, key_of, row_of, changed, Record, record_key, restore, put_back}
 use Rattle.oe_model.specs.Changes.{DeletedNewOrder}
 use Rattle.oe_model.specs.Meets.{Meets, Accepts}
 use Rattle.oe_rows.proofs.KeyFacts.{new_order_total, exact_new_order}
@@ -57,7 +57,8 @@ pub sound_put_back : (b : Record) (r : Rows) → Meets (put_back b r) → IsNumb
     → IsSound (put_back b r)
 sound_put_back b r schema mine s = record {
   schema = schema;
-  numbered = λ k h. own_or_other r (record_key b) k (row_before b) (is_key k (record_key b)) refl mine s.numbered
+  numbered = λ k h. own_or_other r (record_key b) k (restore b (row_at r k)) (is_key k (record_key b)) refl mine
+      s.numbered
       (subst IsSome (at_put_back b r k) h);
 }
 

@@ -14,6 +14,7 @@
 
 pub mod choices;
 pub mod columns;
+pub mod columns_back;
 pub mod inserts;
 pub mod key_walks;
 pub mod purges;

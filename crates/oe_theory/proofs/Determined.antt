@@ -39,7 +39,8 @@ module _ (M : Machine) where
   data Done (w : World M) (t : ℕ) (o : Open M) (a : Answer M) (v : World M) : Type 0 where
     went : (c : Option Change) (p : Position) → act (tx_of M t o) o.now.position (tables M w) ≡ Go c p → HasRoom M w o c
         → a ≡ More
-        → v ≡ put_active M t (Some (moved M o (ask (tx_of M t o) o.now.position (tables M w)) c p (tables M w))) w
+        → v ≡ put_active M t
+        (Some (moved M w.layout o (ask (tx_of M t o) o.now.position (tables M w)) c p (tables M w))) w
         → Done w t o a v
     was_full : (c : Change) (p : Position) → act (tx_of M t o) o.now.position (tables M w) ≡ Go (Some c) p
         → IsFull M w o c → a ≡ Undo_full → v ≡ w → Done w t o a v
@@ -194,8 +195,8 @@ module _ (M : Machine) where
       let j : p ≡ p' = cc in
       let x = ask (tx_of M t o) o.now.position (tables M w) in
       same_by a a' More v v' _ e f e'
-      (f' ∙ (ap (λ z. put_active M t (Some (moved M o x z p' (tables M w))) w) (sym i)
-      ∙ ap (λ z. put_active M t (Some (moved M o x c z (tables M w))) w) (sym j)))
+      (f' ∙ (ap (λ z. put_active M t (Some (moved M w.layout o x z p' (tables M w))) w) (sym i)
+      ∙ ap (λ z. put_active M t (Some (moved M w.layout o x c z (tables M w))) w) (sym j)))
   same_done w t o a a' v v' (went c p r h e f) (was_full c' p' r' h' e' f') =
       let same : ◌≡◌ {A = Act Change Position Reply Refusal} (Go c p) (Go (Some c') p') = sym r ∙ r' in
       let i : c ≡ Some c' = cc in

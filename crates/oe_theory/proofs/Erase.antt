@@ -39,7 +39,14 @@ module _ (M : Machine) (L : Laws M) where
   forget t w = put_active M t None w
 
   abbrev with_active : World M → (ℕ → Option (Open M)) → World M
-  with_active w f = record { base = w.base; counts = w.counts; history = w.history; active = f; extents = w.extents }
+  with_active w f = record {
+    base = w.base;
+    counts = w.counts;
+    history = w.history;
+    active = f;
+    extents = w.extents;
+    layout = w.layout;
+  }
 
   -- what a step of the transaction itself has done
   data Own_step (w : World M) (t : ℕ) (a : Answer M) (v : World M) : Type 0 where
@@ -59,7 +66,7 @@ module _ (M : Machine) (L : Laws M) where
       → works_on M i ≡ Some t → Next M w i a v → Own_step w t a v
   own_step w t o l _ _ _ h (begins u q b) = absurd (some_none t (sym h))
   own_step w t o l _ _ _ h (goes_on u p c q e g r room) =
-      let p' = moved M p (ask (tx_of M u p) p.now.position (tables M w)) c q (tables M w) in
+      let p' = moved M w.layout p (ask (tx_of M u p) p.now.position (tables M w)) c q (tables M w) in
       went_on refl p' (set_same u (Some p') w.active t (sym (some_inj u t h))) (put_own w t u p' (some_inj u t h))
   own_step w t o l _ _ _ h (commits u p reply e g r) = was_committed refl refl
   own_step w t o l _ _ _ h (saves u p e) =
@@ -138,9 +145,9 @@ module _ (M : Machine) (L : Laws M) where
       → w.active u ≡ Some o
       → IsGranted M w u (ask (tx_of M u o) o.now.position (tables M w))
       → act (tx_of M u o) o.now.position (tables M w) ≡ Go c p
-      → add_length M c (tables M w) o.lengths ≡ add_length M c (tables M (forget t w)) o.lengths
+      → add_length M w.layout c (tables M w) o.lengths ≡ add_length M w.layout c (tables M (forget t w)) o.lengths
   same_lengths w s t u o None p ne e g r = refl
-  same_lengths w s t u o (Some c) p ne e g r = ap (λ v. size_of (record_of c v) ∷ o.lengths)
+  same_lengths w s t u o (Some c) p ne e g r = ap (λ v. size_of (record_of w.layout c v) ∷ o.lengths)
       (same_row w s t u o c p ne e g r)
 
   -- without it no more extents are used
@@ -163,7 +170,8 @@ module _ (M : Machine) (L : Laws M) where
       → HasRoom M w o c → HasRoom M (forget t w) o c
   same_room w s t u o None p ne e g r room = room
   same_room w s t u o (Some c) p ne e g r (inl fits) =
-      inl (subst (λ v. size_of (record_of c v) ≤ (filled M o.lengths).1) (same_row w s t u o c p ne e g r) fits)
+      inl (subst (λ v. size_of (record_of w.layout c v) ≤ (filled M o.lengths).1)
+      (same_row w s t u o c p ne e g r) fits)
   same_room w s t u o (Some c) p ne e g r (inr free) = inr (omega (arith, free, fewer_used t M.terminal_limit w.active))
 
   put_other : (w : World M) (t u : ℕ) (v : Option (Open M)) → u ≢ t
@@ -191,13 +199,13 @@ module _ (M : Machine) (L : Laws M) where
   other_step w s t o l _ _ _ h (goes_on u p c q e g r room) =
       let ne : u ≢ t = λ z. h (ap Some z) in
       let a = ask (tx_of M u p) p.now.position (tables M w) in
-      let p' = moved M p a c q (tables M w) in
+      let p' = moved M w.layout p a c q (tables M w) in
       stands refl o (still_open w t u o (Some p') ne l)
       (subst (Next M (forget t w) (Advance u) More) (put_other w t u (Some p') ne)
       (subst (λ (z : List ℕ). Next M (forget t w) (Advance u) More
       (put_active M u (Some (record p' { lengths = z })) (forget t w))) (sym (same_lengths w s t u p c q ne e g r))
       (subst (λ (z : Ask Name Refusal). Next M (forget t w) (Advance u) More
-      (put_active M u (Some (moved M p z c q (tables M (forget t w)))) (forget t w))) (sym
+      (put_active M u (Some (moved M w.layout p z c q (tables M (forget t w)))) (forget t w))) (sym
       (same_ask w s t u p ne e))
       (goes_on u p c q (live_without w t u (Some p) ne e) (granted w s t u p ne e g)
       (sym (same_act w s t u p ne e g) ∙ r) (same_room w s t u p c q ne e g r room)))))

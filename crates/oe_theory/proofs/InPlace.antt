@@ -86,8 +86,10 @@ module _ (M : Machine) (L : Laws M) where
           ∙ (ap (λ z. upon M L z (row_at (latest M w) k)) h ∙ sym (tables_stand M L w s t o e k v h))
 
   of_goes : (w : World M) → Sound M w → (t : ℕ) (o : Open M) (c : Option Change) (p : Position) → w.active t ≡ Some o
-      → Sound M (put_active M t (Some (moved M o (ask (tx_of M t o) o.now.position (tables M w)) c p (tables M w))) w)
-      → tables M (put_active M t (Some (moved M o (ask (tx_of M t o) o.now.position (tables M w)) c p (tables M w))) w)
+      → Sound M (put_active M t
+      (Some (moved M w.layout o (ask (tx_of M t o) o.now.position (tables M w)) c p (tables M w))) w)
+      → tables M
+      (put_active M t (Some (moved M w.layout o (ask (tx_of M t o) o.now.position (tables M w)) c p (tables M w))) w)
       ≡ with_change M (Go c p) (tables M w)
   of_goes w s t o None p e s' = same_changes w t _ (λ k. ap (λ z. net_of M L z k) e)
   of_goes w s t o (Some c) p e s' = one_change w t o _ c e refl s'
@@ -108,9 +110,16 @@ module _ (M : Machine) (L : Laws M) where
   tables_next w s u k _ _ _ (purges m l h) = ap (layers M w.active terminal_limit) (purged_latest M L w m)
   tables_next w s u k _ _ _ (rewinds m q l h) =
       sym (ap (unwind_commits M (take (newest M w - m) u.history)) (quiet_tables M L w q)
-      ∙ commits_unwound M L w.base (newest M w - m) w.history u.history k.commits
+      ∙ commits_unwound M L w.layout w.base (newest M w - m) w.history u.history k.commits
       ∙ sym (quiet_tables M L
-      (record { base = w.base; counts = w.counts; history = _; active = w.active; extents = w.extents }) q))
+      (record {
+        base = w.base;
+        counts = w.counts;
+        history = _;
+        active = w.active;
+        extents = w.extents;
+        layout = w.layout;
+      }) q))
   tables_next w s u k _ _ _ (stops t o x e r) = sym (forgets M L w s u k t)
   tables_next w s u k _ _ _ (fails t o x e g r) = sym (forgets M L w s u k t)
   tables_next w s u k _ _ _ n = refl

@@ -49,9 +49,10 @@ module _ (M : Machine) (L : Laws M) where
       unwind-append (active t) (open_records M (set t [] active) ts) r
       ∙ unwind_records (set t [] active) ts (unwind M (active t) r)
 
-  finds : (r : Map) (c : Change) (cs : List Change) (m : Map) → Stand M L m (c ∷ cs) → M.Accepts c (overlay M cs r)
-      → Finds M (record_on M c (overlay M cs r)) m
-  finds r c cs m s a =
+  finds : (l : M.Layout) (r : Map) (c : Change) (cs : List Change) (m : Map) → Stand M L m (c ∷ cs)
+      → M.Accepts c (overlay M cs r)
+      → Finds M l (record_on M l c (overlay M cs r)) m
+  finds l r c cs m s a =
       let here : row_at m (key_of c) ≡ row_of c = s (key_of c) (row_of c)
       (ap (λ z. cond z (Some (row_of c)) (net M cs (key_of c))) (key_refl (key_of c))) in
       record {
@@ -60,45 +61,47 @@ module _ (M : Machine) (L : Laws M) where
         accepted = a;
         is_of = refl;
         left = here;
-        redone = redoes c (row_at (overlay M cs r) (key_of c)) m here;
-        brought_back = back_at M L r c cs m s (key_of c) true (key_refl (key_of c));
+        redone = redoes l c (row_at (overlay M cs r) (key_of c)) m here;
+        brought_back = back_at M L l r c cs m s (key_of c) true (key_refl (key_of c));
       }
 
   module _ (P : Map → Type 0) where
-    goes_append : (xs ys : List Record) (r : Map) → GoesBack M P xs r → GoesBack M P ys (unwind M xs r)
-        → GoesBack M P (xs ++ ys) r
-    goes_append [] ys r h k = k
-    goes_append (b ∷ xs) ys r h k = (h.0, h.1, goes_append xs ys (put_back b r) h.2 k)
+    goes_append : (l : M.Layout) (xs ys : List Record) (r : Map) → GoesBack M l P xs r
+        → GoesBack M l P ys (unwind M xs r)
+        → GoesBack M l P (xs ++ ys) r
+    goes_append l [] ys r h k = k
+    goes_append l (b ∷ xs) ys r h k = (h.0, h.1, goes_append l xs ys (put_back b r) h.2 k)
 
     -- the first records of a list that goes back
-    pub goes_front : (xs ys : List Record) (r : Map) → GoesBack M P (xs ++ ys) r → GoesBack M P xs r
-    goes_front [] [] r h = h
-    goes_front [] (b ∷ ys) r h = h.0
-    goes_front (b ∷ xs) ys r h = (h.0, h.1, goes_front xs ys (put_back b r) h.2)
+    pub goes_front : (l : M.Layout) (xs ys : List Record) (r : Map) → GoesBack M l P (xs ++ ys) r
+        → GoesBack M l P xs r
+    goes_front l [] [] r h = h
+    goes_front l [] (b ∷ ys) r h = h.0
+    goes_front l (b ∷ xs) ys r h = (h.0, h.1, goes_front l xs ys (put_back b r) h.2)
 
-    goes_by : (r : Map) (cs : List Change) (m : Map) → Stand M L m cs → AreAccepted r cs
-        → ((n : ℕ) → P (unwind M (take n (records_of M r cs)) m)) → GoesBack M P (records_of M r cs) m
-    goes_by r [] m s a p = p 0
-    goes_by r (c ∷ cs) m s a p = (
+    goes_by : (l : M.Layout) (r : Map) (cs : List Change) (m : Map) → Stand M L m cs → AreAccepted r cs
+        → ((n : ℕ) → P (unwind M (take n (records_of M l r cs)) m)) → GoesBack M l P (records_of M l r cs) m
+    goes_by l r [] m s a p = p 0
+    goes_by l r (c ∷ cs) m s a p = (
       p 0,
-      finds r c cs m s a.0,
-      goes_by r cs (put_back (record_on M c (overlay M cs r)) m)
-          (stand_below M L r c cs m s) a.1 (λ n. p (suc n)),
+      finds l r c cs m s a.0,
+      goes_by l r cs (put_back (record_on M l c (overlay M cs r)) m)
+          (stand_below M L l r c cs m s) a.1 (λ n. p (suc n)),
     )
 
     module _ (kept : IsKeptByChanges M P) where
       -- of one open transaction
       one_goes : (w : World M) → Sound M w → (u : Undo M) → Keeps M w u → (t : ℕ)
-          → GoesBack M P (u.active t) (tables M w)
+          → GoesBack M w.layout P (u.active t) (tables M w)
       one_goes w s u k t = go (w.active t) refl
         where
-          go : (v : Option (Open M)) → w.active t ≡ v → GoesBack M P (u.active t) (tables M w)
-          go None e = subst (λ (z : List Record). GoesBack M P z (tables M w)) (sym (k.others t e))
+          go : (v : Option (Open M)) → w.active t ≡ v → GoesBack M w.layout P (u.active t) (tables M w)
+          go None e = subst (λ (z : List Record). GoesBack M w.layout P z (tables M w)) (sym (k.others t e))
               (tables_keep M L P kept.between kept.kept w s)
           go (Some o) e =
               let is = (k.opens t o e).records in
-              subst (λ (z : List Record). GoesBack M P z (tables M w)) (sym is)
-              (goes_by (latest M w) o.now.changes (tables M w) (tables_stand M L w s t o e)
+              subst (λ (z : List Record). GoesBack M w.layout P z (tables M w)) (sym is)
+              (goes_by w.layout (latest M w) o.now.changes (tables M w) (tables_stand M L w s t o e)
               (way_accepts (counts_now M w) o.held (tx_of M t o) (latest M w) (good_latest M L w s t o e) o.now
               (s.each t o e).now)
               (λ n. subst (λ (z : List Record). P (unwind M (take n z) (tables M w))) is
@@ -106,44 +109,48 @@ module _ (M : Machine) (L : Laws M) where
 
       -- of all
       open_goes : (ts : List ℕ) (w : World M) → Sound M w → (u : Undo M) → Keeps M w u
-          → GoesBack M P (open_records M u.active ts) (tables M w)
+          → GoesBack M w.layout P (open_records M u.active ts) (tables M w)
       open_goes [] w s u k = tables_keep M L P kept.between kept.kept w s
       open_goes (t ∷ ts) w s u k =
-          goes_append (u.active t) (open_records M (set t [] u.active) ts) (tables M w) (one_goes w s u k t)
-          (subst (λ (z : Map). GoesBack M P (open_records M (set t [] u.active) ts) z) (sym (forgets M L w s u k t))
+          goes_append w.layout (u.active t) (open_records M (set t [] u.active) ts) (tables M w) (one_goes w s u k t)
+          (subst (λ (z : Map). GoesBack M w.layout P (open_records M (set t [] u.active) ts) z)
+          (sym (forgets M L w s u k t))
           (open_goes ts (put_active M t None w) (sound_drop M L w s t) (put_records M t [] u) (keeps_drop M L w u k t)))
 
       -- of one commit
-      commit_goes : (f : ℕ → ℕ) (r : Map) (c : Commit M) (bs : List Record) → M.Good f r → IsCommit M f r c
-          → IsOfCommit M r c bs → GoesBack M P bs (map_after M (whole c.tx r) r)
-      commit_goes f r c bs g s h =
+      commit_goes : (l : M.Layout) (f : ℕ → ℕ) (r : Map) (c : Commit M) (bs : List Record) → M.Good f r
+          → IsCommit M f r c
+          → IsOfCommit M l r c bs → GoesBack M l P bs (map_after M (whole c.tx r) r)
+      commit_goes l f r c bs g s h =
           let cs = h.last.changes in
-          subst (λ z. GoesBack M P bs (map_after M z r)) (sym h.effect)
-          (subst (λ (z : List Record). GoesBack M P z (overlay M cs r)) (sym h.records)
-          (goes_by r cs (overlay M cs r) (λ k v e. at_overlay M L cs r k ∙ ap (λ z. upon M L z (row_at r k)) e)
+          subst (λ z. GoesBack M l P bs (map_after M z r)) (sym h.effect)
+          (subst (λ (z : List Record). GoesBack M l P z (overlay M cs r)) (sym h.records)
+          (goes_by l r cs (overlay M cs r) (λ k v e. at_overlay M L cs r k ∙ ap (λ z. upon M L z (row_at r k)) e)
           (way_accepts f (all_held M) c.tx r
           (record { good = g; valid = s.valid; known = s.known; terminal = s.terminal; number = s.number }) h.last
           h.alone)
           (λ n. subst (λ (z : List Record). P (unwind M (take n z) (overlay M cs r))) h.records
           (subst (λ z. P (unwind M (take n bs) (map_after M z r))) h.effect
-          (commit_keeps M L P kept.between kept.kept f r c bs g s h n)))))
+          (commit_keeps M L P kept.between kept.kept l f r c bs g s h n)))))
 
       -- of all, from the newest
-      commits_go : (f : ℕ → ℕ) (b : Map) (cs : List (Commit M)) (ss : List (List Record)) → M.Good f b
-          → IsSerial M f b cs → AreOfCommits M b cs ss → GoesBack M P (commit_records M ss) (version M b cs)
-      commits_go f b [] [] g s h = kept.between f b g
-      commits_go f b [] (x ∷ ss) g s h = absurd h
-      commits_go f b (c ∷ cs) [] g s h = absurd h
-      commits_go f b (c ∷ cs) (x ∷ ss) g s h =
-          goes_append x (commit_records M ss) (version M b (c ∷ cs))
-          (commit_goes (counts_after M f cs) (version M b cs) c x (good_version M L f b cs g s.1) s.0 h.0)
-          (subst (λ (z : Map). GoesBack M P (commit_records M ss) z) (sym (one_unwound M L (version M b cs) c x h.0))
-          (commits_go f b cs ss g s.1 h.1))
+      commits_go : (l : M.Layout) (f : ℕ → ℕ) (b : Map) (cs : List (Commit M)) (ss : List (List Record)) → M.Good f b
+          → IsSerial M f b cs → AreOfCommits M l b cs ss → GoesBack M l P (commit_records M ss) (version M b cs)
+      commits_go l f b [] [] g s h = kept.between f b g
+      commits_go l f b [] (x ∷ ss) g s h = absurd h
+      commits_go l f b (c ∷ cs) [] g s h = absurd h
+      commits_go l f b (c ∷ cs) (x ∷ ss) g s h =
+          goes_append l x (commit_records M ss) (version M b (c ∷ cs))
+          (commit_goes l (counts_after M f cs) (version M b cs) c x (good_version M L f b cs g s.1) s.0 h.0)
+          (subst (λ (z : Map). GoesBack M l P (commit_records M ss) z)
+          (sym (one_unwound M L l (version M b cs) c x h.0))
+          (commits_go l f b cs ss g s.1 h.1))
 
       pub each_goes_back : Each_goes_back M P
       each_goes_back w u ts r k all =
           let s = reached_sound M L w r in
-          goes_append (open_records M u.active ts) (commit_records M u.history) (tables M w) (open_goes ts w s u k)
-          (subst (λ (z : Map). GoesBack M P (commit_records M u.history) z)
+          goes_append w.layout (open_records M u.active ts) (commit_records M u.history) (tables M w)
+          (open_goes ts w s u k)
+          (subst (λ (z : Map). GoesBack M w.layout P (commit_records M u.history) z)
           (sym (unwind_records u.active ts (tables M w) ∙ open_unwound M L ts w s u k all))
-          (commits_go w.counts w.base w.history u.history s.good s.serial k.commits))
+          (commits_go w.layout w.counts w.base w.history u.history s.good s.serial k.commits))

@@ -30,13 +30,14 @@ module _ (M : Machine) (L : Laws M) where
       (take-append-drop n cs)
 
   -- the newest records are those of the newest changes
-  take-records : (n : ℕ) (cs : List Change) (r : Map)
-      → take n (records_of M r cs) ≡ records_of M (overlay M (drop n cs) r) (take n cs)
-  take-records zero cs r = refl
-  take-records (suc n) [] r = refl
-  take-records (suc n) (c ∷ cs) r =
-      ap (λ z. record_on M c (overlay M cs r) ∷ z) (take-records n cs r)
-      ∙ ap (λ z. record_on M c z ∷ records_of M (overlay M (drop n cs) r) (take n cs)) (sym (overlay-parted n cs r))
+  take-records : (l : M.Layout) (n : ℕ) (cs : List Change) (r : Map)
+      → take n (records_of M l r cs) ≡ records_of M l (overlay M (drop n cs) r) (take n cs)
+  take-records l zero cs r = refl
+  take-records l (suc n) [] r = refl
+  take-records l (suc n) (c ∷ cs) r =
+      ap (λ z. record_on M l c (overlay M cs r) ∷ z) (take-records l n cs r)
+      ∙ ap (λ z. record_on M l c z ∷ records_of M l (overlay M (drop n cs) r) (take n cs))
+      (sym (overlay-parted n cs r))
 
   -- where a program was before its newest changes
   pub record Before (held : Name → Option Mode) (x : Tx Request) (r : Map) (s : State M) (n : ℕ) : Type 0 where
@@ -91,7 +92,7 @@ module _ (M : Machine) (L : Laws M) where
 
     -- also while a transaction is undone, a record at a time
     undone_keeps : (w : World M) → Sound M w → (t : ℕ) (o : Open M) → w.active t ≡ Some o → (n : ℕ)
-        → P (unwind M (take n (records_of M (latest M w) o.now.changes)) (tables M w))
+        → P (unwind M (take n (records_of M w.layout (latest M w) o.now.changes)) (tables M w))
     undone_keeps w s t o e n = subst P (sym (in_slot ∙ back))
         (tables_keep (put_active M t (Some (at_mark)) marked) sound)
       where
@@ -150,15 +151,16 @@ module _ (M : Machine) (L : Laws M) where
         here : tables M w ≡ tables M marked
         here = L.same_map _ _ (λ k. at_other M L w t (Some o') k (ap (λ z. net_of M L z k) e))
 
-        in_slot : unwind M (take n (records_of M (latest M w) o.now.changes)) (tables M w) ≡ unwind M
-            (records_of M (overlay M old.state.changes (latest M w)) (take n o.now.changes)) (tables M marked)
+        in_slot : unwind M (take n (records_of M w.layout (latest M w) o.now.changes)) (tables M w) ≡ unwind M
+            (records_of M w.layout (overlay M old.state.changes (latest M w)) (take n o.now.changes)) (tables M marked)
         in_slot =
-            ap (λ z. unwind M z (tables M w)) (take-records n o.now.changes (latest M w)
-            ∙ ap (λ (z : List Change). records_of M (overlay M z (latest M w)) (take n o.now.changes))
+            ap (λ z. unwind M z (tables M w)) (take-records w.layout n o.now.changes (latest M w)
+            ∙ ap (λ (z : List Change). records_of M w.layout (overlay M z (latest M w)) (take n o.now.changes))
             (sym old.fewer))
-            ∙ ap (unwind M (records_of M (overlay M old.state.changes (latest M w)) (take n o.now.changes))) here
+            ∙ ap (unwind M (records_of M w.layout (overlay M old.state.changes (latest M w)) (take n o.now.changes)))
+            here
 
-        back : unwind M (records_of M (overlay M old.state.changes (latest M w)) (take n o.now.changes))
+        back : unwind M (records_of M w.layout (overlay M old.state.changes (latest M w)) (take n o.now.changes))
             (tables M marked) ≡ tables M (put_active M t (Some at_mark) marked)
         back = undo_goes_back M L marked sound_marked t o' (set_same t (Some o') w.active t refl) (take n o.now.changes)
             split
@@ -180,10 +182,11 @@ module _ (M : Machine) (L : Laws M) where
             (undone_keeps w s t o e n)
 
     -- and while a commit is undone
-    pub commit_keeps : (f : ℕ → ℕ) (r : Map) (c : Commit M) (bs : List Record) → M.Good f r → IsCommit M f r c
-        → IsOfCommit M r c bs → (n : ℕ)
+    pub commit_keeps : (l : M.Layout) (f : ℕ → ℕ) (r : Map) (c : Commit M) (bs : List Record) → M.Good f r
+        → IsCommit M f r c
+        → IsOfCommit M l r c bs → (n : ℕ)
         → P (unwind M (take n bs) (map_after M (whole c.tx r) r))
-    commit_keeps f r c bs g s k n =
+    commit_keeps l f r c bs g s k n =
         subst P (sym same)
         (way_keeps f (all_held M) c.tx r r
         (record { good = g; valid = s.valid; known = s.known; terminal = s.terminal; number = s.number })
@@ -196,22 +199,23 @@ module _ (M : Machine) (L : Laws M) where
         same =
             ap (λ z. unwind M (take n bs) (map_after M z r)) k.effect
             ∙ (ap (λ z. unwind M (take n z) (overlay M k.last.changes r)) k.records
-            ∙ (ap (λ z. unwind M z (overlay M k.last.changes r)) (take-records n k.last.changes r)
-            ∙ (ap (unwind M (records_of M (overlay M (drop n k.last.changes) r) (take n k.last.changes)))
+            ∙ (ap (λ z. unwind M z (overlay M k.last.changes r)) (take-records l n k.last.changes r)
+            ∙ (ap (unwind M (records_of M l (overlay M (drop n k.last.changes) r) (take n k.last.changes)))
             (sym (overlay-parted n k.last.changes r))
-            ∙ (undo_whole M L (overlay M (drop n k.last.changes) r) (take n k.last.changes)
+            ∙ (undo_whole M L l (overlay M (drop n k.last.changes) r) (take n k.last.changes)
             ∙ ap (λ (z : List Change). overlay M z r) (sym old.fewer)))))
 
     -- of any commit of a history, newest first
-    pub rewinding_keeps : (f : ℕ → ℕ) (b : Map) (cs : List (Commit M)) (ss : List (List Record)) → M.Good f b
-        → IsSerial M f b cs → AreOfCommits M b cs ss → (j n : ℕ)
+    pub rewinding_keeps : (l : M.Layout) (f : ℕ → ℕ) (b : Map) (cs : List (Commit M)) (ss : List (List Record))
+        → M.Good f b
+        → IsSerial M f b cs → AreOfCommits M l b cs ss → (j n : ℕ)
         → P (unwind M (take n (get_or ss j [])) (version M b (drop j cs)))
-    rewinding_keeps f b [] [] g s h zero n = subst (λ (z : List Record). P (unwind M z b)) (sym (take_none n))
+    rewinding_keeps l f b [] [] g s h zero n = subst (λ (z : List Record). P (unwind M z b)) (sym (take_none n))
         (of_good f b g)
-    rewinding_keeps f b [] [] g s h (suc j) n = subst (λ (z : List Record). P (unwind M z b)) (sym (take_none n))
+    rewinding_keeps l f b [] [] g s h (suc j) n = subst (λ (z : List Record). P (unwind M z b)) (sym (take_none n))
         (of_good f b g)
-    rewinding_keeps f b [] (x ∷ ss) g s h j n = absurd h
-    rewinding_keeps f b (c ∷ cs) [] g s h j n = absurd h
-    rewinding_keeps f b (c ∷ cs) (x ∷ ss) g s h zero n = commit_keeps (counts_after M f cs) (version M b cs) c x
+    rewinding_keeps l f b [] (x ∷ ss) g s h j n = absurd h
+    rewinding_keeps l f b (c ∷ cs) [] g s h j n = absurd h
+    rewinding_keeps l f b (c ∷ cs) (x ∷ ss) g s h zero n = commit_keeps l (counts_after M f cs) (version M b cs) c x
         (good_version M L f b cs g s.1) s.0 h.0 n
-    rewinding_keeps f b (c ∷ cs) (x ∷ ss) g s h (suc j) n = rewinding_keeps f b cs ss g s.1 h.1 j n
+    rewinding_keeps l f b (c ∷ cs) (x ∷ ss) g s h (suc j) n = rewinding_keeps l f b cs ss g s.1 h.1 j n

@@ -75,13 +75,13 @@ module _ (M : Machine) (L : Laws M) where
       ∙ commits_idle k (take (newest M w - m) u.history) (row_at (tables M w) k) no_commit)
 
   -- a key with a record of changes is one that they have changed
-  changed_at : (r : Map) (cs : List Change) (k : Key) → HasRecord M k (records_of M r cs)
+  changed_at : (l : M.Layout) (r : Map) (cs : List Change) (k : Key) → HasRecord M k (records_of M l r cs)
       → (v : Option Row) × (net M cs k ≡ Some v)
-  changed_at r [] k h = absurd h
-  changed_at r (c ∷ cs) k (inl e) =
-      let own : key_of c ≡ k = sym (record_key_of c (row_at (overlay M cs r) (key_of c))) ∙ e in
+  changed_at l r [] k h = absurd h
+  changed_at l r (c ∷ cs) k (inl e) =
+      let own : key_of c ≡ k = sym (record_key_of l c (row_at (overlay M cs r) (key_of c))) ∙ e in
       (row_of c, ap (λ z. cond z (Some (row_of c)) (net M cs k)) (ap (is_key k) own ∙ key_refl k))
-  changed_at r (c ∷ cs) k (inr h) = go (is_key k (key_of c)) (changed_at r cs k h)
+  changed_at l r (c ∷ cs) k (inr h) = go (is_key k (key_of c)) (changed_at l r cs k h)
     where
       go : (b : Bool) → (v : Option Row) × (net M cs k ≡ Some v) → (v : Option Row)
           × (cond b (Some (row_of c)) (net M cs k) ≡ Some v)
@@ -98,7 +98,7 @@ module _ (M : Machine) (L : Laws M) where
       go (Some o) e = (
         o,
         e,
-        changed_at (latest M w) o.now.changes k
+        changed_at w.layout (latest M w) o.now.changes k
             (subst (λ (z : List Record). HasRecord M k z) (kept.opens t o e).records h),
       )
 

@@ -56,33 +56,35 @@ module _ (M : Machine) (L : Laws M) where
   readable held x (Own i j) h = h
 
   -- the records are the same on a map that is alike
-  records_alike : (held : Name → Option Mode) (x : Tx M.Request) (r r' : Map) → Alike M (held_of M held) x r r'
+  records_alike : (l : M.Layout) (held : Name → Option Mode) (x : Tx M.Request) (r r' : Map)
+      → Alike M (held_of M held) x r r'
       → (s : State M) → Reached M held x r s
-      → records_of M r s.changes ≡ records_of M r' s.changes
-  records_alike held x r r' a _ at_start = refl
-  records_alike held x r r' a _ (one_more s None p w i e) = records_alike held x r r' a s w
-  records_alike held x r r' a _ (one_more s (Some c) p w i e) =
-      ap (λ z. record_of c z ∷ records_of M r s.changes)
+      → records_of M l r s.changes ≡ records_of M l r' s.changes
+  records_alike l held x r r' a _ at_start = refl
+  records_alike l held x r r' a _ (one_more s None p w i e) = records_alike l held x r r' a s w
+  records_alike l held x r r' a _ (one_more s (Some c) p w i e) =
+      ap (λ z. record_of l c z ∷ records_of M l r s.changes)
       ((alike_overlay M L (held_of M held) x s.changes r r' a).rows (key_of c)
       (readable held x (governs (key_of c))
       (reached_writes M L held x r (record { position = p; changes = c ∷ s.changes }) (one_more s (Some c) p w i e)
       (key_of c) (row_of c)
       (ap (λ z. cond z (Some (row_of c)) (net M s.changes (key_of c))) (key_refl (key_of c))))))
-      ∙ ap (λ z. record_on M c (overlay M s.changes r') ∷ z) (records_alike held x r r' a s w)
+      ∙ ap (λ z. record_on M l c (overlay M s.changes r') ∷ z) (records_alike l held x r r' a s w)
 
   of_open_alike : (w : World M) → Sound M w → (r' : Map) (t : ℕ) (o : Open M) → w.active t ≡ Some o → (bs : List Record)
-      → Alike M (held_of M o.held) (tx_of M t o) (latest M w) r' → IsOfOpen M (latest M w) o bs → IsOfOpen M r' o bs
+      → Alike M (held_of M o.held) (tx_of M t o) (latest M w) r' → IsOfOpen M w.layout (latest M w) o bs
+      → IsOfOpen M w.layout r' o bs
   of_open_alike w s r' t o e bs a k =
       record {
-        records = k.records ∙ records_alike o.held (tx_of M t o) (latest M w) r' a o.now (s.each t o e).now;
+        records = k.records ∙ records_alike w.layout o.held (tx_of M t o) (latest M w) r' a o.now (s.each t o e).now;
         lengths = k.lengths;
         mark_lengths = k.mark_lengths ∙ ap (lengths_of M)
-            (records_alike o.held (tx_of M t o) (latest M w) r' a o.mark (s.each t o e).mark);
+            (records_alike w.layout o.held (tx_of M t o) (latest M w) r' a o.mark (s.each t o e).mark);
       }
 
   -- a transaction that changes, and one that ends
   keeps_put : (w : World M) (u : Undo M) → Keeps M w u → (t : ℕ) (o : Open M) (bs : List Record)
-      → IsOfOpen M (latest M w) o bs
+      → IsOfOpen M w.layout (latest M w) o bs
       → Keeps M (put_active M t (Some o) w) (put_records M t bs u)
   keeps_put w u k t o bs h =
       record {
@@ -92,11 +94,12 @@ module _ (M : Machine) (L : Laws M) where
       }
     where
       one : (i : ℕ) (x : Open M) → ((i ≡ t) × (Some o ≡ Some x)) ⊎ ((i ≢ t) × (w.active i ≡ Some x))
-          → IsOfOpen M (latest M w) x (set t bs u.active i)
+          → IsOfOpen M w.layout (latest M w) x (set t bs u.active i)
       one i x (inl q) =
-          subst (λ (z : Open M). IsOfOpen M (latest M w) z (set t bs u.active i)) (some_inj o x q.1)
-          (subst (IsOfOpen M (latest M w) o) (sym (set_same t bs u.active i q.0)) h)
-      one i x (inr q) = subst (IsOfOpen M (latest M w) x) (sym (set_other t bs u.active i q.0)) (k.opens i x q.1)
+          subst (λ (z : Open M). IsOfOpen M w.layout (latest M w) z (set t bs u.active i)) (some_inj o x q.1)
+          (subst (IsOfOpen M w.layout (latest M w) o) (sym (set_same t bs u.active i q.0)) h)
+      one i x (inr q) = subst (IsOfOpen M w.layout (latest M w) x) (sym (set_other t bs u.active i q.0))
+          (k.opens i x q.1)
 
       none : (i : ℕ) → set t (Some o) w.active i ≡ None → set t bs u.active i ≡ []
       none i p = set_other t bs u.active i apart ∙ k.others i (sym (set_other t (Some o) w.active i apart) ∙ p)
@@ -105,7 +108,8 @@ module _ (M : Machine) (L : Laws M) where
           apart q = some_none o (sym (set_same t (Some o) w.active i q) ∙ p)
 
   -- where its records stay
-  keeps_same : (w : World M) (u : Undo M) → Keeps M w u → (t : ℕ) (o : Open M) → IsOfOpen M (latest M w) o (u.active t)
+  keeps_same : (w : World M) (u : Undo M) → Keeps M w u → (t : ℕ) (o : Open M)
+      → IsOfOpen M w.layout (latest M w) o (u.active t)
       → Keeps M (put_active M t (Some o) w) u
   keeps_same w u k t o h =
       subst (λ (f : ℕ → List Record). Keeps M (put_active M t (Some o) w) (record { active = f; history = u.history }))
@@ -134,7 +138,7 @@ module _ (M : Machine) (L : Laws M) where
       record {
         commits = k.commits;
         opens = λ i x p. let h = still_open t w.active i x p in
-            subst (IsOfOpen M (latest M w) x) (sym (set_other t [] u.active i h.0)) (k.opens i x h.1);
+            subst (IsOfOpen M w.layout (latest M w) x) (sym (set_other t [] u.active i h.0)) (k.opens i x h.1);
         others = none_left w u k t;
       }
 
@@ -143,8 +147,9 @@ module _ (M : Machine) (L : Laws M) where
       → (t : ℕ) (o : Open M) (c : Option Change) (p : Position) → w.active t ≡ Some o
       → IsGranted M w t (ask (tx_of M t o) o.now.position (tables M w))
       → act (tx_of M t o) o.now.position (tables M w) ≡ Go c p
-      → IsOfOpen M (latest M w) (moved M o (ask (tx_of M t o) o.now.position (tables M w)) c p (tables M w))
-      (with_record M (Go c p) (tables M w) (u.active t))
+      → IsOfOpen M w.layout (latest M w)
+      (moved M w.layout o (ask (tx_of M t o) o.now.position (tables M w)) c p (tables M w))
+      (with_record M w.layout (Go c p) (tables M w) (u.active t))
   keeps_goes w s u k t o c p e g r =
       record {
         records = pushes c r;
@@ -153,19 +158,20 @@ module _ (M : Machine) (L : Laws M) where
       }
     where
       pushes : (c : Option Change) → act (tx_of M t o) o.now.position (tables M w) ≡ Go c p
-          → with_record M (Go c p) (tables M w) (u.active t) ≡ records_of M (latest M w) (add M c o.now.changes)
+          → with_record M w.layout (Go c p) (tables M w) (u.active t)
+          ≡ records_of M w.layout (latest M w) (add M c o.now.changes)
       pushes None r = (k.opens t o e).records
       pushes (Some c) r =
-          ap (λ z. record_of c z ∷ u.active t) (row_alone M L w s t o c p e g r)
-          ∙ ap (λ z. record_on M c (overlay M o.now.changes (latest M w)) ∷ z) (k.opens t o e).records
+          ap (λ z. record_of w.layout c z ∷ u.active t) (row_alone M L w s t o c p e g r)
+          ∙ ap (λ z. record_on M w.layout c (overlay M o.now.changes (latest M w)) ∷ z) (k.opens t o e).records
 
-      longer : (c : Option Change) → add_length M c (tables M w) o.lengths ≡ lengths_of M
-          (with_record M (Go c p) (tables M w) (u.active t))
+      longer : (c : Option Change) → add_length M w.layout c (tables M w) o.lengths ≡ lengths_of M
+          (with_record M w.layout (Go c p) (tables M w) (u.active t))
       longer None = (k.opens t o e).lengths
-      longer (Some c) = ap (λ z. size_of (record_on M c (tables M w)) ∷ z) (k.opens t o e).lengths
+      longer (Some c) = ap (λ z. size_of (record_on M w.layout c (tables M w)) ∷ z) (k.opens t o e).lengths
 
       marked : (b : Bool) → cond b o.lengths o.mark_lengths ≡ lengths_of M
-          (records_of M (latest M w) (cond b o.now o.mark).changes)
+          (records_of M w.layout (latest M w) (cond b o.now o.mark).changes)
       marked true = (k.opens t o e).lengths ∙ ap (lengths_of M) (k.opens t o e).records
       marked false = (k.opens t o e).mark_lengths
 
@@ -173,20 +179,21 @@ module _ (M : Machine) (L : Laws M) where
   overlay-append [] ys r = refl
   overlay-append (x ∷ xs) ys r = ap (M.put x) (overlay-append xs ys r)
 
-  pub records-append : (xs ys : List Change) (r : Map) → records_of M r (xs ++ ys) ≡ records_of M (overlay M ys r) xs
-      ++ records_of M r ys
-  records-append [] ys r = refl
-  records-append (x ∷ xs) ys r =
-      ap (λ z. record_of x (row_at z (key_of x)) ∷ records_of M r (xs ++ ys)) (sym (overlay-append xs ys r))
-      ∙ ap (λ z. record_on M x (overlay M xs (overlay M ys r)) ∷ z) (records-append xs ys r)
+  pub records-append : (l : M.Layout) (xs ys : List Change) (r : Map) → records_of M l r (xs ++ ys)
+      ≡ records_of M l (overlay M ys r) xs
+      ++ records_of M l r ys
+  records-append l [] ys r = refl
+  records-append l (x ∷ xs) ys r =
+      ap (λ z. record_of l x (row_at z (key_of x)) ∷ records_of M l r (xs ++ ys)) (sym (overlay-append xs ys r))
+      ∙ ap (λ z. record_on M l x (overlay M xs (overlay M ys r)) ∷ z) (records-append l xs ys r)
 
   pub lengths-append : (xs ys : List Record) → lengths_of M (xs ++ ys) ≡ lengths_of M xs ++ lengths_of M ys
   lengths-append [] ys = refl
   lengths-append (x ∷ xs) ys = ap (λ z. size_of x ∷ z) (lengths-append xs ys)
 
-  pub length-records : (cs : List Change) (r : Map) → length (records_of M r cs) ≡ length cs
-  length-records [] r = refl
-  length-records (c ∷ cs) r = ap suc (length-records cs r)
+  pub length-records : (l : M.Layout) (cs : List Change) (r : Map) → length (records_of M l r cs) ≡ length cs
+  length-records l [] r = refl
+  length-records l (c ∷ cs) r = ap suc (length-records l cs r)
 
   pub drop_front : (xs ys : List Record) (n : ℕ) → n ≡ length xs → drop n (xs ++ ys) ≡ ys
   drop_front [] ys n e = ap (λ (z : ℕ). drop z ys) e
@@ -199,50 +206,53 @@ module _ (M : Machine) (L : Laws M) where
 
   -- an open transaction's records are those since the mark and those at the mark
   pub parted : (w : World M) (s : Sound M w) (u : Undo M) → Keeps M w u → (t : ℕ) (o : Open M) (e : w.active t ≡ Some o)
-      → u.active t ≡ records_of M (overlay M o.mark.changes (latest M w)) (s.each t o e).since
-      ++ records_of M (latest M w) o.mark.changes
+      → u.active t ≡ records_of M w.layout (overlay M o.mark.changes (latest M w)) (s.each t o e).since
+      ++ records_of M w.layout (latest M w) o.mark.changes
   parted w s u k t o e =
       (k.opens t o e).records
-      ∙ (ap (records_of M (latest M w)) (s.each t o e).split ∙ records-append (s.each t o e).since o.mark.changes
+      ∙ (ap (records_of M w.layout (latest M w)) (s.each t o e).split
+      ∙ records-append w.layout (s.each t o e).since o.mark.changes
       (latest M w))
 
   pub since_mark : (w : World M) (s : Sound M w) (u : Undo M) → Keeps M w u
       → (t : ℕ) (o : Open M) (e : w.active t ≡ Some o)
       → length (u.active t) - length o.mark.changes ≡ length
-      (records_of M (overlay M o.mark.changes (latest M w)) (s.each t o e).since)
+      (records_of M w.layout (overlay M o.mark.changes (latest M w)) (s.each t o e).since)
   since_mark w s u k t o e =
-      let front = records_of M (overlay M o.mark.changes (latest M w)) (s.each t o e).since in
-      let back = records_of M (latest M w) o.mark.changes in
+      let front = records_of M w.layout (overlay M o.mark.changes (latest M w)) (s.each t o e).since in
+      let back = records_of M w.layout (latest M w) o.mark.changes in
       let a : length (u.active t) ≡ length (front ++ back) = ap length (parted w s u k t o e) in
-      let b : length back ≡ length o.mark.changes = length-records o.mark.changes (latest M w) in
+      let b : length back ≡ length o.mark.changes = length-records w.layout o.mark.changes (latest M w) in
       omega (arith, length-append front back, a, b)
 
   cut_mark : (w : World M) → Sound M w → (u : Undo M) → Keeps M w u → (t : ℕ) (o : Open M) → w.active t ≡ Some o
-      → cut M (Some o) (u.active t) ≡ records_of M (latest M w) o.mark.changes
+      → cut M (Some o) (u.active t) ≡ records_of M w.layout (latest M w) o.mark.changes
   cut_mark w s u k t o e =
       ap (drop (length (u.active t) - length o.mark.changes)) (parted w s u k t o e)
       ∙ drop_front _ _ _ (since_mark w s u k t o e)
 
   -- commits
-  commits_take : (b : Map) (j : ℕ) (cs : List (Commit M)) (ss : List (List Record)) → AreOfCommits M b cs ss
-      → AreOfCommits M (version M b (drop j cs)) (take j cs) (take j ss)
-  commits_take b zero cs ss h = tt
-  commits_take b (suc j) [] [] h = tt
-  commits_take b (suc j) [] (s ∷ ss) h = absurd h
-  commits_take b (suc j) (c ∷ cs) [] h = absurd h
-  commits_take b (suc j) (c ∷ cs) (s ∷ ss) h = (
-    subst (λ (r : Map). IsOfCommit M r c s)
+  commits_take : (l : M.Layout) (b : Map) (j : ℕ) (cs : List (Commit M)) (ss : List (List Record))
+      → AreOfCommits M l b cs ss
+      → AreOfCommits M l (version M b (drop j cs)) (take j cs) (take j ss)
+  commits_take l b zero cs ss h = tt
+  commits_take l b (suc j) [] [] h = tt
+  commits_take l b (suc j) [] (s ∷ ss) h = absurd h
+  commits_take l b (suc j) (c ∷ cs) [] h = absurd h
+  commits_take l b (suc j) (c ∷ cs) (s ∷ ss) h = (
+    subst (λ (r : Map). IsOfCommit M l r c s)
         (sym (version-append M L b (take j cs) (drop j cs) ∙ ap (version M b) (take-append-drop j cs))) h.0,
-    commits_take b j cs ss h.1,
+    commits_take l b j cs ss h.1,
   )
 
-  commits_drop : (b : Map) (j : ℕ) (cs : List (Commit M)) (ss : List (List Record)) → AreOfCommits M b cs ss
-      → AreOfCommits M b (drop j cs) (drop j ss)
-  commits_drop b zero cs ss h = h
-  commits_drop b (suc j) [] [] h = tt
-  commits_drop b (suc j) [] (s ∷ ss) h = absurd h
-  commits_drop b (suc j) (c ∷ cs) [] h = absurd h
-  commits_drop b (suc j) (c ∷ cs) (s ∷ ss) h = commits_drop b j cs ss h.1
+  commits_drop : (l : M.Layout) (b : Map) (j : ℕ) (cs : List (Commit M)) (ss : List (List Record))
+      → AreOfCommits M l b cs ss
+      → AreOfCommits M l b (drop j cs) (drop j ss)
+  commits_drop l b zero cs ss h = h
+  commits_drop l b (suc j) [] [] h = tt
+  commits_drop l b (suc j) [] (s ∷ ss) h = absurd h
+  commits_drop l b (suc j) (c ∷ cs) [] h = absurd h
+  commits_drop l b (suc j) (c ∷ cs) (s ∷ ss) h = commits_drop l b j cs ss h.1
 
   keeps_commits : (w : World M) → Sound M w → (u : Undo M) → Keeps M w u → (t : ℕ) (o : Open M) (y : Reply)
       → w.active t ≡ Some o
@@ -263,9 +273,9 @@ module _ (M : Machine) (L : Laws M) where
           k.commits,
         );
         opens = λ i x p. let h = still_open t w.active i x p in
-            subst (IsOfOpen M (map_after M (whole (tx_of M t o) (latest M w)) (latest M w)) x)
+            subst (IsOfOpen M w.layout (map_after M (whole (tx_of M t o) (latest M w)) (latest M w)) x)
             (sym (set_other t [] u.active i h.0))
-            (subst (λ (z : Option (Map × Reply)). IsOfOpen M (map_after M z (latest M w)) x (u.active i))
+            (subst (λ (z : Option (Map × Reply)). IsOfOpen M w.layout (map_after M z (latest M w)) x (u.active i))
             (sym (commit_whole M L w s t o y e g r))
             (of_open_alike w s (overlay M o.now.changes (latest M w)) i x h.1 (u.active i)
             (alike_other M L w s i t x o h.0 h.1 e) (k.opens i x h.1)));
@@ -284,13 +294,13 @@ module _ (M : Machine) (L : Laws M) where
       })
   keeps_next w s u k _ _ _ (goes_on t o c p e g r room) =
       subst (λ (z : Option (Open M)). Keeps M
-      (put_active M t (Some (moved M o (ask (tx_of M t o) o.now.position (tables M w)) c p (tables M w))) w)
+      (put_active M t (Some (moved M w.layout o (ask (tx_of M t o) o.now.position (tables M w)) c p (tables M w))) w)
       (put_records M t (pushed M w t z (u.active t)) u)) (sym e)
       (subst (λ (z : Act Change Position Reply Refusal). Keeps M
-      (put_active M t (Some (moved M o (ask (tx_of M t o) o.now.position (tables M w)) c p (tables M w))) w)
-      (put_records M t (with_record M z (tables M w) (u.active t)) u)) (sym r)
-      (keeps_put w u k t (moved M o (ask (tx_of M t o) o.now.position (tables M w)) c p (tables M w))
-      (with_record M (Go c p) (tables M w) (u.active t)) (keeps_goes w s u k t o c p e g r)))
+      (put_active M t (Some (moved M w.layout o (ask (tx_of M t o) o.now.position (tables M w)) c p (tables M w))) w)
+      (put_records M t (with_record M w.layout z (tables M w) (u.active t)) u)) (sym r)
+      (keeps_put w u k t (moved M w.layout o (ask (tx_of M t o) o.now.position (tables M w)) c p (tables M w))
+      (with_record M w.layout (Go c p) (tables M w) (u.active t)) (keeps_goes w s u k t o c p e g r)))
   keeps_next w s u k _ _ _ (commits t o y e g r) = keeps_commits w s u k t o y e g r
   keeps_next w s u k _ _ _ (saves t o e) =
       let h = k.opens t o e in
@@ -309,13 +319,14 @@ module _ (M : Machine) (L : Laws M) where
   keeps_next w s u k _ _ _ (rolls_back t o e) = keeps_drop w u k t
   keeps_next w s u k _ _ _ (purges m l h) =
       record {
-        commits = commits_take w.base (newest M w - m) w.history u.history k.commits;
-        opens = λ t o e. subst (λ (r : Map). IsOfOpen M r o (u.active t)) (sym (purged_latest M L w m)) (k.opens t o e);
+        commits = commits_take w.layout w.base (newest M w - m) w.history u.history k.commits;
+        opens = λ t o e. subst (λ (r : Map). IsOfOpen M w.layout r o (u.active t)) (sym (purged_latest M L w m))
+            (k.opens t o e);
         others = k.others;
       }
   keeps_next w s u k _ _ _ (rewinds m quiet l h) =
       record {
-        commits = commits_drop w.base (newest M w - m) w.history u.history k.commits;
+        commits = commits_drop w.layout w.base (newest M w - m) w.history u.history k.commits;
         opens = λ t o e. absurd (some_none o (sym e ∙ quiet t));
         others = k.others;
       }
@@ -323,8 +334,8 @@ module _ (M : Machine) (L : Laws M) where
   keeps_next w s u k _ _ _ (fails t o x e g r) = keeps_drop w u k t
   keeps_next w s u k _ _ _ n = k
 
-  pub keeps_opened : (b : Map) (n : ℕ) → Keeps M (opened M b n) (no_records M)
-  keeps_opened b n = record { commits = tt; opens = λ t o e. absurd (some_none o (sym e)); others = λ t e. refl }
+  pub keeps_opened : (b : Map) (n : ℕ) (l : M.Layout) → Keeps M (opened M b n l) (no_records M)
+  keeps_opened b n l = record { commits = tt; opens = λ t o e. absurd (some_none o (sym e)); others = λ t e. refl }
 
   -- one transaction's records put back
   pub forgets : (w : World M) → Sound M w → (u : Undo M) → Keeps M w u → (t : ℕ)
@@ -336,7 +347,14 @@ module _ (M : Machine) (L : Laws M) where
       go None e =
           ap (λ z. unwind M z (tables M w)) (k.others t e)
           ∙ ap (λ (f : ℕ → Option (Open M)). tables M
-          (record { base = w.base; counts = w.counts; history = w.history; active = f; extents = w.extents })) (sym
+          (record {
+            base = w.base;
+            counts = w.counts;
+            history = w.history;
+            active = f;
+            extents = w.extents;
+            layout = w.layout;
+          })) (sym
           (set_idle t None w.active e))
       go (Some o) e = ap (λ z. unwind M z (tables M w)) (k.opens t o e).records ∙ undo_forgets M L w s t o e
 
@@ -367,28 +385,29 @@ module _ (M : Machine) (L : Laws M) where
       rest i ne (inr h) = h
 
   -- those of commits
-  pub one_unwound : (r : Map) (c : Commit M) (bs : List Record) → IsOfCommit M r c bs
+  pub one_unwound : (l : M.Layout) (r : Map) (c : Commit M) (bs : List Record) → IsOfCommit M l r c bs
       → unwind M bs (map_after M (whole c.tx r) r) ≡ r
-  one_unwound r c bs h =
+  one_unwound l r c bs h =
       ap (λ z. unwind M bs (map_after M z r)) h.effect
-      ∙ (ap (λ z. unwind M z (overlay M h.last.changes r)) h.records ∙ undo_whole M L r h.last.changes)
+      ∙ (ap (λ z. unwind M z (overlay M h.last.changes r)) h.records ∙ undo_whole M L l r h.last.changes)
 
-  pub commits_unwound : (b : Map) (j : ℕ) (cs : List (Commit M)) (ss : List (List Record)) → AreOfCommits M b cs ss
+  pub commits_unwound : (l : M.Layout) (b : Map) (j : ℕ) (cs : List (Commit M)) (ss : List (List Record))
+      → AreOfCommits M l b cs ss
       → unwind_commits M (take j ss) (version M b cs) ≡ version M b (drop j cs)
-  commits_unwound b zero cs ss h = refl
-  commits_unwound b (suc j) [] [] h = refl
-  commits_unwound b (suc j) [] (s ∷ ss) h = absurd h
-  commits_unwound b (suc j) (c ∷ cs) [] h = absurd h
-  commits_unwound b (suc j) (c ∷ cs) (s ∷ ss) h = ap (unwind_commits M (take j ss))
-      (one_unwound (version M b cs) c s h.0) ∙ commits_unwound b j cs ss h.1
+  commits_unwound l b zero cs ss h = refl
+  commits_unwound l b (suc j) [] [] h = refl
+  commits_unwound l b (suc j) [] (s ∷ ss) h = absurd h
+  commits_unwound l b (suc j) (c ∷ cs) [] h = absurd h
+  commits_unwound l b (suc j) (c ∷ cs) (s ∷ ss) h = ap (unwind_commits M (take j ss))
+      (one_unwound l (version M b cs) c s h.0) ∙ commits_unwound l b j cs ss h.1
 
-  pub all_unwound : (b : Map) (cs : List (Commit M)) (ss : List (List Record)) → AreOfCommits M b cs ss
+  pub all_unwound : (l : M.Layout) (b : Map) (cs : List (Commit M)) (ss : List (List Record)) → AreOfCommits M l b cs ss
       → unwind_commits M ss (version M b cs) ≡ b
-  all_unwound b [] [] h = refl
-  all_unwound b [] (s ∷ ss) h = absurd h
-  all_unwound b (c ∷ cs) [] h = absurd h
-  all_unwound b (c ∷ cs) (s ∷ ss) h = ap (unwind_commits M ss) (one_unwound (version M b cs) c s h.0)
-      ∙ all_unwound b cs ss h.1
+  all_unwound l b [] [] h = refl
+  all_unwound l b [] (s ∷ ss) h = absurd h
+  all_unwound l b (c ∷ cs) [] h = absurd h
+  all_unwound l b (c ∷ cs) (s ∷ ss) h = ap (unwind_commits M ss) (one_unwound l (version M b cs) c s h.0)
+      ∙ all_unwound l b cs ss h.1
 
   -- one key's row
   at_restored : (bs : List Record) (r : Map) (k : Key) → row_at (unwind M bs r) k ≡ restored M k bs (row_at r k)

@@ -91,18 +91,19 @@ module _ (M : Machine) (L : Laws M) where
           ap (λ ls. (filled M ls).0) (k.opens n o e).lengths in
           omega arith
 
-  used_commits_same : (b : M.Map) (cs : List (Commit M)) (ss : List (List Record)) → AreOfCommits M b cs ss
+  used_commits_same : (l : M.Layout) (b : M.Map) (cs : List (Commit M)) (ss : List (List Record))
+      → AreOfCommits M l b cs ss
       → used_history M cs ≡ used_commits M ss
-  used_commits_same b [] [] h = refl
-  used_commits_same b [] (s ∷ ss) h = absurd h
-  used_commits_same b (c ∷ cs) [] h = absurd h
-  used_commits_same b (c ∷ cs) (s ∷ ss) h =
+  used_commits_same l b [] [] h = refl
+  used_commits_same l b [] (s ∷ ss) h = absurd h
+  used_commits_same l b (c ∷ cs) [] h = absurd h
+  used_commits_same l b (c ∷ cs) (s ∷ ss) h =
       let z : (filled M c.lengths).0 ≡ (filled M (lengths_of M s)).0 = ap (λ ls. (filled M ls).0) h.0.lengths in
-      omega (arith, z, used_commits_same b cs ss h.1)
+      omega (arith, z, used_commits_same l b cs ss h.1)
 
   pub used_same : (w : World M) (u : Undo M) → Keeps M w u → used M w ≡ used_of M u
   used_same w u k = omega
-      (arith, used_open_same w u k terminal_limit, used_commits_same w.base w.history u.history k.commits)
+      (arith, used_open_same w u k terminal_limit, used_commits_same w.layout w.base w.history u.history k.commits)
 
   used_put : (w : World M) (t : ℕ) (v : Option (Open M)) → t < terminal_limit
       → used M (put_active M t v w) + used_by M (w.active t) ≡ used M w + used_by M v
@@ -119,27 +120,27 @@ module _ (M : Machine) (L : Laws M) where
   used_drop (suc j) (c ∷ cs) = omega (arith, used_drop j cs)
 
   room_goes : (w : World M) (t : ℕ) (o o' : Open M) (c : Option Change) → t < terminal_limit → w.active t ≡ Some o
-      → o'.lengths ≡ add_length M c (tables M w) o.lengths → HasRoom M w o c
+      → o'.lengths ≡ add_length M w.layout c (tables M w) o.lengths → HasRoom M w o c
       → used M w ≤ w.extents → used M (put_active M t (Some o') w) ≤ w.extents
   room_goes w t o o' c b e q room h = go c q room
     where
       was : used_by M (w.active t) ≡ (filled M o.lengths).0
       was = ap (used_by M) e
 
-      go : (c : Option Change) → o'.lengths ≡ add_length M c (tables M w) o.lengths → HasRoom M w o c
+      go : (c : Option Change) → o'.lengths ≡ add_length M w.layout c (tables M w) o.lengths → HasRoom M w o c
           → used M (put_active M t (Some o') w) ≤ w.extents
       go None q room =
           let a : (filled M o'.lengths).0 ≡ (filled M o.lengths).0 = ap (λ ls. (filled M ls).0) q in
           omega (arith, used_put w t (Some o') b, was, a, h)
       go (Some c) q (inl fits) =
-          let a : (filled M o'.lengths).0 ≡ (filled M (size_of (record_on M c (tables M w)) ∷ o.lengths)).0 =
+          let a : (filled M o'.lengths).0 ≡ (filled M (size_of (record_on M w.layout c (tables M w)) ∷ o.lengths)).0 =
           ap (λ ls. (filled M ls).0) q in
-          let d = (filled_one (size_of (record_on M c (tables M w))) o.lengths).1 fits in
+          let d = (filled_one (size_of (record_on M w.layout c (tables M w))) o.lengths).1 fits in
           omega (arith, used_put w t (Some o') b, was, a, d, h)
       go (Some c) q (inr free) =
-          let a : (filled M o'.lengths).0 ≡ (filled M (size_of (record_on M c (tables M w)) ∷ o.lengths)).0 =
+          let a : (filled M o'.lengths).0 ≡ (filled M (size_of (record_on M w.layout c (tables M w)) ∷ o.lengths)).0 =
           ap (λ ls. (filled M ls).0) q in
-          let d = (filled_one (size_of (record_on M c (tables M w))) o.lengths).0 in
+          let d = (filled_one (size_of (record_on M w.layout c (tables M w))) o.lengths).0 in
           omega (arith, used_put w t (Some o') b, was, a, d, free)
 
   drops : (w : World M) → Sound M w → (t : ℕ) (o : Open M) → w.active t ≡ Some o → used M w ≤ w.extents
@@ -152,11 +153,11 @@ module _ (M : Machine) (L : Laws M) where
   marked_less w s u k t o e =
       let c = s.each t o e in
       let h = k.opens t o e in
-      let later = records_of M (overlay M o.mark.changes (latest M w)) c.since in
-      let marked = records_of M (latest M w) o.mark.changes in
+      let later = records_of M w.layout (overlay M o.mark.changes (latest M w)) c.since in
+      let marked = records_of M w.layout (latest M w) o.mark.changes in
       let all : o.lengths ≡ lengths_of M later ++ o.mark_lengths =
       h.lengths ∙ (ap (lengths_of M)
-      (h.records ∙ (ap (records_of M (latest M w)) c.split ∙ records-append M L c.since o.mark.changes
+      (h.records ∙ (ap (records_of M w.layout (latest M w)) c.split ∙ records-append M L w.layout c.since o.mark.changes
       (latest M w)))
       ∙ (lengths-append M L later marked ∙ ap (λ z. lengths_of M later ++ z) (sym h.mark_lengths))) in
       subst (λ z. (filled M o.mark_lengths).0 ≤ (filled M z).0) (sym all)

@@ -310,11 +310,12 @@ module _ (M : Machine) (L : Laws M) where
   sound_goes : (w : World M) → Sound M w → (t : ℕ) (o : Open M) (c : Option Change) (p : Position) → w.active t ≡ Some o
       → IsGranted M w t (ask (tx_of M t o) o.now.position (tables M w))
       → act (tx_of M t o) o.now.position (tables M w) ≡ Go c p
-      → Sound M (put_active M t (Some (moved M o (ask (tx_of M t o) o.now.position (tables M w)) c p (tables M w))) w)
+      → Sound M (put_active M t
+      (Some (moved M w.layout o (ask (tx_of M t o) o.now.position (tables M w)) c p (tables M w))) w)
   sound_goes w s t o c p e g r =
       let a = ask (tx_of M t o) o.now.position (tables M w) in
       let more = reached_more M L o.held (held_after M a o.held) (tx_of M t o) (latest M w) (after_keeps a o.held) in
-      sound_put w s t (moved M o a c p (tables M w))
+      sound_put w s t (moved M w.layout o a c p (tables M w))
       (record {
         terminal = (s.each t o e).terminal;
         number = (s.each t o e).number;

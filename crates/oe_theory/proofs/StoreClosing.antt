@@ -69,7 +69,7 @@ module _ (M : Machine) (L : Laws M) where
 
   pub each_goes_back_here : (P : Map → Type 0) → IsKeptByChanges M P → Each_goes_back_here M P
   each_goes_back_here P kept s ts h all =
-      subst (λ (z : Map). GoesBack M P (open_records M s.undo.active ts ++ commit_records M s.undo.history) z)
+      subst (λ (z : Map). GoesBack M s.layout P (open_records M s.undo.active ts ++ commit_records M s.undo.history) z)
       (tables_here M L s h)
       (each_goes_back M L P kept (world_of M s) s.undo ts h.reached h.keeps (all_open s ts all))
 
@@ -77,12 +77,13 @@ module _ (M : Machine) (L : Laws M) where
   terminal_here : (s : Store M) → IsStanding M s → (t : ℕ) (p : Slot M) → s.slots t ≡ Some p → t < terminal_limit
   terminal_here s h t p e = ((sound_here s h).each t (open_in M L s t p) (is_open_in M L s t p e)).terminal.1
 
-  length-history : (b : Map) (cs : List (Commit M)) (ss : List (List Record)) → AreOfCommits M b cs ss
+  length-history : (l : M.Layout) (b : Map) (cs : List (Commit M)) (ss : List (List Record))
+      → AreOfCommits M l b cs ss
       → length ss ≡ length cs
-  length-history b [] [] h = refl
-  length-history b [] (s ∷ ss) h = absurd h
-  length-history b (c ∷ cs) [] h = absurd h
-  length-history b (c ∷ cs) (s ∷ ss) h = ap suc (length-history b cs ss h.1)
+  length-history l b [] [] h = refl
+  length-history l b [] (s ∷ ss) h = absurd h
+  length-history l b (c ∷ cs) [] h = absurd h
+  length-history l b (c ∷ cs) (s ∷ ss) h = ap suc (length-history l b cs ss h.1)
 
   mark_within : (s : Store M) → IsStanding M s → (t : ℕ) (p : Slot M) → s.slots t ≡ Some p
       → p.mark_count ≤ length (s.undo.active t)
@@ -128,7 +129,8 @@ module _ (M : Machine) (L : Laws M) where
             ∙ ap (λ (f : ℕ → ℕ). suc (f t)) (counts_here M L s h);
         mark = mark_within s h;
         others = λ t e. h.keeps.others t (is_shut_in M L s t e);
-        sealed = length-history w.base w.history s.undo.history h.keeps.commits ∙ sym (commits_here_are M L s h);
+        sealed = length-history w.layout w.base w.history s.undo.history h.keeps.commits
+            ∙ sym (commits_here_are M L s h);
         kept = omega (arith, newest_here M L s h, commits_here_are M L s h);
         within = subst (λ (n : ℕ). n ≤ s.extents) (used_here M L s h) (extents_suffice M L w h.reached);
         quiet = none_open s h;
@@ -172,6 +174,7 @@ module _ (M : Machine) (L : Laws M) where
         seals = s.seals;
         counts = s.counts;
         extents = s.extents;
+        layout = s.layout;
       }
 
   dropped_stands : (s : Store M) → IsStanding M s → (t : ℕ) → IsStanding M (dropped M t s)

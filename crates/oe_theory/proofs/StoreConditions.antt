@@ -58,14 +58,14 @@ module _ (M : Machine) (L : Laws M) where
       → HasRoom M (world_of M s) (open_in M L s t p) c → HasRoomIn M s t c
   room_back s h t p None x = tt
   room_back s h t p (Some c) (inl x) =
-      inl (subst (λ (r : Map). M.size_of (record_on M c r) ≤ (filled M (lengths_of M (s.undo.active t))).1)
+      inl (subst (λ (r : Map). M.size_of (record_on M s.layout c r) ≤ (filled M (lengths_of M (s.undo.active t))).1)
       (tables_here M L s h) x)
   room_back s h t p (Some c) (inr x) = inr (subst (λ (n : ℕ). n < s.extents) (used_here M L s h) x)
 
   full_back : (s : Store M) → IsStanding M s → (t : ℕ) (p : Slot M) (c : Change)
       → IsFull M (world_of M s) (open_in M L s t p) c → IsFullIn M s t c
   full_back s h t p c f = (
-    subst (λ (r : Map). (filled M (lengths_of M (s.undo.active t))).1 < M.size_of (record_on M c r))
+    subst (λ (r : Map). (filled M (lengths_of M (s.undo.active t))).1 < M.size_of (record_on M s.layout c r))
         (tables_here M L s h) f.0,
     subst (λ (n : ℕ). s.extents ≤ n) (used_here M L s h) f.1,
   )

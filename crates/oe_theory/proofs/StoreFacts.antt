@@ -26,13 +26,15 @@ module _ (M : Machine) (L : Laws M) where
   open L use {key_refl, redoes}
 
   -- the changes of an open transaction, from its records
-  changes_same : (r : Map) (cs : List Change) (m : Map) → Stand M L m cs → changes_of M (records_of M r cs) m ≡ cs
-  changes_same r [] m s = refl
-  changes_same r (c ∷ cs) m s =
-      ap (λ z. add M z (changes_of M (records_of M r cs) (put_back (record_on M c (overlay M cs r)) m)))
-      (redoes c (row_at (overlay M cs r) (key_of c)) m
+  changes_same : (l : M.Layout) (r : Map) (cs : List Change) (m : Map) → Stand M L m cs
+      → changes_of M (records_of M l r cs) m ≡ cs
+  changes_same l r [] m s = refl
+  changes_same l r (c ∷ cs) m s =
+      ap (λ z. add M z (changes_of M (records_of M l r cs) (put_back (record_on M l c (overlay M cs r)) m)))
+      (redoes l c (row_at (overlay M cs r) (key_of c)) m
       (s (key_of c) (row_of c) (ap (λ z. cond z (Some (row_of c)) (net M cs (key_of c))) (key_refl (key_of c)))))
-      ∙ ap (λ z. c ∷ z) (changes_same r cs (put_back (record_on M c (overlay M cs r)) m) (stand_below M L r c cs m s))
+      ∙ ap (λ z. c ∷ z)
+      (changes_same l r cs (put_back (record_on M l c (overlay M cs r)) m) (stand_below M L l r c cs m s))
 
   length-lengths : (bs : List Record) → length (lengths_of M bs) ≡ length bs
   length-lengths [] = refl
@@ -54,14 +56,14 @@ module _ (M : Machine) (L : Laws M) where
     where
       now : changes_of M (u.active t) (tables M w) ≡ o.now.changes
       now = ap (λ z. changes_of M z (tables M w)) (k.opens t o e).records
-          ∙ changes_same (latest M w) o.now.changes (tables M w) (tables_stand M L w s t o e)
+          ∙ changes_same w.layout (latest M w) o.now.changes (tables M w) (tables_stand M L w s t o e)
 
       mark : drop (length (u.active t) - length o.mark.changes) (changes_of M (u.active t) (tables M w))
           ≡ o.mark.changes
       mark =
           ap (drop (length (u.active t) - length o.mark.changes)) (now ∙ (s.each t o e).split)
           ∙ drop_first (s.each t o e).since o.mark.changes (length (u.active t) - length o.mark.changes)
-          (since_mark M L w s u k t o e ∙ length-records M L (s.each t o e).since
+          (since_mark M L w s u k t o e ∙ length-records M L w.layout (s.each t o e).since
           (overlay M o.mark.changes (latest M w)))
 
       lengths : lengths_of M (u.active t) ≡ o.lengths
@@ -71,22 +73,24 @@ module _ (M : Machine) (L : Laws M) where
       mark_lengths =
           ap (drop (length (u.active t) - length o.mark.changes))
           (ap (lengths_of M) (parted M L w s u k t o e) ∙ lengths-append M L
-          (records_of M (overlay M o.mark.changes (latest M w)) (s.each t o e).since)
-          (records_of M (latest M w) o.mark.changes))
-          ∙ (drop_first (lengths_of M (records_of M (overlay M o.mark.changes (latest M w)) (s.each t o e).since))
-          (lengths_of M (records_of M (latest M w) o.mark.changes)) (length (u.active t) - length o.mark.changes)
+          (records_of M w.layout (overlay M o.mark.changes (latest M w)) (s.each t o e).since)
+          (records_of M w.layout (latest M w) o.mark.changes))
+          ∙ (drop_first
+          (lengths_of M (records_of M w.layout (overlay M o.mark.changes (latest M w)) (s.each t o e).since))
+          (lengths_of M (records_of M w.layout (latest M w) o.mark.changes))
+          (length (u.active t) - length o.mark.changes)
           (since_mark M L w s u k t o e
-          ∙ sym (length-lengths (records_of M (overlay M o.mark.changes (latest M w)) (s.each t o e).since)))
+          ∙ sym (length-lengths (records_of M w.layout (overlay M o.mark.changes (latest M w)) (s.each t o e).since)))
           ∙ sym (k.opens t o e).mark_lengths)
 
-  history_same : (b : Map) (cs : List (Commit M)) (ss : List (List Record)) → AreOfCommits M b cs ss
+  history_same : (l : M.Layout) (b : Map) (cs : List (Commit M)) (ss : List (List Record)) → AreOfCommits M l b cs ss
       → history_of M (seals_of M cs) ss ≡ cs
-  history_same b [] ss h = refl
-  history_same b (c ∷ cs) [] h = absurd h
-  history_same b (c ∷ cs) (s ∷ ss) h =
+  history_same l b [] ss h = refl
+  history_same l b (c ∷ cs) [] h = absurd h
+  history_same l b (c ∷ cs) (s ∷ ss) h =
       ap (λ (z : List ℕ). record { tx = c.tx; reply = c.reply; lengths = z } ∷ history_of M (seals_of M cs) ss)
       (sym h.0.lengths)
-      ∙ ap (λ z. c ∷ z) (history_same b cs ss h.1)
+      ∙ ap (λ z. c ∷ z) (history_same l b cs ss h.1)
 
   -- counts are those before the commits and the commits
   counts_sum : (f : ℕ → ℕ) (cs : List (Commit M)) (t : ℕ)
@@ -134,17 +138,24 @@ module _ (M : Machine) (L : Laws M) where
 
   pub world_same : (w : World M) → Sound M w → (u : Undo M) → Keeps M w u → world_of M (store_of M w u) ≡ w
   world_same w s u k =
-      λ i. record { base = base i; counts = counts i; history = history i; active = active i; extents = w.extents }
+      λ i. record {
+        base = base i;
+        counts = counts i;
+        history = history i;
+        active = active i;
+        extents = w.extents;
+        layout = w.layout;
+      }
     where
       base : unwind_commits M u.history (unwind_open M u.active (all_below M terminal_limit) (tables M w)) ≡ w.base
-      base = ap (unwind_commits M u.history) (latest_same w s u k) ∙ all_unwound M L w.base w.history u.history
-          k.commits
+      base = ap (unwind_commits M u.history) (latest_same w s u k) ∙ all_unwound M L w.layout w.base w.history
+          u.history k.commits
 
       counts : counts_before M (counts_now M w) (seals_of M w.history) ≡ w.counts
       counts = counts_same w.counts w.history
 
       history : history_of M (seals_of M w.history) u.history ≡ w.history
-      history = history_same w.base w.history u.history k.commits
+      history = history_same w.layout w.base w.history u.history k.commits
 
       active : (λ t. open_of M (u.active t) (tables M w) (slot_of M (w.active t))) ≡ w.active
       active = fun_ext (λ t. open_same w s u k t (w.active t) refl)

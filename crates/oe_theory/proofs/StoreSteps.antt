@@ -34,11 +34,12 @@ module _ (M : Machine) (L : Laws M) where
   open M use {Map, Change, Record, Name, Request, Position, Reply, Refusal, ask, act, marks, terminal_limit}
 
   same_store : (r r' : Map) (u : Undo M) (f f' : ℕ → Option (Slot M)) (d d' : List (Seal M)) (c c' : ℕ → ℕ) (n n' : ℕ)
-      → r ≡ r' → f ≡ f' → d ≡ d' → c ≡ c' → n ≡ n'
-      → ◌≡◌ {A = Store M} (record { tables = r; undo = u; slots = f; seals = d; counts = c; extents = n })
-      (record { tables = r'; undo = u; slots = f'; seals = d'; counts = c'; extents = n' })
-  same_store r r' u f f' d d' c c' n n' p q e g x =
-      λ i. record { tables = p i; undo = u; slots = q i; seals = e i; counts = g i; extents = x i }
+      (l l' : M.Layout)
+      → r ≡ r' → f ≡ f' → d ≡ d' → c ≡ c' → n ≡ n' → l ≡ l'
+      → ◌≡◌ {A = Store M} (record { tables = r; undo = u; slots = f; seals = d; counts = c; extents = n; layout = l })
+      (record { tables = r'; undo = u; slots = f'; seals = d'; counts = c'; extents = n'; layout = l' })
+  same_store r r' u f f' d d' c c' n n' l l' p q e g x y =
+      λ i. record { tables = p i; undo = u; slots = q i; seals = e i; counts = g i; extents = x i; layout = y i }
 
   -- what is stored of a world that was reached stands for it
   pub stands_for : (w : World M) → IsReached M w → (s : Store M) → Keeps M w s.undo → store_of M w s.undo ≡ s
@@ -73,12 +74,12 @@ module _ (M : Machine) (L : Laws M) where
       → (s' : Store M) → undo_after M (world_of M s) s.undo a i ≡ s'.undo
       → tables_after M (world_of M s) s.undo a i ≡ s'.tables
       → (λ t. slot_of M (v.active t)) ≡ s'.slots → seals_of M v.history ≡ s'.seals → counts_now M v ≡ s'.counts
-      → v.extents ≡ s'.extents → Leads M s i a s'
-  leads s h i a v n s' q p e f g x =
+      → v.extents ≡ s'.extents → v.layout ≡ s'.layout → Leads M s i a s'
+  leads s h i a v n s' q p e f g x y =
       (follows s h i a v n s' q
-      (same_store _ _ s'.undo _ _ _ _ _ _ _ _
+      (same_store _ _ s'.undo _ _ _ _ _ _ _ _ _ _
       (tables_next M L (world_of M s) (reached_sound M L (world_of M s) h.reached) s.undo h.keeps i a v n ∙ p) e f g
-      x)).0
+      x y)).0
 
   -- what is stored of the world that is stored
   pub tables_here : (s : Store M) → IsStanding M s → tables M (world_of M s) ≡ s.tables
@@ -125,9 +126,9 @@ module _ (M : Machine) (L : Laws M) where
       ∙ ap (λ (z : Option (Slot M)). set t z s.slots) e)
 
   pub opening_stands : Opening_stands M
-  opening_stands b n g =
-      stands_for (opened M b n) (opening_is_reached M L b n g) (opened_store M b n) (keeps_opened M L b n)
-      (same_store _ _ _ _ _ _ _ _ _ _ _ (quiet_tables M L (opened M b n) (λ t. refl)) refl refl refl refl)
+  opening_stands b n l g =
+      stands_for (opened M b n l) (opening_is_reached M L b n l g) (opened_store M b n l) (keeps_opened M L b n l)
+      (same_store _ _ _ _ _ _ _ _ _ _ _ _ _ (quiet_tables M L (opened M b n l) (λ t. refl)) refl refl refl refl refl)
 
   -- begin
   pub may_begin : (s : Store M) → IsStanding M s → (t : ℕ) (q : Request) → MayBeginIn M s t q
@@ -161,7 +162,7 @@ module _ (M : Machine) (L : Laws M) where
       leads s h (Begin t q) Begun _ (begins t q (may_begin s h t q b)) (put_slot M t (Some (first_slot M s t q)) s) refl
       (tables_here s h)
       (slots_put s h t (Some (begun M (world_of M s) t q)) (Some (first_slot M s t q)) (first_same s h t q))
-      (seals_here s h) (counts_here s h) refl
+      (seals_here s h) (counts_here s h) refl refl
 
   pub is_rejected_here : Is_rejected_here M
   is_rejected_here s t q e h r =
@@ -190,7 +191,7 @@ module _ (M : Machine) (L : Laws M) where
       → length (open_in s t p).now.changes ≡ length (s.undo.active t)
   length_here s h t p e =
       sym (ap length (h.keeps.opens t (open_in s t p) (is_open_in s t p e)).records
-      ∙ length-records M L (open_in s t p).now.changes (latest M (world_of M s)))
+      ∙ length-records M L s.layout (open_in s t p).now.changes (latest M (world_of M s)))
 
   -- its slot is what is stored of it
   pub slot_here : (s : Store M) → IsStanding M s → (t : ℕ) (p : Slot M) → s.slots t ≡ Some p
@@ -235,20 +236,21 @@ module _ (M : Machine) (L : Laws M) where
       → HasRoom M (world_of M s) (open_in s t p) c
   has_room s h t p None x = tt
   has_room s h t p (Some c) (inl x) =
-      inl (subst (λ (r : Map). M.size_of (record_on M c r) ≤ (filled M (lengths_of M (s.undo.active t))).1)
+      inl (subst (λ (r : Map). M.size_of (record_on M s.layout c r) ≤ (filled M (lengths_of M (s.undo.active t))).1)
       (sym (tables_here s h)) x)
   has_room s h t p (Some c) (inr x) = inr (subst (λ (n : ℕ). n < s.extents) (sym (used_here s h)) x)
 
   pub is_room_here : Is_room_here M
   is_room_here z s t None = tt
-  is_room_here z s t (Some c) = inl (let e = z (record_on M c s.tables) in omega (arith, e))
+  is_room_here z s t (Some c) = inl (let e = z (record_on M s.layout c s.tables) in omega (arith, e))
 
   -- a row that goes on
-  slot_moved : (o : Open M) (p : Slot M) (n : ℕ) (a a' : Ask Name Refusal) (c : Option Change) (q : Position) (r : Map)
+  slot_moved : (l : M.Layout) (o : Open M) (p : Slot M) (n : ℕ) (a a' : Ask Name Refusal) (c : Option Change)
+      (q : Position) (r : Map)
       → slot_of M (Some o) ≡ Some p → length o.now.changes ≡ n
-      → a ≡ a' → slot_of M (Some (moved M o a c q r)) ≡ Some (slot_after M p n a' q)
-  slot_moved o p n a a' c q r e l f =
-      subst (λ (z : Slot M). slot_of M (Some (moved M o a c q r)) ≡ Some (slot_after M z n a' q)) (some_inj _ p e)
+      → a ≡ a' → slot_of M (Some (moved M l o a c q r)) ≡ Some (slot_after M p n a' q)
+  slot_moved l o p n a a' c q r e h f =
+      subst (λ (z : Slot M). slot_of M (Some (moved M l o a c q r)) ≡ Some (slot_after M z n a' q)) (some_inj _ p e)
       (go (marks o.now.position))
     where
       go : (b : Bool)
@@ -275,7 +277,7 @@ module _ (M : Machine) (L : Laws M) where
         request = o.request;
         position = q;
         mark_position = o.now.position;
-        mark_count = l i;
+        mark_count = h i;
         held = held_after M (f i) o.held;
       })
       go false = λ i. Some (record {
@@ -298,10 +300,12 @@ module _ (M : Machine) (L : Laws M) where
 
   pushed_is : (w : World M) (t : ℕ) (o : Open M) (c : Option Change) (q : Position) (bs : List Record)
       → w.active t ≡ Some o → act (tx_of M t o) o.now.position (tables M w) ≡ Go c q
-      → pushed M w t (w.active t) bs ≡ with_record_of M c (tables M w) bs
-  pushed_is w t o c q bs e r = ap (λ z. pushed M w t z bs) e ∙ (ap (λ z. with_record M z (tables M w) bs) r ∙ go c)
+      → pushed M w t (w.active t) bs ≡ with_record_of M w.layout c (tables M w) bs
+  pushed_is w t o c q bs e r = ap (λ z. pushed M w t z bs) e
+      ∙ (ap (λ z. with_record M w.layout z (tables M w) bs) r ∙ go c)
     where
-      go : (c : Option Change) → with_record M (Go c q) (tables M w) bs ≡ with_record_of M c (tables M w) bs
+      go : (c : Option Change)
+          → with_record M w.layout (Go c q) (tables M w) bs ≡ with_record_of M w.layout c (tables M w) bs
       go None = refl
       go (Some c) = refl
 
@@ -313,12 +317,12 @@ module _ (M : Machine) (L : Laws M) where
       (goes_on t o c q (is_open_in s t p e) (granted_here s h t p g) r' (has_room s h t p c room))
       (went_on M t p (ask (tx_in M t p) p.position s.tables) c q s)
       (ap (λ bs. put_records M t bs s.undo) (pushed_is (world_of M s) t o c q (s.undo.active t) (is_open_in s t p e) r'
-      ∙ ap (λ z. with_record_of M c z (s.undo.active t)) (tables_here s h)))
+      ∙ ap (λ z. with_record_of M s.layout c z (s.undo.active t)) (tables_here s h)))
       (changed_is (world_of M s) t o c q (is_open_in s t p e) r' ∙ ap (with_change_of M c) (tables_here s h))
       (slots_put s h t _ _
-      (slot_moved o p (length (s.undo.active t)) _ _ c q (tables M (world_of M s)) (slot_here s h t p e)
+      (slot_moved s.layout o p (length (s.undo.active t)) _ _ c q (tables M (world_of M s)) (slot_here s h t p e)
       (length_here s h t p e) (asks_here s h t p)))
-      (seals_here s h) (counts_here s h) refl
+      (seals_here s h) (counts_here s h) refl refl
 
   -- refusals that roll the transaction back, and a rollback that is asked for
   drops : (s : Store M) → IsStanding M s → (t : ℕ) (i : Step M) (a : Answer M)
@@ -328,7 +332,7 @@ module _ (M : Machine) (L : Laws M) where
       → Leads M s i a (dropped M t s)
   drops s h t i a n q p =
       leads s h i a _ n (dropped M t s) q (p ∙ ap (unwind M (s.undo.active t)) (tables_here s h))
-      (slots_put s h t None None refl) (seals_here s h) (counts_here s h) refl
+      (slots_put s h t None None refl) (seals_here s h) (counts_here s h) refl refl
 
   pub rolls_back_here : Rolls_back_here M
   rolls_back_here s t p h e = drops s h t (Rollback t) Rolled_back (rolls_back t (open_in s t p) (is_open_in s t p e))
@@ -367,7 +371,7 @@ module _ (M : Machine) (L : Laws M) where
   pub is_full_in : (s : Store M) → IsStanding M s → (t : ℕ) (p : Slot M) (c : Change) → IsFullIn M s t c
       → IsFull M (world_of M s) (open_in s t p) c
   is_full_in s h t p c f = (
-    subst (λ (r : Map). (filled M (lengths_of M (s.undo.active t))).1 < M.size_of (record_on M c r))
+    subst (λ (r : Map). (filled M (lengths_of M (s.undo.active t))).1 < M.size_of (record_on M s.layout c r))
         (sym (tables_here s h)) f.0,
     subst (λ (n : ℕ). s.extents ≤ n) (sym (used_here s h)) f.1,
   )
@@ -413,7 +417,7 @@ module _ (M : Machine) (L : Laws M) where
         mark_count = length_here s h t p e i;
         held = p.held;
       })))
-      (seals_here s h) (counts_here s h) refl
+      (seals_here s h) (counts_here s h) refl refl
 
   pub goes_back_here : Goes_back_here M
   goes_back_here s t p h e =
@@ -436,7 +440,7 @@ module _ (M : Machine) (L : Laws M) where
         mark_count = mark i;
         held = p.held;
       })))
-      (seals_here s h) (counts_here s h) refl
+      (seals_here s h) (counts_here s h) refl refl
 
   pub is_not_open_here : Is_not_open_here M
   is_not_open_here s i t h q e = record { next = not_open i t q (is_shut_in s t e); stands = h }

@@ -65,7 +65,7 @@ module _ (M : Machine) (L : Laws M) where
   pub version_here : (s : Store M) → IsStanding M s → (m : ℕ) → at M (world_of M s) m ≡ version_of M s m
   version_here s h m =
       let w = world_of M s in
-      sym (commits_unwound M L w.base (newest M w - m) w.history s.undo.history h.keeps.commits)
+      sym (commits_unwound M L w.layout w.base (newest M w - m) w.history s.undo.history h.keeps.commits)
       ∙ (ap (unwind_commits M (take (newest M w - m) s.undo.history)) (latest_here s h)
       ∙ ap (λ (n : ℕ). unwind_commits M (take (n - m) s.undo.history) (newest_version M s)) (newest_here s h))
 
@@ -118,7 +118,7 @@ module _ (M : Machine) (L : Laws M) where
       (acts_here M L s h t p ∙ r))
       (sealed M t p y s) refl (tables_here M L s h) (slots_put M L s h t None None refl)
       (ap (λ z. record { tx = tx_in M t p; reply = y } ∷ z) (seals_here M L s h)) (ap (bump t) (counts_here M L s h))
-      refl)
+      refl refl)
 
   -- a moment that can be read
   not_before : (s : Store M) → IsStanding M s → (m : ℕ) → horizon_of M s ≤ m → horizon M (world_of M s) ≤ m
@@ -193,7 +193,7 @@ module _ (M : Machine) (L : Laws M) where
       (tables_here M L s h) (slots_here M L s h)
       (seals-take (newest M w - m) w.history
       ∙ (ap (take (newest M w - m)) (seals_here M L s h) ∙ ap (λ (n : ℕ). take (n - m) s.seals) (newest_here s h)))
-      (purged_counts M L w m ∙ counts_here M L s h) refl
+      (purged_counts M L w m ∙ counts_here M L s h) refl refl
 
   pub rewinds_here : Rewinds_here M
   rewinds_here s m h quiet a b =
@@ -206,7 +206,7 @@ module _ (M : Machine) (L : Laws M) where
       (slots_here M L s h)
       (seals-drop (newest M w - m) w.history
       ∙ (ap (drop (newest M w - m)) (seals_here M L s h) ∙ ap (λ (n : ℕ). drop (n - m) s.seals) (newest_here s h)))
-      (counts_at_here s h m) refl
+      (counts_at_here s h m) refl refl
 
   pub open_count : (s : Store M) (n : ℕ) → count_open M (world_of M s).active n ≡ count_slots M s.slots n
   open_count s zero = refl

@@ -39,8 +39,8 @@ use Rattle.oe_theory.proofs.Past.{quiet_tables, latest_at, rewound_newest, rewou
 use Rattle.oe_theory.proofs.Past.{purged_at, good_at, kept_at}
 
 module _ (M : Machine) (L : Laws M) where
-  pub sound_opened : (b : M.Map) (n : ℕ) → M.Good (λ _. 0) b → Sound M (opened M b n)
-  sound_opened b n g = record {
+  pub sound_opened : (b : M.Map) (n : ℕ) (l : M.Layout) → M.Good (λ _. 0) b → Sound M (opened M b n l)
+  sound_opened b n l g = record {
     good = g;
     serial = tt;
     apart = λ t u o p ne e f. absurd (some_none o (sym e));
@@ -49,21 +49,24 @@ module _ (M : Machine) (L : Laws M) where
 
   pub reached_sound : (w : World M) → IsReached M w → Sound M w
   reached_sound w r =
-      run_sound M L (opened M r.base r.extents) (sound_opened r.base r.extents r.good) (events M r.steps r.answers) w
-      (run_events M (opened M r.base r.extents) r.steps r.answers w r.run)
+      run_sound M L (opened M r.base r.extents r.layout) (sound_opened r.base r.extents r.layout r.good)
+      (events M r.steps r.answers) w
+      (run_events M (opened M r.base r.extents r.layout) r.steps r.answers w r.run)
 
   pub opening_is_reached : Opening_is_reached M
-  opening_is_reached b n g = record { base = b; extents = n; good = g; steps = []; answers = []; run = refl }
+  opening_is_reached b n l g = record
+      { base = b; extents = n; layout = l; good = g; steps = []; answers = []; run = refl }
 
   pub run_is_reached : Run_is_reached M
   run_is_reached w w' is ys r q =
       record {
         base = r.base;
         extents = r.extents;
+        layout = r.layout;
         good = r.good;
         steps = r.steps ++ is;
         answers = r.answers ++ ys;
-        run = runs-append M (opened M r.base r.extents) w w' r.steps is r.answers ys r.run q;
+        run = runs-append M (opened M r.base r.extents r.layout) w w' r.steps is r.answers ys r.run q;
       }
 
   pub rollback_leaves_no_trace : Rollback_leaves_no_trace M
@@ -220,7 +223,7 @@ module _ (M : Machine) (L : Laws M) where
 
   -- undo records
   pub nothing_is_recorded : Nothing_is_recorded M
-  nothing_is_recorded b n = keeps_opened M L b n
+  nothing_is_recorded b n l = keeps_opened M L b n l
 
   pub records_follow : Records_follow M
   records_follow w v u i a r k x = keeps_next M L w (reached_sound w r) u k i a v x
@@ -234,9 +237,9 @@ module _ (M : Machine) (L : Laws M) where
 
   pub world_has_records : World_has_records M
   world_has_records w r =
-      run_keeps (opened M r.base r.extents) (sound_opened r.base r.extents r.good) (no_records M)
-      (keeps_opened M L r.base r.extents) (events M r.steps r.answers) w
-      (run_events M (opened M r.base r.extents) r.steps r.answers w r.run)
+      run_keeps (opened M r.base r.extents r.layout) (sound_opened r.base r.extents r.layout r.good) (no_records M)
+      (keeps_opened M L r.base r.extents r.layout) (events M r.steps r.answers) w
+      (run_events M (opened M r.base r.extents r.layout) r.steps r.answers w r.run)
 
   pub tables_follow : Tables_follow M
   tables_follow w v u i a r k x = tables_next M L w (reached_sound w r) u k i a v x
@@ -249,12 +252,12 @@ module _ (M : Machine) (L : Laws M) where
 
   pub base_is_unwound : Base_is_unwound M
   base_is_unwound w u ts r k all = ap (unwind_commits M u.history) (open_unwound M L ts w (reached_sound w r) u k all)
-      ∙ all_unwound M L w.base w.history u.history k.commits
+      ∙ all_unwound M L w.layout w.base w.history u.history k.commits
 
   pub version_is_unwound : Version_is_unwound M
   version_is_unwound w u ts m r k all =
       ap (unwind_commits M (take (newest M w - m) u.history)) (open_unwound M L ts w (reached_sound w r) u k all)
-      ∙ commits_unwound M L w.base (newest M w - m) w.history u.history k.commits
+      ∙ commits_unwound M L w.layout w.base (newest M w - m) w.history u.history k.commits
 
   pub row_is_unwound : Row_is_unwound M
   row_is_unwound w u ts m k r h all =
@@ -274,17 +277,18 @@ module _ (M : Machine) (L : Laws M) where
         let s = reached_sound w r in
         subst (λ z. P (unwind M (take n (get_or u.history j [])) z))
         (sym (ap (unwind_commits M (take j u.history)) (quiet_tables M L w q)
-        ∙ commits_unwound M L w.base j w.history u.history k.commits))
-        (rewinding_keeps M L P kept.between kept.kept w.counts w.base w.history u.history s.good s.serial k.commits j n)
+        ∙ commits_unwound M L w.layout w.base j w.history u.history k.commits))
+        (rewinding_keeps M L P kept.between kept.kept w.layout w.counts w.base w.history u.history s.good s.serial
+        k.commits j n)
 
   pub used_is_of_records : Used_is_of_records M
   used_is_of_records w u k = used_same M L w u k
 
   pub extents_suffice : Extents_suffice M
   extents_suffice w r =
-      run_within M L (opened M r.base r.extents) (sound_opened r.base r.extents r.good) (no_records M)
-      (keeps_opened M L r.base r.extents) (omega (arith, none_used M L M.terminal_limit))
-      (events M r.steps r.answers) w (run_events M (opened M r.base r.extents) r.steps r.answers w r.run)
+      run_within M L (opened M r.base r.extents r.layout) (sound_opened r.base r.extents r.layout r.good) (no_records M)
+      (keeps_opened M L r.base r.extents r.layout) (omega (arith, none_used M L M.terminal_limit))
+      (events M r.steps r.answers) w (run_events M (opened M r.base r.extents r.layout) r.steps r.answers w r.run)
 
   pub full_is_full : Full_is_full M
   full_is_full w w' t r x = full_step M L w (extents_suffice w r) (Advance t) Undo_full w' t x refl refl
@@ -341,8 +345,9 @@ module _ (M : Machine) (L : Laws M) where
     pub holds_of_versions : Holds_of_versions M P
     holds_of_versions w r p m =
         kept_at M L P keeps w (reached_sound w r)
-        (run_kept (opened M r.base r.extents) (sound_opened r.base r.extents r.good) p (events M r.steps r.answers) w
-        (run_events M (opened M r.base r.extents) r.steps r.answers w r.run)) m
+        (run_kept (opened M r.base r.extents r.layout) (sound_opened r.base r.extents r.layout r.good) p
+        (events M r.steps r.answers) w
+        (run_events M (opened M r.base r.extents r.layout) r.steps r.answers w r.run)) m
 
   pub tests_hold_from_base : Tests_hold_from_base M
   tests_hold_from_base p keeps = holds_from_base (λ r. p r ≡ true) keeps

@@ -89,11 +89,12 @@ module _ (M : Machine) where
   of_act w t o e g (Fail x) r = record { answer = _; after = _; next = fails t o x e g r; other = λ z. cc }
   of_act w t o e g (Ready y) r = record { answer = _; after = _; next = commits t o y e g r; other = λ z. cc }
   of_act w t o e g (Go None p) r = record { answer = _; after = _; next = goes_on t o None p e g r tt; other = λ z. cc }
-  of_act w t o e g (Go (Some c) p) r = room (either (size_of (record_on M c (tables M w))) (filled M o.lengths).1)
+  of_act w t o e g (Go (Some c) p) r = room
+      (either (size_of (record_on M w.layout c (tables M w))) (filled M o.lengths).1)
       (either w.extents (used M w))
     where
-      room : (size_of (record_on M c (tables M w)) ≤ (filled M o.lengths).1)
-          ⊎ ((filled M o.lengths).1 < size_of (record_on M c (tables M w)))
+      room : (size_of (record_on M w.layout c (tables M w)) ≤ (filled M o.lengths).1)
+          ⊎ ((filled M o.lengths).1 < size_of (record_on M w.layout c (tables M w)))
           → (w.extents ≤ used M w) ⊎ (used M w < w.extents) → IsAnswered M w (Advance t)
       room (inl fits) x = record {
         answer = _;

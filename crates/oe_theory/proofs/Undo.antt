@@ -42,55 +42,56 @@ module _ (M : Machine) (L : Laws M) where
   Stand m cs = (k : Key) (v : Option Row) → net M cs k ≡ Some v → row_at m k ≡ v
 
   -- a change's record put back on the row that it left
-  pub back_at : (r : Map) (c : Change) (cs : List Change) (m : Map) → Stand m (c ∷ cs) → (k : Key) (b : Bool)
+  pub back_at : (l : M.Layout) (r : Map) (c : Change) (cs : List Change) (m : Map) → Stand m (c ∷ cs)
+      → (k : Key) (b : Bool)
       → is_key k (key_of c) ≡ b
-      → row_at (put_back (record_on M c (overlay M cs r)) m) k ≡ cond b (row_at (overlay M cs r) (key_of c))
+      → row_at (put_back (record_on M l c (overlay M cs r)) m) k ≡ cond b (row_at (overlay M cs r) (key_of c))
       (row_at m k)
-  back_at r c cs m s k b q =
-      at_put_back (record_on M c (overlay M cs r)) m k
-      ∙ (ap (λ z. cond (is_key k z) (restore (record_on M c (overlay M cs r)) (row_at m k)) (row_at m k))
-      (record_key_of c (row_at (overlay M cs r) (key_of c)))
-      ∙ (ap (λ z. cond z (restore (record_on M c (overlay M cs r)) (row_at m k)) (row_at m k)) q ∙ go b q))
+  back_at l r c cs m s k b q =
+      at_put_back (record_on M l c (overlay M cs r)) m k
+      ∙ (ap (λ z. cond (is_key k z) (restore (record_on M l c (overlay M cs r)) (row_at m k)) (row_at m k))
+      (record_key_of l c (row_at (overlay M cs r) (key_of c)))
+      ∙ (ap (λ z. cond z (restore (record_on M l c (overlay M cs r)) (row_at m k)) (row_at m k)) q ∙ go b q))
     where
       go : (b : Bool) → is_key k (key_of c) ≡ b
-          → cond b (restore (record_on M c (overlay M cs r)) (row_at m k)) (row_at m k) ≡ cond b
+          → cond b (restore (record_on M l c (overlay M cs r)) (row_at m k)) (row_at m k) ≡ cond b
           (row_at (overlay M cs r) (key_of c)) (row_at m k)
-      go true q = ap (restore (record_on M c (overlay M cs r)))
-          (s k (row_of c) (ap (λ z. cond z (Some (row_of c)) (net M cs k)) q)) ∙ restores c (overlay M cs r)
+      go true q = ap (restore (record_on M l c (overlay M cs r)))
+          (s k (row_of c) (ap (λ z. cond z (Some (row_of c)) (net M cs k)) q)) ∙ restores l c (overlay M cs r)
       go false q = refl
 
-  pub stand_below : (r : Map) (c : Change) (cs : List Change) (m : Map) → Stand m (c ∷ cs)
-      → Stand (put_back (record_on M c (overlay M cs r)) m) cs
-  stand_below r c cs m s k v h = go (is_key k (key_of c)) refl
+  pub stand_below : (l : M.Layout) (r : Map) (c : Change) (cs : List Change) (m : Map) → Stand m (c ∷ cs)
+      → Stand (put_back (record_on M l c (overlay M cs r)) m) cs
+  stand_below l r c cs m s k v h = go (is_key k (key_of c)) refl
     where
-      go : (b : Bool) → is_key k (key_of c) ≡ b → row_at (put_back (record_on M c (overlay M cs r)) m) k ≡ v
-      go true q = back_at r c cs m s k true q
+      go : (b : Bool) → is_key k (key_of c) ≡ b → row_at (put_back (record_on M l c (overlay M cs r)) m) k ≡ v
+      go true q = back_at l r c cs m s k true q
           ∙ (ap (row_at (overlay M cs r)) (sym (key_true k (key_of c) q))
           ∙ (at_overlay M L cs r k ∙ ap (λ z. upon M L z (row_at r k)) h))
-      go false q = back_at r c cs m s k false q ∙ s k v (ap (λ z. cond z (Some (row_of c)) (net M cs k)) q ∙ h)
+      go false q = back_at l r c cs m s k false q ∙ s k v (ap (λ z. cond z (Some (row_of c)) (net M cs k)) q ∙ h)
 
-  at_unwind : (r : Map) (cs : List Change) (m : Map) → Stand m cs → (k : Key)
-      → row_at (unwind M (records_of M r cs) m) k ≡ undone (net M cs k) (row_at m k) (row_at r k)
-  at_unwind r [] m s k = refl
-  at_unwind r (c ∷ cs) m s k =
-      at_unwind r cs (put_back (record_on M c (overlay M cs r)) m) (stand_below r c cs m s) k
+  at_unwind : (l : M.Layout) (r : Map) (cs : List Change) (m : Map) → Stand m cs → (k : Key)
+      → row_at (unwind M (records_of M l r cs) m) k ≡ undone (net M cs k) (row_at m k) (row_at r k)
+  at_unwind l r [] m s k = refl
+  at_unwind l r (c ∷ cs) m s k =
+      at_unwind l r cs (put_back (record_on M l c (overlay M cs r)) m) (stand_below l r c cs m s) k
       ∙ go (is_key k (key_of c)) refl (net M cs k) refl
     where
       go : (b : Bool) → is_key k (key_of c) ≡ b → (n : Option (Option Row)) → net M cs k ≡ n
-          → undone n (row_at (put_back (record_on M c (overlay M cs r)) m) k) (row_at r k) ≡ undone
+          → undone n (row_at (put_back (record_on M l c (overlay M cs r)) m) k) (row_at r k) ≡ undone
           (cond b (Some (row_of c)) n) (row_at m k) (row_at r k)
       go true q None e =
-          back_at r c cs m s k true q
+          back_at l r c cs m s k true q
           ∙ (ap (row_at (overlay M cs r)) (sym (key_true k (key_of c) q))
           ∙ (at_overlay M L cs r k ∙ ap (λ z. upon M L z (row_at r k)) e))
       go true q (Some v) e = refl
-      go false q None e = back_at r c cs m s k false q
+      go false q None e = back_at l r c cs m s k false q
       go false q (Some v) e = refl
 
   -- of a committed transaction: its records lead from the version after it to the one before
-  pub undo_whole : (r : Map) (cs : List Change) → unwind M (records_of M r cs) (overlay M cs r) ≡ r
-  undo_whole r cs =
-      same_map _ _ (λ k. at_unwind r cs (overlay M cs r) stands k
+  pub undo_whole : (l : M.Layout) (r : Map) (cs : List Change) → unwind M (records_of M l r cs) (overlay M cs r) ≡ r
+  undo_whole l r cs =
+      same_map _ _ (λ k. at_unwind l r cs (overlay M cs r) stands k
       ∙ (ap (λ z. undone (net M cs k) z (row_at r k)) (at_overlay M L cs r k) ∙ go (net M cs k) (row_at r k)))
     where
       stands : Stand (overlay M cs r) cs
@@ -162,9 +163,9 @@ module _ (M : Machine) (L : Laws M) where
       ∙ (ap (λ z. net_of M L z k) e ∙ h))
 
   pub undo_forgets : (w : World M) → Sound M w → (t : ℕ) (o : Open M) → w.active t ≡ Some o
-      → unwind M (records_of M (latest M w) o.now.changes) (tables M w) ≡ tables M (put_active M t None w)
+      → unwind M (records_of M w.layout (latest M w) o.now.changes) (tables M w) ≡ tables M (put_active M t None w)
   undo_forgets w s t o e =
-      same_map _ _ (λ k. at_unwind (latest M w) o.now.changes (tables M w) (tables_stand w s t o e) k
+      same_map _ _ (λ k. at_unwind w.layout (latest M w) o.now.changes (tables M w) (tables_stand w s t o e) k
       ∙ go k (net M o.now.changes k) refl)
     where
       go : (k : Key) (n : Option (Option Row)) → net M o.now.changes k ≡ n
@@ -184,10 +185,10 @@ module _ (M : Machine) (L : Laws M) where
 
   pub undo_goes_back : (w : World M) → Sound M w → (t : ℕ) (o : Open M) → w.active t ≡ Some o → (since : List Change)
       → o.now.changes ≡ since ++ o.mark.changes
-      → unwind M (records_of M (overlay M o.mark.changes (latest M w)) since) (tables M w) ≡ tables M
+      → unwind M (records_of M w.layout (overlay M o.mark.changes (latest M w)) since) (tables M w) ≡ tables M
       (put_active M t (Some (record o { now = o.mark; lengths = o.mark_lengths })) w)
   undo_goes_back w s t o e since q =
-      same_map _ _ (λ k. at_unwind (overlay M o.mark.changes (latest M w)) since (tables M w) stands k
+      same_map _ _ (λ k. at_unwind w.layout (overlay M o.mark.changes (latest M w)) since (tables M w) stands k
       ∙ go k (net M since k) refl)
     where
       all : (k : Key) → net M o.now.changes k ≡ over M L (net M since k) (net M o.mark.changes k)

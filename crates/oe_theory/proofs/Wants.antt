@@ -27,11 +27,12 @@ module _ (M : Machine) where
   of_act w t o e g (Fail x) r h = stops_else t o x _ e h (fails t o x e g r)
   of_act w t o e g (Ready y) r h = absurd h
   of_act w t o e g (Go None p) r h = goes_else t _ (goes_on t o None p e g r tt)
-  of_act w t o e g (Go (Some c) p) r h = room (either (size_of (record_on M c (tables M w))) (filled M o.lengths).1)
+  of_act w t o e g (Go (Some c) p) r h = room
+      (either (size_of (record_on M w.layout c (tables M w))) (filled M o.lengths).1)
       (either w.extents (used M w))
     where
-      room : (size_of (record_on M c (tables M w)) ≤ (filled M o.lengths).1)
-          ⊎ ((filled M o.lengths).1 < size_of (record_on M c (tables M w)))
+      room : (size_of (record_on M w.layout c (tables M w)) ≤ (filled M o.lengths).1)
+          ⊎ ((filled M o.lengths).1 < size_of (record_on M w.layout c (tables M w)))
           → (w.extents ≤ used M w) ⊎ (used M w < w.extents) → Stands_for M w (Advance t)
       room (inl fits) x = goes_else t _ (goes_on t o (Some c) p e g r (inl fits))
       room (inr long) (inr free) = goes_else t _ (goes_on t o (Some c) p e g r (inr free))

@@ -146,13 +146,13 @@ module _ (M : Machine) where
         → row_at (put c r) k ≡ cond (is_key k (key_of c)) (row_of c) (row_at r k)
     pub same_map : (r s : Map) → ((k : Key) → row_at r k ≡ row_at s k) → r ≡ s
     -- undo records
-    pub record_key_of : (c : Change) (v : Option M.Row) → M.record_key (M.record_of c v) ≡ key_of c
-    pub restores : (c : Change) (r : Map) → M.restore (M.record_of c (row_at r (key_of c))) (row_of c) ≡ row_at r
-        (key_of c)
+    pub record_key_of : (l : M.Layout) (c : Change) (v : Option M.Row) → M.record_key (M.record_of l c v) ≡ key_of c
+    pub restores : (l : M.Layout) (c : Change) (r : Map)
+        → M.restore (M.record_of l c (row_at r (key_of c))) (row_of c) ≡ row_at r (key_of c)
     pub at_put_back : (b : M.Record) (r : Map) (k : Key)
         → row_at (M.put_back b r) k ≡ cond (is_key k (M.record_key b)) (M.restore b (row_at r k)) (row_at r k)
-    pub redoes : (c : Change) (v : Option M.Row) (r : Map) → row_at r (key_of c) ≡ row_of c
-        → M.redo (M.record_of c v) r ≡ Some c
+    pub redoes : (l : M.Layout) (c : Change) (v : Option M.Row) (r : Map) → row_at r (key_of c) ≡ row_of c
+        → M.redo (M.record_of l c v) r ≡ Some c
     -- names
     pub name_true : (a b : Name) → is_name a b ≡ true → a ≡ b
     pub name_refl : (a : Name) → is_name a a ≡ true

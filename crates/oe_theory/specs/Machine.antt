@@ -55,11 +55,12 @@ pub record Machine : Type 1 where
   pub put : Change → Map → Map
   -- the tables accept a change: its key is absent or present as it must be, and what its row refers to is there
   pub Accepts : Change → Map → Type 0
-  -- undo records: a change's, by the row before it; its key; the row before, by the row that stands there; what putting
-  -- it back leaves; the change itself, where the row that it left still stands; and its length, with an extent's (in
-  -- bytes)
+  -- undo records, in a layout that a world keeps from its opening on: a change's, by the row before it; its key; the
+  -- row before, by the row that stands there; what putting it back leaves; the change itself, where the row that it
+  -- left still stands; and its length, with an extent's (in bytes)
+  pub Layout : Type 0
   pub Record : Type 0
-  pub record_of : Change → Option Row → Record
+  pub record_of : Layout → Change → Option Row → Record
   pub record_key : Record → Key
   pub restore : Record → Option Row → Option Row
   pub put_back : Record → Map → Map
@@ -128,6 +129,7 @@ with_lengths M f =
       row_of = M.row_of;
       put = M.put;
       Accepts = M.Accepts;
+      Layout = M.Layout;
       Record = M.Record;
       record_of = M.record_of;
       record_key = M.record_key;

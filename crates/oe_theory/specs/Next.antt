@@ -9,6 +9,7 @@ module _ (M : Machine) where
   open M use {
     Map,
     Change,
+    Layout,
     Record,
     row_at,
     key_of,
@@ -83,6 +84,7 @@ module _ (M : Machine) where
     history = w.history;
     active = set t v w.active;
     extents = w.extents;
+    layout = w.layout;
   }
 
   -- a transaction that has just begun
@@ -107,25 +109,25 @@ module _ (M : Machine) where
   held_after (Take n m) held = λ q. cond (is_name q n) (Some (risen m (held q))) (held q)
 
   -- the record of a change of these tables
-  abbrev pub record_on : Change → Map → Record
-  record_on c r = record_of c (row_at r (key_of c))
+  abbrev pub record_on : Layout → Change → Map → Record
+  record_on l c r = record_of l c (row_at r (key_of c))
 
   -- the lengths with one more record's, where r are the tables before
-  abbrev pub add_length : Option Change → Map → List ℕ → List ℕ
-  add_length None r ls = ls
-  add_length (Some c) r ls = size_of (record_on c r) ∷ ls
+  abbrev pub add_length : Layout → Option Change → Map → List ℕ → List ℕ
+  add_length l None r ls = ls
+  add_length l (Some c) r ls = size_of (record_on l c r) ∷ ls
 
   -- the transaction after a stage; where the stage begins at a mark of the program's own, the mark has moved there
   -- first
-  abbrev pub moved : Open M → Ask Name Refusal → Option Change → Position → Map → Open M
-  moved o a c p r =
+  abbrev pub moved : Layout → Open M → Ask Name Refusal → Option Change → Position → Map → Open M
+  moved l o a c p r =
       record {
         number = o.number;
         request = o.request;
         now = record { position = p; changes = add M c o.now.changes };
         mark = cond (marks o.now.position) o.now o.mark;
         held = held_after a o.held;
-        lengths = add_length c r o.lengths;
+        lengths = add_length l c r o.lengths;
         mark_lengths = cond (marks o.now.position) o.lengths o.mark_lengths;
       }
 
@@ -156,11 +158,12 @@ module _ (M : Machine) where
   -- the record fits the rest of the transaction's last extent, or an extent is free
   abbrev pub HasRoom : World M → Open M → Option Change → Type 0
   HasRoom w o None = Unit {0}
-  HasRoom w o (Some c) = (size_of (record_on c (tables M w)) ≤ (filled o.lengths).1) ⊎ (used w < w.extents)
+  HasRoom w o (Some c) = (size_of (record_on w.layout c (tables M w)) ≤ (filled o.lengths).1)
+      ⊎ (used w < w.extents)
 
   -- the record fits neither there nor in a free extent
   abbrev pub IsFull : World M → Open M → Change → Type 0
-  IsFull w o c = ((filled o.lengths).1 < size_of (record_on c (tables M w))) × (w.extents ≤ used w)
+  IsFull w o c = ((filled o.lengths).1 < size_of (record_on w.layout c (tables M w))) × (w.extents ≤ used w)
 
   -- no other transaction holds the name in a mode that conflicts
   abbrev pub IsFreeFor : World M → ℕ → Name → Mode → Type 0
@@ -210,6 +213,7 @@ module _ (M : Machine) where
         active =
             set t None w.active;
         extents = w.extents;
+        layout = w.layout;
       }
 
   -- the world after a purge up to m
@@ -221,6 +225,7 @@ module _ (M : Machine) where
         history = take (newest M w - m) w.history;
         active = w.active;
         extents = w.extents;
+        layout = w.layout;
       }
 
   -- the world after a rewind to m
@@ -231,6 +236,7 @@ module _ (M : Machine) where
     history = drop (newest M w - m) w.history;
     active = w.active;
     extents = w.extents;
+    layout = w.layout;
   }
 
   -- no transaction is open
@@ -294,7 +300,7 @@ module _ (M : Machine) where
         → act (tx_of M t o) o.now.position (tables M w) ≡ Go c p
         → HasRoom w o c
         → Next w (Advance t) More
-        (put_active t (Some (moved o (ask (tx_of M t o) o.now.position (tables M w)) c p (tables M w))) w)
+        (put_active t (Some (moved w.layout o (ask (tx_of M t o) o.now.position (tables M w)) c p (tables M w))) w)
     commits : (t : ℕ) (o : Open M) (reply : Reply) → w.active t ≡ Some o
         → IsGranted w t (ask (tx_of M t o) o.now.position (tables M w))
         → act (tx_of M t o) o.now.position (tables M w) ≡ Ready reply

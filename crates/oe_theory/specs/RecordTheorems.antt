@@ -27,7 +27,7 @@ module _ (M : Machine) where
   abbrev pub Each_goes_back : (M.Map → Type 0) → Type 0
   Each_goes_back P =
       (w : World M) (u : Undo M) (ts : List ℕ) → IsReached M w → Keeps M w u → AreAll M w ts
-      → GoesBack M P (open_records M u.active ts ++ commit_records M u.history) (tables M w)
+      → GoesBack M w.layout P (open_records M u.active ts ++ commit_records M u.history) (tables M w)
 
   -- the local laws say nothing of lengths: whoever meets them, meets them with records of any lengths
   abbrev pub Lengths_are_free : Type 0

@@ -13,6 +13,7 @@ module _ (M : Machine) where
   open M use {
     Map,
     Change,
+    Layout,
     Record,
     Name,
     Request,
@@ -61,6 +62,7 @@ module _ (M : Machine) where
     -- the commits of each terminal so far: those that were purged are counted, those that were rewound are not
     pub counts : ℕ → ℕ
     pub extents : ℕ
+    pub layout : Layout
 
   -- the transaction of a terminal's slot
   abbrev pub tx_in : ℕ → Slot → Tx Request
@@ -123,6 +125,7 @@ module _ (M : Machine) where
         history = history_of s.seals s.undo.history;
         active = λ t. open_of (s.undo.active t) s.tables (s.slots t);
         extents = s.extents;
+        layout = s.layout;
       }
 
   -- What is stored of a world: of an open transaction beside its records
@@ -153,6 +156,7 @@ module _ (M : Machine) where
         seals = seals_of w.history;
         counts = counts_now M w;
         extents = w.extents;
+        layout = w.layout;
       }
 
   -- Moments. The newest is the number of all commits so far
@@ -176,14 +180,15 @@ module _ (M : Machine) where
   counts_of s m = counts_before s.counts (take (commits_after s m) s.seals)
 
   -- What the steps do. A store just opened
-  abbrev pub opened_store : Map → ℕ → Store
-  opened_store b n = record {
+  abbrev pub opened_store : Map → ℕ → Layout → Store
+  opened_store b n l = record {
     tables = b;
     undo = no_records M;
     slots = λ _. None;
     seals = [];
     counts = λ _. 0;
     extents = n;
+    layout = l;
   }
 
   -- a terminal's slot replaced
@@ -212,9 +217,9 @@ module _ (M : Machine) where
   }
 
   -- the records with one more, of a change of the tables r
-  abbrev pub with_record_of : Option Change → Map → List Record → List Record
-  with_record_of None r bs = bs
-  with_record_of (Some c) r bs = record_on M c r ∷ bs
+  abbrev pub with_record_of : Layout → Option Change → Map → List Record → List Record
+  with_record_of l None r bs = bs
+  with_record_of l (Some c) r bs = record_on M l c r ∷ bs
 
   -- the tables with one more change
   abbrev pub with_change_of : Option Change → Map → Map
@@ -239,7 +244,7 @@ module _ (M : Machine) where
   went_on t p a c q s =
       record s {
         tables = with_change_of c s.tables;
-        undo = put_records M t (with_record_of c s.tables (s.undo.active t)) s.undo;
+        undo = put_records M t (with_record_of s.layout c s.tables (s.undo.active t)) s.undo;
         slots = set t (Some (slot_after p (length (s.undo.active t)) a q)) s.slots;
       }
 
@@ -322,12 +327,12 @@ module _ (M : Machine) where
   -- the change's record fits the rest of the transaction's last extent, or an extent is free
   abbrev pub HasRoomIn : Store → ℕ → Option Change → Type 0
   HasRoomIn s t None = Unit {0}
-  HasRoomIn s t (Some c) = (size_of (record_on M c s.tables) ≤ (filled M (lengths_of M (s.undo.active t))).1)
+  HasRoomIn s t (Some c) = (size_of (record_on M s.layout c s.tables) ≤ (filled M (lengths_of M (s.undo.active t))).1)
       ⊎ (used_of M s.undo < s.extents)
 
   -- the record fits neither there nor in a free extent
   abbrev pub IsFullIn : Store → ℕ → Change → Type 0
-  IsFullIn s t c = ((filled M (lengths_of M (s.undo.active t))).1 < size_of (record_on M c s.tables))
+  IsFullIn s t c = ((filled M (lengths_of M (s.undo.active t))).1 < size_of (record_on M s.layout c s.tables))
       × (s.extents ≤ used_of M s.undo)
 
   -- no record takes any room

@@ -46,8 +46,8 @@ module _ (M : Machine) where
 
   -- a store just opened on a good base stands for the world just opened
   abbrev pub Opening_stands : Type 0
-  Opening_stands = (b : M.Map) (n : ℕ) → M.Good (λ _. 0) b → IsStanding (opened_store M b n)
-      × (world_of M (opened_store M b n) ≡ opened M b n)
+  Opening_stands = (b : M.Map) (n : ℕ) (l : M.Layout) → M.Good (λ _. 0) b → IsStanding (opened_store M b n l)
+      × (world_of M (opened_store M b n l) ≡ opened M b n l)
 
   -- where nothing is in the way a transaction begins in its terminal's slot
   abbrev pub Begins_here : Type 0
@@ -360,7 +360,7 @@ module _ (M : Machine) where
   abbrev pub Each_goes_back_here : (M.Map → Type 0) → Type 0
   Each_goes_back_here P =
       (s : Store M) (ts : List ℕ) → IsStanding s → AreAllIn s ts
-      → GoesBack M P (open_records M s.undo.active ts ++ commit_records M s.undo.history) s.tables
+      → GoesBack M s.layout P (open_records M s.undo.active ts ++ commit_records M s.undo.history) s.tables
 
   -- a transaction rolled back leaves every version, and where none is open nothing changes
   pub record Is_dropped (s : Store M) (t : ℕ) (s' : Store M) : Type 0 where

@@ -15,21 +15,22 @@ use Rattle.oe_theory.specs.Undo.{Keeps, used_of, no_records, undo_after, tables_
 
 module _ (M : Machine) where
   -- nothing committed, nothing open
-  abbrev pub opened : M.Map → ℕ → World M
-  opened b n = record { base = b; counts = λ _. 0; history = []; active = λ _. None; extents = n }
+  abbrev pub opened : M.Map → ℕ → M.Layout → World M
+  opened b n l = record { base = b; counts = λ _. 0; history = []; active = λ _. None; extents = n; layout = l }
 
   -- a world that steps led to
   pub record IsReached (w : World M) : Type 0 where
     pub base : M.Map
     pub extents : ℕ
+    pub layout : M.Layout
     pub good : M.Good (λ _. 0) base
     pub steps : List (Step M)
     pub answers : List (Answer M)
-    pub run : Runs M (opened base extents) steps answers w
+    pub run : Runs M (opened base extents layout) steps answers w
 
   -- each good base is one to begin from
   abbrev pub Opening_is_reached : Type 0
-  Opening_is_reached = (b : M.Map) (n : ℕ) → M.Good (λ _. 0) b → IsReached (opened b n)
+  Opening_is_reached = (b : M.Map) (n : ℕ) (l : M.Layout) → M.Good (λ _. 0) b → IsReached (opened b n l)
 
   -- each run goes on from a world that was reached
   abbrev pub Run_is_reached : Type 0
@@ -109,7 +110,7 @@ module _ (M : Machine) where
 
   -- the stored records are the world's transactions', and the lengths in the world are theirs
   abbrev pub Nothing_is_recorded : Type 0
-  Nothing_is_recorded = (b : M.Map) (n : ℕ) → Keeps M (opened b n) (no_records M)
+  Nothing_is_recorded = (b : M.Map) (n : ℕ) (l : M.Layout) → Keeps M (opened b n l) (no_records M)
 
   -- what a step does to the store keeps it so
   abbrev pub Records_follow : Type 0
@@ -196,7 +197,7 @@ module _ (M : Machine) where
     pub change : M.Change
     pub position : M.Position
     pub makes : M.act (tx_of M t was) was.now.position (tables M w) ≡ Go (Some change) position
-    pub too_long : (filled M was.lengths).1 < M.size_of (record_on M change (tables M w))
+    pub too_long : (filled M was.lengths).1 < M.size_of (record_on M w.layout change (tables M w))
     pub all_used : used M w ≡ w.extents
 
   -- a full ring is answered exactly then

@@ -13,6 +13,7 @@ module _ (M : Machine) where
     Key,
     Row,
     Change,
+    Layout,
     Record,
     Position,
     Reply,
@@ -34,9 +35,9 @@ module _ (M : Machine) where
     pub history : List (List Record)
 
   -- the records of changes that were made on r, each by the row before it
-  abbrev pub records_of : Map → List Change → List Record
-  records_of r [] = []
-  records_of r (c ∷ cs) = record_on M c (overlay M cs r) ∷ records_of r cs
+  abbrev pub records_of : Layout → Map → List Change → List Record
+  records_of l r [] = []
+  records_of l r (c ∷ cs) = record_on M l c (overlay M cs r) ∷ records_of l r cs
 
   -- the lengths of records
   abbrev pub lengths_of : List Record → List ℕ
@@ -85,19 +86,19 @@ module _ (M : Machine) where
 
   -- the record is of a change that the tables `on` accepted; it finds in r the row that this change left, and putting
   -- it back gives the row that `on` has
-  pub record Finds (b : Record) (r : Map) : Type 0 where
+  pub record Finds (l : Layout) (b : Record) (r : Map) : Type 0 where
     pub change : Change
     pub on : Map
     pub accepted : M.Accepts change on
-    pub is_of : b ≡ record_on M change on
+    pub is_of : b ≡ record_on M l change on
     pub left : M.row_at r (M.key_of change) ≡ M.row_of change
     pub redone : M.redo b r ≡ Some change
     pub brought_back : M.row_at (put_back b r) (M.key_of change) ≡ M.row_at on (M.key_of change)
 
   -- as the records are put back on r one after another, P holds before each and after the last, and each finds its row
-  abbrev pub GoesBack : (Map → Type 0) → List Record → Map → Type 0
-  GoesBack P [] r = P r
-  GoesBack P (b ∷ bs) r = P r × Finds b r × GoesBack P bs (put_back b r)
+  abbrev pub GoesBack : Layout → (Map → Type 0) → List Record → Map → Type 0
+  GoesBack l P [] r = P r
+  GoesBack l P (b ∷ bs) r = P r × Finds l b r × GoesBack l P bs (put_back b r)
 
   -- all records of open transactions in the order in which `unwind_open` puts them back
   abbrev pub open_records : (ℕ → List Record) → List ℕ → List Record
@@ -120,31 +121,31 @@ module _ (M : Machine) where
 
   -- these are the records of a commit on the version r: of the changes with which its program alone comes from r to its
   -- end
-  pub record IsOfCommit (r : Map) (c : Commit M) (bs : List Record) : Type 0 where
+  pub record IsOfCommit (l : Layout) (r : Map) (c : Commit M) (bs : List Record) : Type 0 where
     pub last : State M
     pub alone : Alone M c.tx r last
     pub ready : act c.tx last.position (overlay M last.changes r) ≡ Ready c.reply
     pub effect : whole c.tx r ≡ Some (overlay M last.changes r, c.reply)
-    pub records : bs ≡ records_of r last.changes
+    pub records : bs ≡ records_of l r last.changes
     pub lengths : c.lengths ≡ lengths_of bs
 
   -- these are the records of each commit, on the version before it
-  abbrev pub AreOfCommits : Map → List (Commit M) → List (List Record) → Type 0
-  AreOfCommits b [] [] = Unit {0}
-  AreOfCommits b (c ∷ cs) (s ∷ ss) = IsOfCommit (version M b cs) c s × AreOfCommits b cs ss
-  AreOfCommits b [] (s ∷ ss) = ⊥
-  AreOfCommits b (c ∷ cs) [] = ⊥
+  abbrev pub AreOfCommits : Layout → Map → List (Commit M) → List (List Record) → Type 0
+  AreOfCommits l b [] [] = Unit {0}
+  AreOfCommits l b (c ∷ cs) (s ∷ ss) = IsOfCommit l (version M b cs) c s × AreOfCommits l b cs ss
+  AreOfCommits l b [] (s ∷ ss) = ⊥
+  AreOfCommits l b (c ∷ cs) [] = ⊥
 
   -- these are the records of an open transaction, where r is the newest version
-  pub record IsOfOpen (r : Map) (o : Open M) (bs : List Record) : Type 0 where
-    pub records : bs ≡ records_of r o.now.changes
+  pub record IsOfOpen (l : Layout) (r : Map) (o : Open M) (bs : List Record) : Type 0 where
+    pub records : bs ≡ records_of l r o.now.changes
     pub lengths : o.lengths ≡ lengths_of bs
-    pub mark_lengths : o.mark_lengths ≡ lengths_of (records_of r o.mark.changes)
+    pub mark_lengths : o.mark_lengths ≡ lengths_of (records_of l r o.mark.changes)
 
   -- the store has the records of the world's transactions, and the world their lengths
   pub record Keeps (w : World M) (u : Undo) : Type 0 where
-    pub commits : AreOfCommits w.base w.history u.history
-    pub opens : (t : ℕ) (o : Open M) → w.active t ≡ Some o → IsOfOpen (latest M w) o (u.active t)
+    pub commits : AreOfCommits w.layout w.base w.history u.history
+    pub opens : (t : ℕ) (o : Open M) → w.active t ≡ Some o → IsOfOpen w.layout (latest M w) o (u.active t)
     pub others : (t : ℕ) → w.active t ≡ None → u.active t ≡ []
 
   -- how many extents the records of all segments fill
@@ -166,16 +167,16 @@ module _ (M : Machine) where
   no_records = record { active = λ _. []; history = [] }
 
   -- what a step does to the store
-  abbrev pub with_record : Act Change Position Reply Refusal → Map → List Record → List Record
-  with_record (Go (Some c) p) r bs = record_on M c r ∷ bs
-  with_record (Go None p) r bs = bs
-  with_record (Fail e) r bs = bs
-  with_record (Ready y) r bs = bs
+  abbrev pub with_record : Layout → Act Change Position Reply Refusal → Map → List Record → List Record
+  with_record l (Go (Some c) p) r bs = record_on M l c r ∷ bs
+  with_record l (Go None p) r bs = bs
+  with_record l (Fail e) r bs = bs
+  with_record l (Ready y) r bs = bs
 
   -- the records of a terminal after a row that went on
   abbrev pub pushed : World M → ℕ → Option (Open M) → List Record → List Record
   pushed w t None bs = bs
-  pushed w t (Some o) bs = with_record (act (tx_of M t o) o.now.position (tables M w)) (tables M w) bs
+  pushed w t (Some o) bs = with_record w.layout (act (tx_of M t o) o.now.position (tables M w)) (tables M w) bs
 
   -- the records at the mark
   abbrev pub cut : Option (Open M) → List Record → List Record

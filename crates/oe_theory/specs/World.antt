@@ -88,8 +88,9 @@ module _ (M : Machine) where
     -- the commits since the base, newest first
     pub history : List Commit
     pub active : ℕ → Option Open
-    -- how many extents there are
+    -- how many extents there are, and the layout of their records
     pub extents : ℕ
+    pub layout : M.Layout
 
   -- there is such a terminal
   abbrev pub IsTerminal : ℕ → Type 0

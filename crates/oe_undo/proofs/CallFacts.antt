@@ -7,6 +7,7 @@ use Rattle.std.proofs.lemmas.Bool.{cases_eq, cases_lt, cond-false}
 use Rattle.std.proofs.lemmas.List.{get_or-set_same, get_or-set_other, get_or_past, set_past, take_all, length-take-le}
 use Rattle.std.proofs.lemmas.List.Sums.{sum_by-set}
 use Rattle.oe_rows.specs.declared.keys.Key.{Key}
+use Rattle.oe_rows.specs.declared.layouts.Layout.{Layout}
 use Rattle.oe_model.specs.Rows.{is_key}
 use Rattle.oe_model.specs.Changes.{record_key}
 use Rattle.oe_model.specs.System.{terminal_limit, system}
@@ -347,13 +348,13 @@ gives_up u links k whole end c =
 
 -- ---- an empty log
 
-nothing_at : (e t : ℕ) → records_at (no_segments e) t ≡ []
+nothing_at : (e : ℕ) (l : Layout) (t : ℕ) → records_at (no_segments e l) t ≡ []
 unfolding idle_terminals
-nothing_at e t = ap (λ (z : TerminalState). records_in z.active) (idle_at 65 t)
+nothing_at e l t = ap (λ (z : TerminalState). records_in z.active) (idle_at 65 t)
 
-pub none : (e : ℕ) → AreChained (no_segments e) (λ k. None)
-none e = λ k.
-    let u : SegmentLog = no_segments e in
+pub none : (e : ℕ) (l : Layout) → AreChained (no_segments e l) (λ k. None)
+none e l = λ k.
+    let u : SegmentLog = no_segments e l in
     closed_up k u None (subst (IsChain (horizon u) None)
     (sym (nobody k (records_at u) terminal_limit (commits k (total_count u) [])
-    (λ s less. ap (own k (Open s)) (nothing_at e s)))) tt)
+    (λ s less. ap (own k (Open s)) (nothing_at e l s)))) tt)

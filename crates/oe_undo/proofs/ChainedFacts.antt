@@ -8,6 +8,7 @@ use Rattle.std.proofs.lemmas.List.{get_or-set_same, get_or-set_other, get_or_rea
 use mathlib.Core.Path.{fun_ext}
 use Rattle.oe_values.specs.declared.numbers.TheConstants.{TERMINALS}
 use Rattle.oe_rows.specs.declared.keys.Key.{Key}
+use Rattle.oe_rows.specs.declared.layouts.Layout.{Layout}
 use Rattle.oe_requests.specs.declared.requests.Request.{Request}
 use Rattle.oe_requests.specs.declared.replies.Reply.{Reply}
 use Rattle.oe_model.specs.Rows.{is_key}
@@ -56,16 +57,16 @@ no_owned : (l : OwnedLink) (P : Type 0) → None ≡ Some l → P
 no_owned l P e = cc
 
 -- nothing recorded, nothing committed
-pub none_linked : (e : ℕ) (u : SegmentLog) (maps : LinkMaps) (ms : List MomentList) → u ≡ no_segments e
-    → maps ≡ no_links → AreIdle ms → IsLinked u (links_of maps) ms
+pub none_linked : (e : ℕ) (l : Layout) (u : SegmentLog) (maps : LinkMaps) (ms : List MomentList)
+    → u ≡ no_segments e l → maps ≡ no_links → AreIdle ms → IsLinked u (links_of maps) ms
 unfolding idle_terminals
-none_linked e u maps ms empty none idle_ms =
+none_linked e l u maps ms empty none idle_ms =
     subst (λ v. IsLinked v (links_of maps) ms) (sym empty)
-    (subst (λ (m : LinkMaps). IsLinked (no_segments e) (links_of m) ms) (sym none)
+    (subst (λ (m : LinkMaps). IsLinked (no_segments e l) (links_of m) ms) (sym none)
     record {
-      chained = subst (AreChained (no_segments e)) (sym (fun_ext (λ k. ap (followed (no_segments e)) (no_link k))))
-          (calls.none e);
-      owned = λ k l is. no_owned l (IsOwner (no_segments e) l.owner) (sym (no_link k) ∙ is);
+      chained = subst (AreChained (no_segments e l)) (sym (fun_ext (λ k. ap (followed (no_segments e l)) (no_link k))))
+          (calls.none e l);
+      owned = λ k o is. no_owned o (IsOwner (no_segments e l) o.owner) (sym (no_link k) ∙ is);
       moments = record {
         size = idle_ms.size;
         kept = λ t less. idle_ms.idle t no_moments (subst (λ n. t < n) (sym idle_ms.size) less);
@@ -839,7 +840,7 @@ none_linked_still u w links ms none is c =
     let taken : take (length u.committed - 1) u.committed ≡ u.committed =
     ap (λ (cs : List CommitSegment). take (length cs - 1) cs) empty ∙ sym empty in
     let same : with_newest (length u.committed - 1) u ≡ u =
-    (λ j. record { terminals = u.terminals; committed = taken j; extents = u.extents }) in
+    (λ j. record u { committed = taken j }) in
     subst (λ v. IsLinked v links ms) (sym (is ∙ same)) c
 
 -- ---- the link where a previous one leads

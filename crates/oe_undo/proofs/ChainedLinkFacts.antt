@@ -5,7 +5,8 @@ use Rattle.std.specs.List.{AllByRecursion}
 use Rattle.std.proofs.lemmas.Bool.{cases_eq, le-ltb}
 use Rattle.oe_rows.specs.declared.keys.Key.{Key}
 use Rattle.oe_model.specs.Rows.{is_key}
-use Rattle.oe_model.specs.Changes.{Record, record_key}
+use Rattle.oe_rows.specs.declared.rows.Row.{Row}
+use Rattle.oe_model.specs.Changes.{Record, record_key, restore}
 use Rattle.oe_model.specs.System.{terminal_limit, system}
 use Rattle.oe_model.proofs.RowFacts.{key_true}
 use Rattle.oe_theory.specs.Store.{all_below}
@@ -18,11 +19,11 @@ use Rattle.oe_undo.specs.declared.holders.Holder.{Holder}
 use Rattle.oe_undo.specs.declared.holders.Holder.TheVariants.{Open, At}
 use Rattle.oe_undo.specs.Held.{Held, held_by, held_open, held_commits, held, of_key, horizon, is_later, count_later}
 use Rattle.oe_undo.specs.Chains.{link_to, link_from, IsOwnOrDone, IsSeenBy, HaveNone, IsAlone, IsForgotten, IsEnd}
-use Rattle.oe_undo.specs.Chains.{IsChain, AreChained, found, ticks}
-use Rattle.oe_undo.specs.Oldest.{oldest_after}
+use Rattle.oe_undo.specs.Chains.{IsChain, AreChained, walked}
+use Rattle.oe_undo.specs.Restored.{later_of, has_later, restored}
 use Rattle.oe_undo.specs.Laws.{IsWhole}
 use Rattle.oe_undo.specs.Walks.{records_by, leads_later, Walks, Ends, Reads}
-use Rattle.oe_undo.proofs.ChainWalkFacts.{walk_finds, walk_ticks}
+use Rattle.oe_undo.proofs.ChainWalkFacts.{walk_reads, later_counted, none_has}
 
 -- each record is one of its holder's
 abbrev Stands : SegmentLog → Held → Type 0
@@ -89,30 +90,48 @@ end_not_later h m (Some l) le e = go l.holder e
     go (At n) f = le-ltb m n (omega (arith, le, f))
 
 module _ (u : SegmentLog) (h m : ℕ) (le : h ≤ m) where
-  walked : (xs : List Held) (l : Option Link) (o : Option Record) → AllStand u xs → IsChain h l xs
-      → Walks u m l o (ticks m xs) (found m xs o)
-  walked [] l o stand c = Ends l o (end_not_later h m l le c)
-  walked (r ∷ rs) l o stand c =
-      subst (λ z. Walks u m z o (ticks m (r ∷ rs)) (found m (r ∷ rs) o)) (sym c.0.leads)
+  walks_on : (xs : List Held) (l : Option Link) (now : Option Row) → AllStand u xs → IsChain h l xs
+      → Walks u m l now (length (walked m xs)) (restored (walked m xs) now)
+  walks_on [] l now stand c = Ends l now (end_not_later h m l le c)
+  walks_on (r ∷ rs) l now stand c =
+      subst (λ z. Walks u m z now (length (walked m (r ∷ rs))) (restored (walked m (r ∷ rs)) now)) (sym c.0.leads)
       (go (is_later m r.holder) refl
-      (walked rs (link_from r.holder r.logged.previous) (Some r.logged.before) stand.1 c.1))
+      (walks_on rs (link_from r.holder r.logged.previous) (restore r.logged.before now) stand.1 c.1))
     where
       go : (b : Bool) → is_later m r.holder ≡ b
-          → Walks u m (link_from r.holder r.logged.previous) (Some r.logged.before) (ticks m rs)
-          (found m rs (Some r.logged.before))
-          → Walks u m (Some (link_to r)) o (cond b (suc (ticks m rs)) 0) (cond b (found m rs (Some r.logged.before)) o)
-      go true e w = Reads r.logged.address r.holder r.logged.previous r.logged.before o (ticks m rs)
-          (found m rs (Some r.logged.before)) e stand.0 w
-      go false e w = Ends (Some (link_to r)) o e
+          → Walks u m (link_from r.holder r.logged.previous) (restore r.logged.before now) (length (walked m rs))
+          (restored (walked m rs) (restore r.logged.before now))
+          → Walks u m (Some (link_to r)) now (length (cond b (r.logged.before ∷ walked m rs) []))
+          (restored (cond b (r.logged.before ∷ walked m rs) []) now)
+      go true e w = Reads r.logged.address r.holder r.logged.previous r.logged.before now (length (walked m rs))
+          (restored (walked m rs) (restore r.logged.before now)) e stand.0 w
+      go false e w = Ends (Some (link_to r)) now e
 
-pub chains_are_walked : (u : SegmentLog) (links : Key → Option Link) (k : Key) (m count : ℕ) → IsWhole u
+  -- the first record tells whether there is a later one
+  leads_first : (xs : List Held) (l : Option Link) → walked m xs ≡ later_of m xs → IsChain h l xs
+      → leads_later m l ≡ has_later m xs
+  leads_first [] l same c = end_not_later h m l le c
+  leads_first (r ∷ rs) l same c = ap (leads_later m) c.0.leads ∙ go (is_later m r.holder) same
+    where
+      go : (b : Bool) → cond b (r.logged.before ∷ walked m rs) [] ≡ cond b (r.logged.before ∷ later_of m rs)
+          (later_of m rs)
+          → b ≡ cond b true (has_later m rs)
+      go true e = refl
+      go false e = sym (none_has m rs (sym e))
+
+pub chains_are_walked : (u : SegmentLog) (links : Key → Option Link) (k : Key) (m : ℕ) (now : Option Row) → IsWhole u
     → AreChained u links → horizon u ≤ m
-    → count + m ≡ total_count u → Walks u m (links k) None (count_later m (of_key k (held u))) (oldest_after k u count)
-chains_are_walked u links k m count whole c le e =
-    subst (λ o. Walks u m (links k) None (count_later m (of_key k (held u))) o) (walk_finds k u m count whole.commits e)
-    (subst (λ n. Walks u m (links k) None n (found m (of_key k (held u)) None)) (walk_ticks k u m)
-    (walked u (horizon u) m le (of_key k (held u)) (links k) None (stand_of_key u k (held u) (all_stand u whole))
-    (c k)))
+    → Walks u m (links k) now (count_later m (of_key k (held u))) (restored (later_of m (of_key k (held u))) now)
+chains_are_walked u links k m now whole c le =
+    let xs : List Held = of_key k (held u) in
+    subst (λ n. Walks u m (links k) now n (restored (later_of m xs) now)) (later_counted m xs)
+    (subst (λ (bs : List Record). Walks u m (links k) now (length bs) (restored bs now)) (walk_reads k u m)
+    (walks_on u (horizon u) m le xs (links k) now (stand_of_key u k (held u) (all_stand u whole)) (c k)))
+
+-- a key's link tells whether it has a later record
+pub link_tells : (u : SegmentLog) (links : Key → Option Link) (k : Key) (m : ℕ) → AreChained u links → horizon u ≤ m
+    → leads_later m (links k) ≡ has_later m (of_key k (held u))
+link_tells u links k m c le = leads_first u (horizon u) m le (of_key k (held u)) (links k) (walk_reads k u m) (c k)
 
 -- ---- who sees a link
 

@@ -3,7 +3,8 @@ use Rattle.std.proofs.Common.{◌≡◌, ℕ, zero, suc, ◌+◌, ◌-◌, ◌^�
 use Rattle.std.proofs.Common.{◌||◌, List, [], ◌∷◌, Option, None, Some, refl, sym, ap, ◌∙◌, subst, inl, inr, arith}
 use Rattle.std.proofs.lemmas.Bool.{both_ways, and_parts, and_from, or_cases, or_left, or_right, not_from_false, eq-eqb}
 use Rattle.std.proofs.lemmas.Bool.{eqb-true}
-use Rattle.oe_model.specs.Changes.{Record}
+use Rattle.oe_rows.specs.declared.rows.Row.{Row}
+use Rattle.oe_model.specs.Changes.{Record, restore}
 use Rattle.oe_layout.specs.declared.links.RecordAddress.{RecordAddress}
 use Rattle.oe_layout.specs.declared.links.Previous.{Previous}
 use Rattle.oe_log.specs.Records.{Logged, logged, IsAmong, HasAddress, IsRecordAt}
@@ -93,125 +94,125 @@ least_below (suc n) (suc j) f g more e le = go (f 0) (g 0) refl refl
     go true false p q le = absurd (both_ways (g 0) q (more 0 p))
     go false false p q le = omega (arith, le)
 
--- What is left of a walk that reads `all` records to the oldest: from this link on, where the oldest record so far is
--- `newer`, and
--- `before` were counted before it and `now` so far
-pub record Goes (u : SegmentLog) (m all : ℕ) (oldest : Option Record) (before : ℕ) (l : Option Link)
-    (newer : Option Record) (now : ℕ) : Type 0 where
+-- What is left of a walk that reads `all` records and is left `past` of a row: from this link on, where `row` is left
+-- so far, and `before` records were counted before it and `now` so far
+pub record Goes (u : SegmentLog) (m all : ℕ) (past : Option Row) (before : ℕ) (l : Option Link) (row : Option Row)
+    (now : ℕ) : Type 0 where
   pub left : ℕ
   pub few : left ≤ all
-  pub walks : Walks u m l newer left oldest
+  pub walks : Walks u m l row left past
   pub counted : ticked now left ≡ ticked before all
   pub fits : now < 2 ^ 64
 
 -- the first read of a walk, and what follows it
-record First (u : SegmentLog) (m : ℕ) (l : Link) (left : ℕ) (oldest : Option Record) : Type 0 where
+record First (u : SegmentLog) (m : ℕ) (l : Link) (row : Option Row) (left : ℕ) (past : Option Row) : Type 0 where
   pub previous : Previous
   pub record_there : Record
   pub rest : ℕ
   pub one : left ≡ suc rest
   pub there : IsAmong (logged l.address previous record_there) (records_by u l.holder)
-  pub walks : Walks u m (link_from l.holder previous) (Some record_there) rest oldest
+  pub walks : Walks u m (link_from l.holder previous) (restore record_there row) rest past
 
 ticked_on : (top before n now : ℕ) → now ≡ min (before + 1) top → min (now + n) top ≡ min (before + suc n) top
 ticked_on top before n now e = omega (arith, e)
 
 module _ (u : SegmentLog) (m : ℕ) where
-  walk_ends : (l : Option Link) (newer : Option Record) (n : ℕ) (oldest : Option Record) → Walks u m l newer n oldest
+  walk_ends : (l : Option Link) (row : Option Row) (n : ℕ) (past : Option Row) → Walks u m l row n past
       → can_end u m n l ≡ true
-  walk_ends l newer _ _ (Ends _ _ e) = not_from_false (leads_later m l) e
-  walk_ends _ newer _ oldest (Reads a h p b _ n _ later there w) =
+  walk_ends l row _ _ (Ends _ _ e) = not_from_false (leads_later m l) e
+  walk_ends _ row _ past (Reads a h p b _ n _ later there w) =
       passes_among a (λ q. can_end u m n (link_from h q)) p b (records_by u h) there
-      (walk_ends (link_from h p) (Some b) n oldest w)
+      (walk_ends (link_from h p) (restore b row) n past w)
 
-  first_read : (l : Link) (newer : Option Record) (left : ℕ) (oldest : Option Record) → is_later m l.holder ≡ true
-      → Walks u m (Some l) newer left oldest
-      → First u m l left oldest
-  first_read l newer _ oldest later (Ends _ _ e) = absurd (both_ways (is_later m l.holder) e later)
-  first_read _ newer _ oldest later (Reads a h p b _ n _ also there w) =
+  first_read : (l : Link) (row : Option Row) (left : ℕ) (past : Option Row) → is_later m l.holder ≡ true
+      → Walks u m (Some l) row left past
+      → First u m l row left past
+  first_read l row _ past later (Ends _ _ e) = absurd (both_ways (is_later m l.holder) e later)
+  first_read _ row _ past later (Reads a h p b _ n _ also there w) =
       record { previous = p; record_there = b; rest = n; one = refl; there = there; walks = w }
 
-  module _ (all : ℕ) (oldest : Option Record) (before : ℕ) where
-    abbrev GoesFrom : Option Link → Option Record → ℕ → Type 0
-    GoesFrom l newer now = Goes u m all oldest before l newer now
+  module _ (all : ℕ) (past : Option Row) (before : ℕ) where
+    abbrev GoesFrom : Option Link → Option Row → ℕ → Type 0
+    GoesFrom l row now = Goes u m all past before l row now
 
     -- before the first read
-    pub goes_first : (l : Option Link) (now : ℕ) → Walks u m l None all oldest → now ≡ before → now < 2 ^ 64
-        → GoesFrom l None now
-    goes_first l now w e fits =
+    pub goes_first : (l : Option Link) (row : Option Row) (now : ℕ) → Walks u m l row all past → now ≡ before
+        → now < 2 ^ 64 → GoesFrom l row now
+    goes_first l row now w e fits =
         record { left = all; few = omega arith; walks = w; counted = ap (λ z. ticked z all) e; fits = fits }
 
-    at_link : (o : Option Link) (l : Link) (newer : Option Record) (now : ℕ) → o ≡ Some l → GoesFrom o newer now
-        → GoesFrom (Some l) newer now
-    at_link o l newer now e g = subst (λ x. GoesFrom x newer now) e g
+    at_link : (o : Option Link) (l : Link) (row : Option Row) (now : ℕ) → o ≡ Some l → GoesFrom o row now
+        → GoesFrom (Some l) row now
+    at_link o l row now e g = subst (λ x. GoesFrom x row now) e g
 
     -- a record stands where a link leads to a later holder
-    pub stands_there : (o : Option Link) (l : Link) (newer : Option Record) (now : ℕ) → o ≡ Some l
-        → is_later m l.holder ≡ true → GoesFrom o newer now
+    pub stands_there : (o : Option Link) (l : Link) (row : Option Row) (now : ℕ) → o ≡ Some l
+        → is_later m l.holder ≡ true → GoesFrom o row now
         → HasAddress (records_by u l.holder) l.address
-    stands_there o l newer now e later g =
-        let here = at_link o l newer now e g in
-        let f = first_read l newer here.left oldest later here.walks in
+    stands_there o l row now e later g =
+        let here = at_link o l row now e g in
+        let f = first_read l row here.left past later here.walks in
         record { previous = f.previous; before = f.record_there; there = f.there }
 
-    goes_from : (l : Link) (newer : Option Record) (now next : ℕ) (told : Previous × Record)
-        → is_later m l.holder ≡ true → GoesFrom (Some l) newer now
+    goes_from : (l : Link) (row : Option Row) (now next : ℕ) (told : Previous × Record)
+        → is_later m l.holder ≡ true → GoesFrom (Some l) row now
         → IsRecordAt (records_by u l.holder) l.address told → next ≡ ticked now 1
-        → GoesFrom (link_from l.holder told.0) (Some told.1) next
-    goes_from l newer now next told later g at e =
-        let f = first_read l newer g.left oldest later g.walks in
+        → GoesFrom (link_from l.holder told.0) (restore told.1 row) next
+    goes_from l row now next told later g at e =
+        let f = first_read l row g.left past later g.walks in
         let same : told ≡ (f.previous, f.record_there) = at f.previous f.record_there f.there in
         record {
           left = f.rest;
           few = omega (arith, g.few, f.one);
-          walks = subst (λ (x : Previous × Record). Walks u m (link_from l.holder x.0) (Some x.1) f.rest oldest)
+          walks = subst (λ (x : Previous × Record). Walks u m (link_from l.holder x.0) (restore x.1 row) f.rest past)
               (sym same) f.walks;
           counted = ticked_on (2 ^ 64 - 1) now f.rest next e ∙ ap (ticked now) (sym f.one) ∙ g.counted;
           fits = omega (arith, e);
         }
 
-    fewer_from : (l : Link) (newer : Option Record) (now : ℕ) (told : Previous × Record) → is_later m l.holder ≡ true
-        → GoesFrom (Some l) newer now
+    fewer_from : (l : Link) (row : Option Row) (now : ℕ) (told : Previous × Record) → is_later m l.holder ≡ true
+        → GoesFrom (Some l) row now
         → IsRecordAt (records_by u l.holder) l.address told
         → reads_left u m all (link_from l.holder told.0) < reads_left u m all (Some l)
     unfolding reads_left
-    fewer_from l newer now told later g at =
-        let then = goes_from l newer now (ticked now 1) told later g at refl in
+    fewer_from l row now told later g at =
+        let then = goes_from l row now (ticked now 1) told later g at refl in
         let below = least_below all then.left (λ i. can_end u m (suc i) (Some l))
         (λ i. can_end u m i (link_from l.holder told.0))
         (λ i e. told_passes l.address (λ p. can_end u m i (link_from l.holder p)) told (records_by u l.holder) at e)
-        (walk_ends (link_from l.holder told.0) (Some told.1) then.left oldest then.walks) then.few in
+        (walk_ends (link_from l.holder told.0) (restore told.1 row) then.left past then.walks) then.few in
         rw later (omega (arith, below))
 
-    -- what is read there leads on
-    pub goes_on : (o : Option Link) (l : Link) (newer : Option Record) (now next : ℕ) (p : Previous) (b : Record)
+    -- what is read there is put back, and leads on
+    pub goes_on : (o : Option Link) (l : Link) (row left : Option Row) (now next : ℕ) (p : Previous) (b : Record)
         (after : Option Link) → o ≡ Some l
-        → is_later m l.holder ≡ true → GoesFrom o newer now → IsRecordAt (records_by u l.holder) l.address (p, b)
-        → next ≡ ticked now 1
-        → after ≡ link_from l.holder p → GoesFrom after (Some b) next
-    goes_on o l newer now next p b after e later g at tick a =
-        subst (λ x. GoesFrom x (Some b) next) (sym a)
-        (goes_from l newer now next (p, b) later (at_link o l newer now e g) at tick)
+        → is_later m l.holder ≡ true → GoesFrom o row now → IsRecordAt (records_by u l.holder) l.address (p, b)
+        → left ≡ restore b row → next ≡ ticked now 1
+        → after ≡ link_from l.holder p → GoesFrom after left next
+    goes_on o l row left now next p b after e later g at put tick a =
+        subst (λ x. GoesFrom x left next) (sym a)
+        (subst (λ x. GoesFrom (link_from l.holder p) x next) (sym put)
+        (goes_from l row now next (p, b) later (at_link o l row now e g) at tick))
 
     -- and leaves fewer
-    pub leaves_fewer : (o : Option Link) (l : Link) (newer : Option Record) (now : ℕ) (p : Previous) (b : Record)
+    pub leaves_fewer : (o : Option Link) (l : Link) (row : Option Row) (now : ℕ) (p : Previous) (b : Record)
         (after : Option Link) → o ≡ Some l
-        → is_later m l.holder ≡ true → GoesFrom o newer now → IsRecordAt (records_by u l.holder) l.address (p, b)
+        → is_later m l.holder ≡ true → GoesFrom o row now → IsRecordAt (records_by u l.holder) l.address (p, b)
         → after ≡ link_from l.holder p → reads_left u m all after < reads_left u m all o
-    leaves_fewer o l newer now p b after e later g at a =
-        rw (e, a) (fewer_from l newer now (p, b) later (at_link o l newer now e g) at)
+    leaves_fewer o l row now p b after e later g at a =
+        rw (e, a) (fewer_from l row now (p, b) later (at_link o l row now e g) at)
 
     -- a link to no later holder is the walk's end
-    ended : (l : Option Link) (newer : Option Record) (n now : ℕ) → leads_later m l ≡ false → Walks u m l newer n oldest
+    ended : (l : Option Link) (row : Option Row) (n now : ℕ) → leads_later m l ≡ false → Walks u m l row n past
         → ticked now n ≡ ticked before all → now < 2 ^ 64
-        → (newer ≡ oldest) × (now ≡ ticked before all)
-    ended l newer _ now e (Ends _ _ _) counted fits = (refl, omega (arith, counted, fits))
-    ended _ newer _ now e (Reads a h p b _ n _ later there w) counted fits = absurd (both_ways (is_later m h) e later)
+        → (row ≡ past) × (now ≡ ticked before all)
+    ended l row _ now e (Ends _ _ _) counted fits = (refl, omega (arith, counted, fits))
+    ended _ row _ now e (Reads a h p b _ n _ later there w) counted fits = absurd (both_ways (is_later m h) e later)
 
-    pub finds : (l : Option Link) (newer : Option Record) (now : ℕ) → leads_later m l ≡ false → GoesFrom l newer now
-        → newer ≡ oldest
-    finds l newer now e g = (ended l newer g.left now e g.walks g.counted g.fits).0
+    pub finds : (l : Option Link) (row : Option Row) (now : ℕ) → leads_later m l ≡ false → GoesFrom l row now
+        → row ≡ past
+    finds l row now e g = (ended l row g.left now e g.walks g.counted g.fits).0
 
-    pub counts : (l : Option Link) (newer : Option Record) (now : ℕ) → leads_later m l ≡ false → GoesFrom l newer now
+    pub counts : (l : Option Link) (row : Option Row) (now : ℕ) → leads_later m l ≡ false → GoesFrom l row now
         → now ≡ ticked before all
-    counts l newer now e g = (ended l newer g.left now e g.walks g.counted g.fits).1
+    counts l row now e g = (ended l row g.left now e g.walks g.counted g.fits).1

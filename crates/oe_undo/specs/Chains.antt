@@ -1,6 +1,6 @@
 -- The records of a key as a chain: a link leads to the newest, and the previous link in each record to the next older
 -- one.
-use Rattle.std.specs.Prelude.{◌≡◌, ◌≢◌, ℕ, suc, ◌≤◌, ◌<◌, ◌==◌, cond, List, [], ◌∷◌, Option, None, Some, ⊤}
+use Rattle.std.specs.Prelude.{◌≡◌, ◌≢◌, ℕ, ◌≤◌, ◌<◌, ◌==◌, cond, List, [], ◌∷◌, Option, None, Some, ⊤}
 use Rattle.oe_rows.specs.declared.keys.Key.{Key}
 use Rattle.oe_model.specs.Rows.{is_key}
 use Rattle.oe_model.specs.Changes.{Record, record_key}
@@ -81,15 +81,10 @@ AreChained u links = (k : Key) → IsChain (horizon u) (links k) (of_key k (held
 
 -- ---- the walk along a chain
 
--- the oldest record that is later than the moment; it ends at the first that is not
-abbrev pub found : ℕ → List Held → Option Record → Option Record
-found m [] newer = newer
-found m (r ∷ rs) newer = cond (is_later m r.holder) (found m rs (Some r.logged.before)) newer
-
--- how many records are read on the way
-abbrev pub ticks : ℕ → List Held → ℕ
-ticks m [] = 0
-ticks m (r ∷ rs) = cond (is_later m r.holder) (suc (ticks m rs)) 0
+-- the records that are read: they end at the first that is not later than the moment
+abbrev pub walked : ℕ → List Held → List Record
+walked m [] = []
+walked m (r ∷ rs) = cond (is_later m r.holder) (r.logged.before ∷ walked m rs) []
 
 -- ---- links
 

@@ -1,6 +1,7 @@
 -- What each call of a log makes of the chains, and which keys have no record left.
 use Rattle.std.specs.Prelude.{◌≡◌, ◌≤◌, ◌↔◌, ℕ, suc, true, List, [], ◌∷◌, length, Option, None, Some}
 use Rattle.oe_rows.specs.declared.keys.Key.{Key}
+use Rattle.oe_rows.specs.declared.layouts.Layout.{Layout}
 use Rattle.oe_model.specs.Changes.{record_key}
 use Rattle.oe_model.specs.System.{terminal_limit}
 use Rattle.oe_requests.specs.declared.requests.Request.{Request}
@@ -25,7 +26,7 @@ pub record IsWhole (u : SegmentLog) : Type 0 where
   pub commits : length u.committed ≤ total_count u
 
 pub record Calls_keep_chains : Type 0 where
-  pub none : (e : ℕ) → AreChained (no_segments e) (λ k. None)
+  pub none : (e : ℕ) (l : Layout) → AreChained (no_segments e l) (λ k. None)
   pub opens : (u : SegmentLog) (links : Key → Option Link) (t : ℕ) → active_at u t ≡ None → AreChained u links
       → AreChained (opened u t) links
   pub drops : (u : SegmentLog) (links : Key → Option Link) (t : ℕ) → records_at u t ≡ [] → AreChained u links

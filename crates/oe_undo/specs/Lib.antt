@@ -6,10 +6,10 @@ pub mod Links
 pub mod LinksLend
 pub mod NumberLaws
 pub mod Numbers
-pub mod Oldest
 pub mod Owners
 pub mod Places
 pub mod PlacesLends
+pub mod Restored
 pub mod Shelf
 pub mod ShelfLends
 pub mod Tables

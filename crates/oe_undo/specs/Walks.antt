@@ -1,7 +1,8 @@
 -- A walk from a key's link on: each record is read at its address in the segment of its holder, and tells the next
 -- link.
 use Rattle.std.specs.Prelude.{◌≡◌, ◌-◌, ℕ, suc, Bool, true, false, List, [], get_or, Option, None, Some}
-use Rattle.oe_model.specs.Changes.{Record}
+use Rattle.oe_rows.specs.declared.rows.Row.{Row}
+use Rattle.oe_model.specs.Changes.{Record, restore}
 use Rattle.oe_layout.specs.declared.links.RecordAddress.{RecordAddress}
 use Rattle.oe_layout.specs.declared.links.Previous.{Previous}
 use Rattle.oe_log.specs.Records.{Logged, logged, IsAmong}
@@ -22,11 +23,10 @@ abbrev pub leads_later : ℕ → Option Link → Bool
 leads_later m None = false
 leads_later m (Some l) = is_later m l.holder
 
--- From this link on, where the oldest record so far is `newer`, a walk reads this number of records, and the last of
--- them is `oldest`.
-pub data Walks (u : SegmentLog) (m : ℕ) : Option Link → Option Record → ℕ → Option Record → Type 0 where
-  Ends : (l : Option Link) (newer : Option Record) → leads_later m l ≡ false → Walks u m l newer 0 newer
-  Reads : (a : RecordAddress) (h : Holder) (p : Previous) (b : Record) (newer : Option Record) (n : ℕ)
-      (oldest : Option Record)
-      → is_later m h ≡ true → IsAmong (logged a p b) (records_by u h) → Walks u m (link_from h p) (Some b) n oldest
-      → Walks u m (Some (record { address = a; holder = h })) newer (suc n) oldest
+-- From this link on, a walk reads this number of records, and puts each back: it is left `past` of the row `now`.
+pub data Walks (u : SegmentLog) (m : ℕ) : Option Link → Option Row → ℕ → Option Row → Type 0 where
+  Ends : (l : Option Link) (now : Option Row) → leads_later m l ≡ false → Walks u m l now 0 now
+  Reads : (a : RecordAddress) (h : Holder) (p : Previous) (b : Record) (now : Option Row) (n : ℕ) (past : Option Row)
+      → is_later m h ≡ true → IsAmong (logged a p b) (records_by u h)
+      → Walks u m (link_from h p) (restore b now) n past
+      → Walks u m (Some (record { address = a; holder = h })) now (suc n) past

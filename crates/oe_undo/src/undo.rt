@@ -17,7 +17,7 @@ use crate::links::{Links, OwnedLink};
 use crate::moments::{TerminalMoments, idle_moments};
 use oe_layout::Previous;
 use oe_log::{Log, Segment, SegmentOwner};
-use oe_rows::{HistoryKey, Key};
+use oe_rows::{HistoryKey, Key, Layout};
 use oe_values::{ExtentCount, NoMemory, PerTerminal, Terminal};
 use std::alloc::Global;
 use std::marker::Model;
@@ -94,13 +94,13 @@ pub(crate) fn followed_in(
 }
 
 impl Undo {
-    /// Makes a log without a segment, a commit or a link, on a ring of `extents` extents;
-    /// `NoMemory` where memory was refused.
-    pub fn new(alloc: Global, extents: ExtentCount) -> Result<Undo, NoMemory>
-        ensures log { IfOk result (λ u. u.log ≡ no_segments extents) }
+    /// Makes a log without a segment, a commit or a link, on a ring of `extents` extents, for
+    /// records of a layout; `NoMemory` where memory was refused.
+    pub fn new(alloc: Global, extents: ExtentCount, layout: Layout) -> Result<Undo, NoMemory>
+        ensures log { IfOk result (λ u. u.log ≡ no_segments extents layout) }
         ensures links { IfOk result (λ u. u.links ≡ no_links) }
     {
-        let segments = Log::new(alloc, extents)?;
+        let segments = Log::new(alloc, extents, layout)?;
         let Ok(moments) = idle_moments(alloc) else {
             drop(segments);
             return Err(NoMemory);

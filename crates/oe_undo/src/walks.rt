@@ -1,10 +1,9 @@
 //! Walks along a key's records, the newest first. A record is read at its address in its holder's
-//! segment, and tells where the next one lies. No row is read, and nothing takes memory.
-ghost use Rattle.std.specs.Prelude.{◌≡◌, ◌-◌, ◌≤◌};
+//! segment, and tells where the next one lies. No table is read, and nothing takes memory.
+ghost use Rattle.std.specs.Prelude.{◌≡◌, ◌≤◌};
 ghost use Rattle.oe_log.specs.Records.{HasAddress, IsRecordAt};
-ghost use Rattle.oe_log.specs.Log.{total_count};
 ghost use Rattle.oe_undo.specs.Held.{held, of_key, horizon, is_later, count_later};
-ghost use Rattle.oe_undo.specs.Oldest.{oldest_after};
+ghost use Rattle.oe_undo.specs.Restored.{later_of, has_later, restored};
 ghost use Rattle.oe_undo.specs.Walks.{records_by};
 ghost use Rattle.oe_log.specs.Ticks.{ticked};
 
@@ -12,7 +11,7 @@ use crate::holders::{Holder, Link};
 use crate::undo::Undo;
 use oe_layout::{Previous, StoredRecord};
 use oe_log::Ticks;
-use oe_rows::Key;
+use oe_rows::{Key, Row};
 use oe_values::Moment;
 
 /// Tells whether a record of this holder is put back on the way to the moment: it is open, or of a
@@ -46,35 +45,48 @@ impl Undo {
         }
     }
 
-    /// Answers the record that has the row which a key had at a moment that is kept: the oldest of
-    /// the key's records that are open or of a later commit; none where the row of that moment
-    /// still stands. It reads these records from the key's link on, ticks once for each, and reads
-    /// no other.
-    pub fn oldest_after(
+    /// Tells whether a key has a record that is open or of a later commit than a moment that is
+    /// kept. It looks at the key's link alone, and reads no record.
+    pub fn has_later(&self, key: &Key, moment: Moment) -> bool
+        requires { horizon self.now.log ≤ moment }
+        ensures { result ≡ has_later moment (of_key key.now (held self.now.log)) }
+    {
+        self.is_chained();
+        match self.link(key) {
+            Some(link) => is_later(&link.holder, moment),
+            None => false,
+        }
+    }
+
+    /// Gives the row that a key had at a moment that is kept, by the row `now` that stands: what
+    /// the key's records that are open or of a later commit leave of it, each put back, the newest
+    /// first. It reads these records from the key's link on, ticks once for each, and reads no
+    /// other.
+    pub fn row_at(
         &self,
         key: &Key,
         moment: Moment,
+        now: Option<Row>,
         ticks: &mut Ticks,
-    ) -> Option<StoredRecord<'_>>
-        requires kept { horizon self.now.log ≤ moment }
-        requires made { moment ≤ total_count self.now.log }
-        ensures oldest { result
-            ≡ oldest_after key.now self.now.log (total_count self.now.log - moment) }
+    ) -> Option<Row>
+        requires { horizon self.now.log ≤ moment }
+        ensures row { result
+            ≡ restored (later_of moment (of_key key.now (held self.now.log))) now }
         ensures ticks { ticks.new
             ≡ ticked ticks.old (count_later moment (of_key key.now (held self.now.log))) }
     {
         self.is_chained();
         let _known = ticks.records();
         let mut link = self.link(key);
-        let mut oldest = None;
+        let mut row = now;
         while let Some(newer) = link {
             if !is_later(&newer.holder, moment) {
-                return oldest;
+                return row;
             }
             let (previous, record) = self.read_record(&newer, ticks);
-            oldest = Some(record);
+            row = record.read().restore(row);
             link = newer.holder.link_from(previous);
         }
-        oldest
+        row
     }
 }

@@ -1,99 +1,168 @@
--- The oldest record of a key that is put back has the key's row of the moment, and that moment's commits are kept.
+-- The row of a moment is what the key's later records leave of the row that stands, and that moment's commits are kept.
 use Rattle.std.proofs.Common.{◌≡◌, ℕ, suc, zero, ◌+◌, ◌-◌, ◌<◌, ◌≤◌, Bool, true, false, cond, Option, None, Some, List}
-use Rattle.std.proofs.Common.{[], ◌∷◌, take, length, refl, sym, ap, ◌∙◌, subst, arith}
-use Rattle.std.proofs.lemmas.List.{length-map}
+use Rattle.std.proofs.Common.{[], ◌∷◌, ◌++◌, take, map, length, refl, sym, ap, ◌∙◌, arith}
+use Rattle.std.proofs.lemmas.Bool.{ltb-true, ltb-false}
+use Rattle.std.proofs.lemmas.List.{length-map, append_assoc}
 use Rattle.std.proofs.lemmas.List.Sums.{sum_by-cons}
-use Rattle.std.specs.Prelude.{◌≢◌, get_or, is_some, ◌==◌}
+use Rattle.std.specs.Prelude.{◌≢◌, get_or, is_some, nat_lt, ◌==◌}
 use Rattle.std.specs.List.{sum_by}
 use Rattle.oe_rows.specs.declared.keys.Key.{Key}
 use Rattle.oe_rows.specs.declared.rows.Row.{Row}
 use Rattle.oe_theory.specs.World.{set}
-use Rattle.oe_theory.specs.Undo.{restored, restored_open, restored_commits, unwind, unwind_open, unwind_commits}
+use Rattle.oe_theory.specs.Undo as theory
+use Rattle.oe_theory.specs.Undo.{unwind, unwind_open, unwind_commits}
 use Rattle.oe_theory.specs.Store.{all_below, newest_version, version_of}
 use Rattle.oe_theory.proofs.Sets.{set_other}
 use Rattle.oe_theory.proofs.Records.{at_restored_open, at_restored_commits}
 use Rattle.oe_model.specs.Rows.{Rows, is_key, row_at}
-use Rattle.oe_model.specs.Changes.{Record, record_key, row_before}
+use Rattle.oe_model.specs.Changes.{Record, record_key, restore}
 use Rattle.oe_model.specs.System.{system, terminal_limit}
 use Rattle.oe_model.proofs.SystemLaws.{laws}
+use Rattle.oe_store.specs.Places.{rows}
+use Rattle.oe_store.specs.Places as tables
+use Rattle.oe_log.specs.Records.{Logged}
 use Rattle.oe_log.specs.Stands.{undo_of, seals_of, seal_of, model_records}
-use Rattle.oe_log.specs.Log.{Open, TerminalState, SegmentLog, idle, open_total, records_in, total_count}
+use Rattle.oe_log.specs.Log.{Open, TerminalState, SegmentLog, Committed as CommitSegment, idle, open_total, records_in}
+use Rattle.oe_log.specs.Log.{records_at, total_count}
 use Rattle.oe_log.proofs.StandsFacts.{totals}
-use Rattle.oe_undo.specs.Held.{horizon}
-use Rattle.oe_undo.specs.Oldest.{oldest_in, oldest_open, oldest_of_commits, oldest_after}
+use Rattle.oe_undo.specs.declared.holders.Holder.{Holder}
+use Rattle.oe_undo.specs.declared.holders.Holder.TheVariants as holder
+use Rattle.oe_undo.specs.Held.{Held, held_by, held_open, held_commits, held, of_key, horizon, is_later}
+use Rattle.oe_undo.specs.Restored.{later_of, has_later, restored}
+use Rattle.oe_undo.specs.Laws.{IsWhole}
+use Rattle.oe_undo.proofs.ChainWalkFacts.{of_key-append, none_later, has_none}
 use Rattle.oe_log.specs.Moments.{newest, IsKeptMoment}
-use Rattle.oe_versions.specs.Versions.{without_slots, IsVersion}
-use Rattle.oe_versions.specs.Found.{row_found, HasRow}
+use Rattle.oe_versions.specs.Versions.{version, without_slots, IsVersion}
 
--- putting back the records of a key, one after another, leaves the row of the last
-restored_found : (k : Key) (bs : List Record) (o : Option Record) (v : Option Row)
-    → restored system k bs (row_found o v) ≡ row_found (oldest_in k bs o) v
-restored_found k [] o v = refl
-restored_found k (b ∷ bs) o v =
-    ap (restored system k bs) (step (is_key k (record_key b))) ∙ restored_found k bs
-    (cond (is_key k (record_key b)) (Some b) o) v
-  where
-    step : (c : Bool) → cond c (row_before b) (row_found o v) ≡ row_found (cond c (Some b) o) v
-    step true = refl
-    step false = refl
+abbrev history : List CommitSegment → List (List Record)
+history cs = map (λ c. model_records c.records) cs
+
+-- the records of one terminal's open transaction after another's
+abbrev opens_restored : Key → (ℕ → List Record) → List ℕ → Option Row → Option Row
+opens_restored k f [] v = v
+opens_restored k f (t ∷ ts) v = opens_restored k f ts (theory.restored system k (f t) v)
+
+module _ (k : Key) (m : ℕ) where
+  -- what a later holder has is put back
+  held_restored : (h : Holder) (rs : List Logged) (rest : List Held) (v : Option Row) → is_later m h ≡ true
+      → restored (later_of m (of_key k (held_by h rs) ++ rest)) v
+      ≡ restored (later_of m rest) (theory.restored system k (model_records rs) v)
+  held_restored h [] rest v e = refl
+  held_restored h (r ∷ rs) rest v e = go (is_key k (record_key r.before)) (λ x. held_restored h rs rest x e)
+    where
+      go : (c : Bool)
+          → ((x : Option Row) → restored (later_of m (of_key k (held_by h rs) ++ rest)) x
+          ≡ restored (later_of m rest) (theory.restored system k (model_records rs) x))
+          → restored (later_of m (cond c (record { logged = r; holder = h } ∷ of_key k (held_by h rs))
+          (of_key k (held_by h rs)) ++ rest)) v
+          ≡ restored (later_of m rest) (theory.restored system k (model_records rs) (cond c (restore r.before v) v))
+      go true i = rw e (i (restore r.before v))
+      go false i = i v
+
+  commits_restored : (n : ℕ) (cs : List CommitSegment) (v : Option Row) → length cs ≤ n
+      → restored (later_of m (of_key k (held_commits n cs))) v
+      ≡ theory.restored_commits system k (take (n - m) (history cs)) v
+  commits_restored n [] v h = at (n - m)
+    where
+      at : (j : ℕ) → v ≡ theory.restored_commits system k (take {A = List Record} j []) v
+      at zero = refl
+      at (suc j) = refl
+  commits_restored n (c ∷ cs) v h =
+      go (nat_lt m n) refl (λ x. commits_restored (n - 1) cs x (omega (arith, h)))
+    where
+      rest : List Held
+      rest = of_key k (held_commits (n - 1) cs)
+
+      go : (b : Bool) → nat_lt m n ≡ b
+          → ((x : Option Row) → restored (later_of m (of_key k (held_commits (n - 1) cs))) x
+          ≡ theory.restored_commits system k (take (n - 1 - m) (history cs)) x)
+          → restored (later_of m (of_key k (held_commits n (c ∷ cs)))) v
+          ≡ theory.restored_commits system k (take (n - m) (history (c ∷ cs))) v
+      go true e i =
+          let lt = ltb-true m n e in
+          let one : n - m ≡ suc (n - 1 - m) = omega (arith, lt) in
+          ap (λ xs. restored (later_of m xs) v)
+          (of_key-append k (held_by (holder.At n) c.records) (held_commits (n - 1) cs))
+          ∙ held_restored (holder.At n) c.records (of_key k (held_commits (n - 1) cs)) v e
+          ∙ i (theory.restored system k (model_records c.records) v)
+          ∙ ap (λ j. theory.restored_commits system k (take j (history (c ∷ cs))) v) (sym one)
+      go false e i =
+          let le = ltb-false m n e in
+          let none : n - m ≡ 0 = omega (arith, le) in
+          ap (λ bs. restored bs v) (none_later m k n (c ∷ cs) le)
+          ∙ ap (λ j. theory.restored_commits system k (take j (history (c ∷ cs))) v) (sym none)
+
+  open_restored : (f : ℕ → List Logged) (ts : List ℕ) (rest : List Held) (v : Option Row)
+      → restored (later_of m (of_key k (held_open f ts ++ rest))) v
+      ≡ restored (later_of m (of_key k rest)) (opens_restored k (λ t. model_records (f t)) ts v)
+  open_restored f [] rest v = refl
+  open_restored f (t ∷ ts) rest v =
+      ap (λ xs. restored (later_of m (of_key k xs)) v)
+      (append_assoc (held_by (holder.Open t) (f t)) (held_open f ts) rest)
+      ∙ ap (λ xs. restored (later_of m xs) v)
+      (of_key-append k (held_by (holder.Open t) (f t)) (held_open f ts ++ rest))
+      ∙ held_restored (holder.Open t) (f t) (of_key k (held_open f ts ++ rest)) v refl
+      ∙ open_restored f ts rest (theory.restored system k (model_records (f t)) v)
 
 -- open transactions of terminals below n: those of others do not matter
 same_open : (n : ℕ) (f g : ℕ → List Record) (k : Key) (v : Option Row) → ((t : ℕ) → t < n → f t ≡ g t)
-    → restored_open system k f (all_below system n) v ≡ restored_open system k g (all_below system n) v
+    → theory.restored_open system k f (all_below system n) v ≡ theory.restored_open system k g (all_below system n) v
 same_open zero f g k v same = refl
 same_open (suc n) f g k v same =
-    same_open n (set n [] f) (set n [] g) k (restored system k (f n) v) (λ t below.
+    same_open n (set n [] f) (set n [] g) k (theory.restored system k (f n) v) (λ t below.
     let ne : t ≢ n = λ e. omega (arith, e, below) in
     let up : t < suc n = omega (arith, below) in
     set_other n [] f t ne ∙ same t up ∙ sym (set_other n [] g t ne))
-    ∙ ap (λ bs. restored_open system k (set n [] g) (all_below system n) (restored system k bs v))
+    ∙ ap (λ bs. theory.restored_open system k (set n [] g) (all_below system n) (theory.restored system k bs v))
     (same n (omega arith))
 
-open_found : (n : ℕ) (f : ℕ → List Record) (k : Key) (o : Option Record) (v : Option Row)
-    → restored_open system k f (all_below system n) (row_found o v) ≡ row_found (oldest_open k f (all_below system n) o)
-    v
-open_found zero f k o v = refl
-open_found (suc n) f k o v =
-    same_open n (set n [] f) f k (restored system k (f n) (row_found o v)) (λ t below.
+opens_are : (n : ℕ) (f : ℕ → List Record) (k : Key) (v : Option Row)
+    → theory.restored_open system k f (all_below system n) v ≡ opens_restored k f (all_below system n) v
+opens_are zero f k v = refl
+opens_are (suc n) f k v =
+    same_open n (set n [] f) f k (theory.restored system k (f n) v) (λ t below.
     let ne : t ≢ n = λ e. omega (arith, e, below) in
     set_other n [] f t ne)
-    ∙ ap (restored_open system k f (all_below system n)) (restored_found k (f n) o v)
-    ∙ open_found n f k (oldest_in k (f n) o) v
+    ∙ opens_are n f k (theory.restored system k (f n) v)
 
-commits_found : (k : Key) (ss : List (List Record)) (o : Option Record) (v : Option Row)
-    → restored_commits system k ss (row_found o v) ≡ row_found (oldest_of_commits k ss o) v
-commits_found k [] o v = refl
-commits_found k (bs ∷ ss) o v = ap (restored_commits system k ss) (restored_found k bs o v)
-    ∙ commits_found k ss (oldest_in k bs o) v
-
-found_is : (u : SegmentLog) (count m : ℕ) (k : Key) → count + m ≡ newest u → HasRow u m k (oldest_after k u count)
-found_is u count m k e = λ r.
-    let after : newest u - m ≡ count = omega (arith, e) in
+row_is : (u : SegmentLog) (m : ℕ) (k : Key) (r : Rows) → length u.committed ≤ total_count u → newest u ≡ total_count u
+    → row_at (version_of system (without_slots r u) m) k ≡ restored (later_of m (of_key k (held u))) (row_at r k)
+row_is u m k r few all =
     let back : List (List Record) = take (newest u - m) (undo_of u).history in
+    let opens : Option Row = opens_restored k (undo_of u).active (all_below system terminal_limit) (row_at r k) in
     at_restored_commits system laws back (newest_version system (without_slots r u)) k
-    ∙ ap (restored_commits system k back)
+    ∙ ap (theory.restored_commits system k back)
     (at_restored_open system laws (undo_of u).active (all_below system terminal_limit) r k
-    ∙ open_found terminal_limit (undo_of u).active k None (row_at r k))
-    ∙ commits_found k back (oldest_open k (undo_of u).active (all_below system terminal_limit) None) (row_at r k)
-    ∙ ap (λ n. row_found (oldest_after k u n) (row_at r k)) after
+    ∙ opens_are terminal_limit (undo_of u).active k (row_at r k))
+    ∙ ap (λ n. theory.restored_commits system k (take (n - m) (undo_of u).history) opens) all
+    ∙ sym (commits_restored k m (total_count u) u.committed opens few)
+    ∙ sym (open_restored k m (records_at u) (all_below system terminal_limit)
+    (held_commits (total_count u) u.committed) (row_at r k))
 
 -- a moment that can be read is kept, as the log counts
-module _ (u : SegmentLog) (m : ℕ) (all : length u.terminals ≡ 65) (readable : IsKeptMoment u m) where
-  pub is_made : m ≤ total_count u
-  is_made =
-      let new : m ≤ newest u = readable.new in
-      omega (arith, new, totals u all)
+module _ (u : SegmentLog) (m : ℕ) (whole : IsWhole u) where
+  newest_is : newest u ≡ total_count u
+  unfolding terminal_limit
+  newest_is = totals u whole.terminals
 
-  pub is_kept : horizon u ≤ m
-  is_kept =
+  pub is_kept : IsKeptMoment u m → horizon u ≤ m
+  is_kept readable =
       let old : newest u - length (seals_of u) ≤ m = readable.old in
-      omega (arith, old, totals u all, length-map u.committed seal_of)
+      omega (arith, old, newest_is, length-map u.committed seal_of)
 
-  pub is_found : (k : Key) (o : Option Record) → o ≡ oldest_after k u (total_count u - m) → HasRow u m k o
-  is_found k o is =
-      let made : m ≤ total_count u = is_made in
-      let after : total_count u - m + m ≡ newest u = omega (arith, made, totals u all) in
-      subst (HasRow u m k) (sym is) (found_is u (total_count u - m) m k after)
+  -- what a walk along the key's records leaves of the row that stands
+  pub row_found : (ts : tables.Places) (k : Key) (now v : Option Row)
+      → v ≡ restored (later_of m (of_key k (held u))) now → now ≡ row_at (rows ts) k → v ≡ row_at (version ts u m) k
+  row_found ts k now v walked stands =
+      walked ∙ ap (λ x. restored (later_of m (of_key k (held u))) x) stands
+      ∙ sym (row_is u m k (rows ts) whole.commits newest_is)
+
+  -- a key without a later record has the row that stands
+  pub unchanged : (ts : tables.Places) (k : Key) → has_later m (of_key k (held u)) ≡ false
+      → row_at (version ts u m) k ≡ row_at (rows ts) k
+  unchanged ts k none =
+      row_is u m k (rows ts) whole.commits newest_is
+      ∙ ap (λ bs. restored bs (row_at (rows ts) k)) (has_none m (of_key k (held u)) none)
 
 -- WHERE NOTHING IS PUT BACK
 
@@ -138,8 +207,7 @@ rows_stand u m r last quiet =
     ∙ none_put_back (undo_of u).active (λ t. ap (λ o. model_records (records_in o)) (shut u.terminals quiet t))
     (all_below system terminal_limit) r
 
--- so no key has a record that is put back
-pub none_found : (u : SegmentLog) (m : ℕ) (settled : Bool) (k : Key) (o : Option Record) → IsVersion u m settled
-    → settled ≡ true → o ≡ None → HasRow u m k o
-none_found u m settled k o v is none =
-    subst (HasRow u m k) (sym none) (λ r. ap (λ z. row_at z k) (rows_stand u m r (v.commits is) (v.quiet is)))
+-- so each row stands
+pub all_stand : (ts : tables.Places) (u : SegmentLog) (m : ℕ) (settled : Bool) (k : Key) → IsVersion u m settled
+    → settled ≡ true → row_at (version ts u m) k ≡ row_at (rows ts) k
+all_stand ts u m settled k v is = ap (λ z. row_at z k) (rows_stand u m (rows ts) (v.commits is) (v.quiet is))

@@ -23,7 +23,8 @@ use Rattle.oe_theory.proofs.StoreClosing.{each_goes_back_here, store_is_orderly}
 use Rattle.oe_model.specs.Rows.{Rows, is_key, row_at}
 use Rattle.oe_model.specs.Changes.{Change, InsertHistory, InsertNewOrder, InsertOrder, InsertOrderLine, UpdateWarehouse}
 use Rattle.oe_model.specs.Changes.{UpdateDistrict, UpdateCustomer, UpdateOrder, UpdateOrderLine, UpdateStock}
-use Rattle.oe_model.specs.Changes.{DeleteNewOrder, key_of, row_of, Record, record_key, row_before, put_back}
+use Rattle.oe_model.specs.Changes.{DeleteNewOrder, key_of, row_of, Record, record_key, restore, put_back}
+use Rattle.oe_rows.specs.declared.layouts.Layout.{Layout}
 use Rattle.oe_model.specs.Locks.{first_if_named}
 use Rattle.oe_model.specs.Meets.{Meets, Accepts}
 use Rattle.oe_model.specs.System.{system, terminal_limit}
@@ -31,7 +32,7 @@ use Rattle.oe_model.proofs.ChangeFacts.{accepted_meets}
 use Rattle.oe_theory.proofs.Sets.{some_inj}
 use Rattle.oe_model.proofs.NamesFacts.{same_namesakes}
 use Rattle.oe_model.proofs.PresenceFacts.{some-map}
-use Rattle.oe_model.proofs.RowFacts.{key_true, at_put_back, record_key_of, before}
+use Rattle.oe_model.proofs.RowFacts.{key_true, at_put_back, in_layout_key}
 use Rattle.oe_model.proofs.SystemLaws.{laws}
 use Rattle.oe_versions.specs.Lasting.{names_of, Lasts, Rows_last, Names_last, Versions_meet}
 
@@ -86,40 +87,36 @@ by_change (UpdateStock k x) on a = some-map row.Stock (get on.stocks k) ∙ a
 by_change (DeleteNewOrder k) on a = tt
 
 -- and so does the record of one, where it goes back
-by_record : (b : Record) (r : Rows) → Finds system b r → (k : Key) → Lasts k (row_at (put_back b r) k) (row_at r k)
-by_record b r f k = go (is_key k (record_key b)) refl
+by_record : (l : Layout) (b : Record) (r : Rows) → Finds system l b r → (k : Key)
+    → Lasts k (row_at (put_back b r) k) (row_at r k)
+by_record l b r f k = go (is_key k (record_key b)) refl
   where
     own : record_key b ≡ key_of f.change
-    own = ap record_key f.is_of ∙ record_key_of f.change (row_at f.on (key_of f.change))
+    own = ap record_key f.is_of ∙ in_layout_key l f.change (row_at f.on (key_of f.change))
 
-    there : row_before b ≡ row_at f.on (key_of f.change)
-    there = ap row_before f.is_of ∙ before f.change f.on
-
-    kept : Lasts (key_of f.change) (row_before b) (row_at r (key_of f.change))
+    kept : Lasts (key_of f.change) (row_at (put_back b r) (key_of f.change)) (row_at r (key_of f.change))
     kept =
-        subst (λ (v : Option Row). Lasts (key_of f.change) v (row_at r (key_of f.change))) (sym there)
+        subst (λ (v : Option Row). Lasts (key_of f.change) v (row_at r (key_of f.change))) (sym f.brought_back)
         (subst (λ (v : Option Row). Lasts (key_of f.change) (row_at f.on (key_of f.change)) v) (sym f.left)
         (by_change f.change f.on f.accepted))
 
     go : (c : Bool) → is_key k (record_key b) ≡ c → Lasts k (row_at (put_back b r) k) (row_at r k)
     go true e =
         let same : key_of f.change ≡ k = sym (key_true k (record_key b) e ∙ own) in
-        let found : row_before b ≡ row_at (put_back b r) k =
-        sym (at_put_back b r k ∙ ap (λ z. cond z (row_before b) (row_at r k)) e) in
-        subst (λ (v : Option Row). Lasts k v (row_at r k)) found
-        (subst (λ (q : Key). Lasts q (row_before b) (row_at r q)) same kept)
+        subst (λ (q : Key). Lasts q (row_at (put_back b r) q) (row_at r q)) same kept
     go false e =
         let found : row_at r k ≡ row_at (put_back b r) k =
-        sym (at_put_back b r k ∙ ap (λ z. cond z (row_before b) (row_at r k)) e) in
+        sym (at_put_back b r k ∙ ap (λ z. cond z (restore b (row_at r k)) (row_at r k)) e) in
         subst (λ (v : Option Row). Lasts k v (row_at r k)) found (itself k (row_at r k))
 
 -- and so do the first of the records that go back one after another
-by_records : (P : Rows → Type 0) (xs ys : List Record) (r : Rows) → GoesBack system P (xs ++ ys) r → (k : Key)
+by_records : (l : Layout) (P : Rows → Type 0) (xs ys : List Record) (r : Rows)
+    → GoesBack system l P (xs ++ ys) r → (k : Key)
     → Lasts k (row_at (unwind system xs r) k) (row_at r k)
-by_records P [] ys r g k = itself k (row_at r k)
-by_records P (b ∷ xs) ys r g k =
+by_records l P [] ys r g k = itself k (row_at r k)
+by_records l P (b ∷ xs) ys r g k =
     join k (row_at (unwind system xs (put_back b r)) k) (row_at (put_back b r) k) (row_at r k)
-    (by_records P xs ys (put_back b r) g.2 k) (by_record b r g.1 k)
+    (by_records l P xs ys (put_back b r) g.2 k) (by_record l b r g.1 k)
 
 unwind-append : (xs ys : List Record) (r : Rows) → unwind system (xs ++ ys) r ≡ unwind system ys (unwind system xs r)
 unwind-append [] ys r = refl
@@ -156,9 +153,9 @@ rows_last s m k h =
     ap (commit_records system) (sym (take-append-drop (commits_after system s m) s.undo.history))
     ∙ commits-append later before_them
     in
-    let goes : GoesBack system Meets ((opens ++ commit_records system later) ++ commit_records system before_them)
-    s.tables =
-    subst (λ (bs : List Record). GoesBack system Meets bs s.tables)
+    let goes : GoesBack system s.layout Meets
+    ((opens ++ commit_records system later) ++ commit_records system before_them) s.tables =
+    subst (λ (bs : List Record). GoesBack system s.layout Meets bs s.tables)
     (ap (λ z. opens ++ z) all
     ∙ sym (append_assoc opens (commit_records system later) (commit_records system before_them)))
     (each_goes_back_here system laws Meets (record { between = λ f r g. g.meets; kept = accepted_meets }) s
@@ -168,7 +165,8 @@ rows_last s m k h =
     (unwind-append opens (commit_records system later) s.tables ∙ unwind_commit_records later
     (unwind system opens s.tables) ∙ ap (unwind_commits system later)
     (unwind_open_records s.undo.active (all_below system terminal_limit) s.tables))
-    (by_records Meets (opens ++ commit_records system later) (commit_records system before_them) s.tables goes k)
+    (by_records s.layout Meets (opens ++ commit_records system later) (commit_records system before_them) s.tables goes
+    k)
 
 by_names : (a b : Option Customer) → names_of (option_map row.Customer a) ≡ names_of (option_map row.Customer b)
     → (is_some a ≡ is_some b) × ((last : List ℕ) → first_if_named last a ≡ first_if_named last b)

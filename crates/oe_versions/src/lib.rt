@@ -8,7 +8,7 @@ pub mod laws;
 pub mod lines;
 pub mod moments;
 pub mod names;
-mod records;
 pub mod rows;
+mod standing;
 
 pub use moments::Version;

@@ -18,8 +18,8 @@ use std::marker::Model;
 ///
 /// It borrows the tables as they stand and the undo log. Neither its making nor a read takes
 /// memory: from the key's newest record on a read goes along the key's own records that are open or
-/// of commits after the moment, and reads the row of one of them. Where nothing is open and no
-/// commit is later, it reads the row that stands.
+/// of commits after the moment, and puts each back on a copy of the row that stands. Where the key
+/// has no such record, it reads the row that stands.
 #[derive(Drop)]
 pub struct Version<'a> {
     tables: &'a Tables,

@@ -1,5 +1,5 @@
 //! Whole lines, with the byte that ends them.
-ghost use Rattle.std.specs.Prelude.{◌≡◌, ◌≤◌, ◌+◌, ◌++◌};
+ghost use Rattle.std.specs.Prelude.{◌≡◌, ◌≤◌, ◌+◌, ◌++◌, None};
 ghost use Rattle.arrayvec.specs.ArrayVec.{array_vec_len};
 ghost use Rattle.oe_lines.specs.Grammar.{IsRequest};
 ghost use Rattle.oe_lines.specs.declared.commands.Command.TheVariants as asks;
@@ -25,10 +25,12 @@ fn scale_words(out: &mut Pending, scale: &Scale)
     small(out, scale.items.get());
 }
 
-/// Appends the line that opens a population of a scale, with a number of extents.
+/// Appends the line that opens a population of a scale with a number of extents. It says no
+/// layout.
 pub fn open_line(out: &mut Pending, scale: &Scale, extents: ExtentCount)
     requires { array_vec_len out.old + 49 ≤ SIZE }
-    ensures items { out.new.items ≡ out.old.items ++ line_text (asks.Open scale.now extents) }
+    ensures items { out.new.items ≡ out.old.items ++ line_text
+        (asks.Open scale.now (record { extents = extents; layout = None })) }
     ensures len { array_vec_len out.new ≤ array_vec_len out.old + 49 }
 {
     text(out, b"open ");

@@ -1,10 +1,11 @@
-//! The records of writes, their rows lent from where they lie.
+//! The records of writes that have whole rows, lent from where they lie.
 ghost use Rattle.std.specs.Prelude.{◌≡◌, Some, None, option_map, IfOk, IfErr, OnErr};
 ghost use Rattle.std.specs.FinMap.{get};
 ghost use Rattle.oe_model.specs.Changes.{UpdatedWarehouse, UpdatedDistrict, UpdatedCustomer, UpdatedOrder, UpdatedOrderLine, UpdatedStock};
 ghost use Rattle.oe_layout.specs.Records.{record_of_lent};
 ghost use Rattle.oe_change.specs.Writes.{key_written, written};
 ghost use Rattle.oe_store.specs.Places.{rows};
+ghost use Rattle.oe_rows.specs.declared.layouts.Layout.TheVariants.{WholeRows};
 ghost use Rattle.oe_engine.specs.Records.{record_of_write};
 
 use oe_change::Write;
@@ -20,7 +21,8 @@ use oe_store::Tables;
 #[inline(always)]
 pub(crate) fn lend<'a>(tables: &'a Tables, write: &Write) -> Result<LentRecord<'a>, Refusal>
     ensures lent { IfOk result
-        (λ b. record_of_write write.now (rows tables.now) ≡ Some (record_of_lent b)) }
+        (λ b. record_of_write WholeRows write.now (rows tables.now)
+        ≡ Some (record_of_lent b)) }
     ensures absent { OnErr result (written write.now (rows tables.now) ≡ None) }
     ensures cause { IfErr result (λ e. e ≡ Refusal.NoSuchRow (key_written write.now)) }
 {
@@ -33,7 +35,8 @@ pub(crate) fn lend<'a>(tables: &'a Tables, write: &Write) -> Result<LentRecord<'
 /// Gives the record of a write; none exactly where the row to be updated is absent.
 #[inline(always)]
 fn found<'a>(tables: &'a Tables, write: &Write) -> Option<LentRecord<'a>>
-    ensures { option_map record_of_lent result ≡ record_of_write write.now (rows tables.now) }
+    ensures { option_map record_of_lent result
+        ≡ record_of_write WholeRows write.now (rows tables.now) }
 {
     match write {
         Write::WarehouseYtd(key, _) => warehouse(tables, key),

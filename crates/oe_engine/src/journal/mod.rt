@@ -1,6 +1,7 @@
 //! The nine tables and their undo log on the ring as one: a write with its record, records put
 //! back, a purge and a rewind. The record goes first, so that no row is changed without one, and
 //! each row is changed where it lies. Nothing takes memory but an insert at a key without a place.
+mod columns;
 mod inserts;
 pub mod laws;
 mod lending;

@@ -1,13 +1,16 @@
 //! What a transaction writes to one row, with its record.
-ghost use Rattle.std.specs.Prelude.{◌≡◌, IsSome, IfErr, OnOk, OnErr};
+ghost use Rattle.std.specs.Prelude.{◌≡◌, Some, IsSome, IfErr, OnOk, OnErr};
 ghost use Rattle.oe_change.specs.Writes.{key_written, written};
 ghost use Rattle.oe_store.specs.Places.{rows};
 ghost use Rattle.oe_log.specs.Log.{active_at};
 ghost use Rattle.oe_undo.specs.Chains.{IsAlone};
 ghost use Rattle.oe_undo.specs.Links.{GivesAtMost};
 ghost use Rattle.oe_engine.specs.Linked.{AreLinked, SameLinks, StayLinked};
+ghost use Rattle.oe_layout.specs.Records.{record_of_lent};
+ghost use Rattle.oe_engine.specs.Records.{record_of_write};
 ghost use Rattle.oe_engine.specs.Recorded.{HasRoomFor, HasWritten, HasRecorded, CantWrite};
 
+use crate::journal::columns::columns_before;
 use crate::journal::lending::lend;
 use crate::journal::settings::set;
 use crate::journal::unplaced::unplaced;
@@ -15,6 +18,7 @@ use oe_change::Write;
 use oe_layout::{LinkedRecord, Previous};
 use oe_log::Segment;
 use oe_requests::Refusal;
+use oe_rows::Layout;
 use oe_store::Tables;
 use oe_undo::{CantPush, Undo};
 
@@ -78,9 +82,9 @@ fn give_up_unplaced(tables: &Tables, undo: &mut Undo, write: &Write)
     }
 }
 
-/// Appends the record of a write to rows as they stand to an open segment, with its key's link;
-/// refused as `write`, where the row to be updated is absent, the record has no room, or memory was
-/// refused for the place of its key's link. Nothing has changed then.
+/// Appends the record of a write to rows as they stand to an open segment, in the log's layout,
+/// with its key's link; refused as `write`, where the row to be updated is absent, the record has
+/// no room, or memory was refused for the place of its key's link. Nothing has changed then.
 #[inline(always)]
 fn push(tables: &Tables, undo: &mut Undo, segment: Segment, write: &Write) -> Result<(), Refusal>
     requires open { IsSome (active_at undo.old.log segment) }
@@ -92,15 +96,94 @@ fn push(tables: &Tables, undo: &mut Undo, segment: Segment, write: &Write) -> Re
     ensures cause { IfErr result (CantWrite write.now tables.now undo.old.log segment) }
     ensures err { OnErr result (undo.new ≡ undo.old) }
 {
-    let before = match lend(tables, write) {
-        Ok(before) => before,
-        Err(refusal) => return Err(refusal),
-    };
-    let mut lent = LinkedRecord {
-        previous: Previous::Nothing,
-        record: before,
-    };
-    match undo.push(segment, &mut lent) {
+    match undo.segments().layout() {
+        Layout::WholeRows => push_row(tables, undo, segment, write),
+        Layout::ChangedColumns => push_columns(tables, undo, segment, write),
+    }
+}
+
+/// Appends the record as `push`, where records have whole rows: its row is lent from where it lies.
+#[inline(always)]
+fn push_row(
+    tables: &Tables,
+    undo: &mut Undo,
+    segment: Segment,
+    write: &Write,
+) -> Result<(), Refusal>
+    requires layout { undo.old.log.layout ≡ Layout.WholeRows }
+    requires open { IsSome (active_at undo.old.log segment) }
+    requires alone { IsAlone undo.old.log segment (key_written write.now) }
+    requires linked { AreLinked tables.now undo.old.links }
+    ensures pushed { OnOk result
+        (HasWritten write.now (rows tables.now) undo.old undo.new segment) }
+    ensures room { OnOk result (HasRoomFor write.now (rows tables.now) undo.old.log segment) }
+    ensures cause { IfErr result (CantWrite write.now tables.now undo.old.log segment) }
+    ensures err { OnErr result (undo.new ≡ undo.old) }
+{
+    match lend(tables, write) {
+        Ok(before) => {
+            let mut lent = LinkedRecord {
+                previous: Previous::Nothing,
+                record: before,
+            };
+            push_lent(tables, undo, segment, write, &mut lent)
+        }
+        Err(refusal) => Err(refusal),
+    }
+}
+
+/// Appends the record as `push`, where records have the columns that an update changes.
+#[inline(never)]
+fn push_columns(
+    tables: &Tables,
+    undo: &mut Undo,
+    segment: Segment,
+    write: &Write,
+) -> Result<(), Refusal>
+    requires layout { undo.old.log.layout ≡ Layout.ChangedColumns }
+    requires open { IsSome (active_at undo.old.log segment) }
+    requires alone { IsAlone undo.old.log segment (key_written write.now) }
+    requires linked { AreLinked tables.now undo.old.links }
+    ensures pushed { OnOk result
+        (HasWritten write.now (rows tables.now) undo.old undo.new segment) }
+    ensures room { OnOk result (HasRoomFor write.now (rows tables.now) undo.old.log segment) }
+    ensures cause { IfErr result (CantWrite write.now tables.now undo.old.log segment) }
+    ensures err { OnErr result (undo.new ≡ undo.old) }
+{
+    match columns_before(tables, write) {
+        Some(before) => {
+            let mut lent = LinkedRecord {
+                previous: Previous::Nothing,
+                record: before.lend(),
+            };
+            push_lent(tables, undo, segment, write, &mut lent)
+        }
+        None => Err(Refusal::NoSuchRow(write.key())),
+    }
+}
+
+/// Appends the record of a write, which is lent, to an open segment, with its key's link; refused as
+/// `push`.
+#[inline(always)]
+fn push_lent(
+    tables: &Tables,
+    undo: &mut Undo,
+    segment: Segment,
+    write: &Write,
+    lent: &mut LinkedRecord<'_>,
+) -> Result<(), Refusal>
+    requires own { record_of_write undo.old.log.layout write.now (rows tables.now)
+        ≡ Some (record_of_lent lent.old.record) }
+    requires open { IsSome (active_at undo.old.log segment) }
+    requires alone { IsAlone undo.old.log segment (key_written write.now) }
+    requires linked { AreLinked tables.now undo.old.links }
+    ensures pushed { OnOk result
+        (HasWritten write.now (rows tables.now) undo.old undo.new segment) }
+    ensures room { OnOk result (HasRoomFor write.now (rows tables.now) undo.old.log segment) }
+    ensures cause { IfErr result (CantWrite write.now tables.now undo.old.log segment) }
+    ensures err { OnErr result (undo.new ≡ undo.old) }
+{
+    match undo.push(segment, lent) {
         Ok(()) => Ok(()),
         Err(CantPush::Full) => Err(Refusal::UndoFull),
         Err(CantPush::NoMemory) => Err(unplaced(tables, write)),

@@ -7,9 +7,9 @@ use Rattle.oe_script.proofs.outcome.first.Goals as goal
 pub returns-in-None : goal.returns-in-None
 returns-in-None c = λ line short says. (
   codes "opened\n",
-  opened_line c.in-Open.scale c.in-Open.extents (world_of c.in-Ok.made) c.args.asked.now
+  opened_line c.in-Open.scale c.in-Open.ring (world_of c.in-Ok.made) c.args.asked.now
       (state_of c.replace-old.new.self)
       c.in-Ok.ensures c.in-Open.is (ap state_of c.replace-old.ensures.after) c.args.number line short says,
   c.opened.ensures.items,
-  opening_taken c.in-Open.scale c.in-Open.extents c.args.asked.now c.in-Open.is line short says,
+  opening_taken c.in-Open.scale c.in-Open.ring c.args.asked.now c.in-Open.is line short says,
 )

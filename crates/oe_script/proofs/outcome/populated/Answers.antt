@@ -1,4 +1,5 @@
 use Rattle.oe_store.specs.Places.{rows}
+use Rattle.oe_lines.specs.Rings.{layout_of}
 use Rattle.oe_model.proofs.PopulationFacts.{population_is_one}
 use Rattle.oe_core.specs.Core.{world_of}
 use Rattle.oe_script.proofs.OpenFacts.{on_population}
@@ -10,5 +11,6 @@ open-requires c =
 
 pub returns-in-Ok : goal.returns-in-Ok
 returns-in-Ok c =
-    on_population world_of c.args.scale (rows c.in-Ok.tables) c.args.extents c.in-Ok.ensures c.open.result
+    on_population world_of c.args.scale (rows c.in-Ok.tables) c.args.ring.extents
+    c.layout_or_whole_rows.result (layout_of c.args.ring) c.layout_or_whole_rows.ensures c.in-Ok.ensures c.open.result
     c.open.ensures

@@ -16,12 +16,12 @@ invariant_of-result c =
     let first = rw c.in-Ok.is at c.beside.ensures.log in
     record {
       kept = subst (λ u. IsKept c.sweep.new.self u c.in-Ok.locks) (sym first)
-          (first_kept c.sweep.new.self c.args.extents c.in-Ok.locks
+          (first_kept c.sweep.new.self c.args.extents c.args.layout c.in-Ok.locks
           (λ k. subst (λ (r : Rows). HasPlace c.sweep.new.self k ↔ IsSome (row_at r k)) (sym c.sweep.ensures.rows)
           (c.sweep.ensures.places k)) quiet);
       safe = subst IsSafe (sym (ap (λ u. view_from c.sweep.new.self u c.in-Ok.locks) first
-          ∙ first_is c.sweep.new.self c.args.extents c.in-Ok.locks quiet))
-          (safe_first (rows c.sweep.new.self) c.args.extents c.schema_holds.ensures);
+          ∙ first_is c.sweep.new.self c.args.extents c.args.layout c.in-Ok.locks quiet))
+          (safe_first (rows c.sweep.new.self) c.args.extents c.args.layout c.schema_holds.ensures);
       linked = rw c.in-Ok.is at c.beside.ensures.linked;
     }
 
@@ -30,6 +30,6 @@ unfolding view_of
 returns-clause-view c =
     let quiet = rw c.in-Ok.is at c.beside.ensures.locks in
     let first = rw c.in-Ok.is at c.beside.ensures.log in
-    ap (λ u. view_from c.sweep.new.self u c.in-Ok.locks) first ∙ first_is c.sweep.new.self c.args.extents c.in-Ok.locks
-    quiet
-    ∙ ap (λ r. opened_view r c.args.extents) c.sweep.ensures.rows
+    ap (λ u. view_from c.sweep.new.self u c.in-Ok.locks) first
+    ∙ first_is c.sweep.new.self c.args.extents c.args.layout c.in-Ok.locks quiet
+    ∙ ap (λ r. opened_view r c.args.extents c.args.layout) c.sweep.ensures.rows

@@ -9,11 +9,11 @@ use Rattle.oe_layout.proofs.stored.StoredRecord.read.Goals as goal
 
 pub unwrap-requires : goal.unwrap-requires
 unwrap-requires c =
-    let r = read_is c.self.inside.bytes.now c.read_record.result c.self.invariant c.read_record.ensures in
+    let r = read_is c.self.inside.bytes.now c.whole_record.result c.self.invariant c.whole_record.ensures in
     rw r.1 refl
 
 pub returns : goal.returns
 returns c =
-    let r = read_is c.self.inside.bytes.now c.read_record.result c.self.invariant c.read_record.ensures in
+    let r = read_is c.self.inside.bytes.now c.whole_record.result c.self.invariant c.whole_record.ensures in
     let same = some_is c.unwrap.result r.0 (sym c.unwrap.ensures ∙ r.1) in
     rw (← c.self.view_is) (ap (λ (y : Previous × OwnRecord). record_of_own y.1) same ∙ r.2)

@@ -12,7 +12,7 @@ use Rattle.oe_log.proofs.log.Log.committed_records.Goals as goal
 
 pub committed_strings-strings-requires : goal.committed_strings-strings-requires
 committed_strings-strings-requires c =
-    commit_there c.self.invariant c.args.later
+    commit_there c.self.inside.layout c.self.invariant c.args.later
     (subst (λ (v : SegmentLog). c.args.later < length v.committed) (sym c.self.view_is) c.requires)
 
 pub invariant_of-result : goal.invariant_of-result
@@ -26,4 +26,4 @@ returns c =
     (ap (λ (l : List (List ℕ)). map told l) c.committed_strings-strings.ensures
     ∙ told_here c.self.inside.ring.committed c.args.later c.self.invariant.lie.committed_are
     ∙ ap (λ (rss : List (List Logged)). model_records (get_or rss c.args.later []))
-    (sym (seen_committed (inside c.self.invariant))))
+    (sym (seen_committed c.self.inside.layout (inside c.self.invariant))))

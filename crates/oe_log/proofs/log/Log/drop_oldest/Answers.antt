@@ -17,11 +17,11 @@ returns-clause-oldest c =
       | in-Some w ↦ w.result-is ∙ ap Some w.owner.ensures ∙ ap (option_map head_owner) (sym w.in-Some.is)
       | in-None w ↦ w.result-is ∙ ap (option_map head_owner) (sym w.in-None.is)
     ] in
-    rw (← c.self.view_is) (told ∙ oldest_found (inside c.self.invariant) c.pop_back.result found)
+    rw (← c.self.view_is) (told ∙ oldest_found c.self.inside.layout (inside c.self.invariant) c.pop_back.result found)
 
 pub invariant_of-self : goal.invariant_of-self
 invariant_of-self c =
-    (cut c.self.invariant (length c.self.inside.commits.items) c.drop_oldest.new.self.room
+    (cut c.self.inside.layout c.self.invariant (length c.self.inside.commits.items) c.drop_oldest.new.self.room
     (deque_capacity c.pop_back.new.self) c.pop_back.new.self.items c.drop_oldest.new.self
     refl (c.pop_back.ensures.rest ∙ ap (λ n. take (n - 1) c.self.inside.commits.items) c.self.inside.commits.ok.0)
     c.pop_back.ensures.capacity c.drop_oldest.ensures.left c.drop_oldest.ensures.room).kept
@@ -29,7 +29,7 @@ invariant_of-self c =
 pub returns-clause-dropped : goal.returns-clause-dropped
 returns-clause-dropped c =
     rw (← c.self.view_is)
-    ((cut c.self.invariant (length c.self.inside.commits.items) c.drop_oldest.new.self.room
+    ((cut c.self.inside.layout c.self.invariant (length c.self.inside.commits.items) c.drop_oldest.new.self.room
     (deque_capacity c.pop_back.new.self) c.pop_back.new.self.items c.drop_oldest.new.self
     refl (c.pop_back.ensures.rest ∙ ap (λ n. take (n - 1) c.self.inside.commits.items) c.self.inside.commits.ok.0)
     c.pop_back.ensures.capacity c.drop_oldest.ensures.left c.drop_oldest.ensures.room).view)

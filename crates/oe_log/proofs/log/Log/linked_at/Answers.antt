@@ -13,7 +13,7 @@ pub at-requires-clause-some : goal.at-requires-clause-some
 at-requires-clause-some c =
     let seen = subst (λ (v : SegmentLog). HasAddress (records_at v c.args.terminal) c.args.address) (sym c.self.view_is)
     c.requires in
-    let is = records_are (inside c.self.invariant) c.args.terminal ∙ ap
+    let is = records_are c.self.inside.layout (inside c.self.invariant) c.args.terminal ∙ ap
     (λ t. get_or (map records_in c.self.inside.ring.active) t []) (sym c.get-slot.ensures.value) in
     let has = subst (λ (rs : List Logged). HasAddress rs c.args.address) is seen in
     rw c.ring_address-place.ensures
@@ -23,7 +23,7 @@ pub linked_record-requires : goal.linked_record-requires
 linked_record-requires c =
     let seen = subst (λ (v : SegmentLog). HasAddress (records_at v c.args.terminal) c.args.address) (sym c.self.view_is)
     c.requires in
-    let is = records_are (inside c.self.invariant) c.args.terminal ∙ ap
+    let is = records_are c.self.inside.layout (inside c.self.invariant) c.args.terminal ∙ ap
     (λ t. get_or (map records_in c.self.inside.ring.active) t []) (sym c.get-slot.ensures.value) in
     let has = subst (λ (rs : List Logged). HasAddress rs c.args.address) is seen in
     let stands = subst (λ (a : Address). ring.IsStringAt (get_or c.self.inside.ring.active c.get-slot.result []) a
@@ -35,7 +35,7 @@ pub returns-clause-record : goal.returns-clause-record
 returns-clause-record c p b k =
     let seen = subst (λ (v : SegmentLog). IsAmong (logged c.args.address p b) (records_at v c.args.terminal))
     (sym c.self.view_is) k in
-    let is = records_are (inside c.self.invariant) c.args.terminal ∙ ap
+    let is = records_are c.self.inside.layout (inside c.self.invariant) c.args.terminal ∙ ap
     (λ t. get_or (map records_in c.self.inside.ring.active) t []) (sym c.get-slot.ensures.value) in
     let there = subst (λ (rs : List Logged). IsAmong (logged c.args.address p b) rs) is seen in
     let stands = subst (λ (a : Address). ring.IsStringAt (get_or c.self.inside.ring.active c.get-slot.result []) a

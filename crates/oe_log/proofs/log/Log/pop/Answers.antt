@@ -7,7 +7,8 @@ use Rattle.oe_log.proofs.log.Log.pop.Goals as goal
 
 pub pop-requires-clause-some : goal.pop-requires-clause-some
 pop-requires-clause-some c =
-    let len = len_lies c.self.invariant c.terminal-terminal.result c.at.result.now c.at.ensures.high c.at.ensures.value
+    let len = len_lies c.self.inside.layout c.self.invariant c.terminal-terminal.result c.at.result.now
+    c.at.ensures.high c.at.ensures.value
     ∙ ap (λ t. length (get_or c.self.inside.ring.active t [])) (sym c.get-slot.ensures.value) in
     omega (arith, len, c.if-len-gt0.true)
 
@@ -16,10 +17,13 @@ invariant_of-self c =
     let some = rw (← c.self.view_is) at c.requires in
     let less : c.at.result.now.len - 1 ≡ c.at_mut.result.now.len - 1 =
     ap (λ z. z.len - 1)
-    (is_head (inside c.self.invariant) c.terminal-terminal.result c.at.result.now c.at.ensures.high c.at.ensures.value
-    ∙ sym (is_head (inside c.self.invariant) c.terminal-terminal.result c.at_mut.result.now c.at.ensures.high
+    (is_head c.self.inside.layout (inside c.self.invariant) c.terminal-terminal.result c.at.result.now c.at.ensures.high
+    c.at.ensures.value
+    ∙ sym (is_head c.self.inside.layout (inside c.self.invariant) c.terminal-terminal.result c.at_mut.result.now
+    c.at.ensures.high
     c.at_mut.ensures.value)) in
-    (popped c.self.invariant c.terminal-terminal.result c.args.segment (c.at.result.now.len - 1) c.at_mut.result.now
+    (popped c.self.inside.layout c.self.invariant c.terminal-terminal.result c.args.segment (c.at.result.now.len - 1)
+    c.at_mut.result.now
     c.pop.new.self
     c.terminal-terminal.ensures c.at.ensures.low c.at.ensures.high c.at_mut.ensures.value some less
     (c.pop.ensures ∙ ap (ring.popped_at c.self.inside.ring) c.get-slot.ensures.value)).kept
@@ -29,11 +33,14 @@ returns-then-len-gt0 c =
     let some = rw (← c.self.view_is) at c.requires in
     let less : c.at.result.now.len - 1 ≡ c.at_mut.result.now.len - 1 =
     ap (λ z. z.len - 1)
-    (is_head (inside c.self.invariant) c.terminal-terminal.result c.at.result.now c.at.ensures.high c.at.ensures.value
-    ∙ sym (is_head (inside c.self.invariant) c.terminal-terminal.result c.at_mut.result.now c.at.ensures.high
+    (is_head c.self.inside.layout (inside c.self.invariant) c.terminal-terminal.result c.at.result.now c.at.ensures.high
+    c.at.ensures.value
+    ∙ sym (is_head c.self.inside.layout (inside c.self.invariant) c.terminal-terminal.result c.at_mut.result.now
+    c.at.ensures.high
     c.at_mut.ensures.value)) in
     rw (← c.self.view_is)
-    ((popped c.self.invariant c.terminal-terminal.result c.args.segment (c.at.result.now.len - 1) c.at_mut.result.now
+    ((popped c.self.inside.layout c.self.invariant c.terminal-terminal.result c.args.segment (c.at.result.now.len - 1)
+    c.at_mut.result.now
     c.pop.new.self
     c.terminal-terminal.ensures c.at.ensures.low c.at.ensures.high c.at_mut.ensures.value some less
     (c.pop.ensures ∙ ap (ring.popped_at c.self.inside.ring) c.get-slot.ensures.value)).view)
@@ -41,6 +48,7 @@ returns-then-len-gt0 c =
 pub returns-else-len-gt0 : goal.returns-else-len-gt0
 returns-else-len-gt0 c =
     rw (← c.self.view_is)
-    (not_popped c.self.invariant c.terminal-terminal.result c.args.segment c.at.result.now c.terminal-terminal.ensures
+    (not_popped c.self.inside.layout c.self.invariant c.terminal-terminal.result c.args.segment c.at.result.now
+    c.terminal-terminal.ensures
     c.at.ensures.high c.at.ensures.value
     (omega (arith, c.if-len-gt0.false)))

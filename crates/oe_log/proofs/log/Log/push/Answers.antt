@@ -14,13 +14,15 @@ returns-in_default-clause-full c =
     ∙ c.length-length.ensures.sum in
     let full = subst (ring.IsFull c.self.inside.ring c.get-slot.result) same (c.in_default.ensures.full.0 refl) in
     rw (← c.self.view_is, ← (c.get-slot.ensures.value ∙ c.terminal-terminal.ensures)) (
-      λ e. full_here c.self.invariant c.get-slot.result (record_length (record_of_lent c.args.lent.now.record)) full,
+      λ e. full_here c.self.inside.layout c.self.invariant c.get-slot.result
+          (record_length (record_of_lent c.args.lent.now.record)) full,
       λ f. refl,
     )
 
 pub overflow_add-state : goal.overflow_add-state
 overflow_add-state c =
-    let most = few c.self.invariant c.terminal-terminal.result c.at_mut-state.result.now c.in-Ok.address
+    let most = few c.self.inside.layout c.self.invariant c.terminal-terminal.result c.at_mut-state.result.now
+    c.in-Ok.address
     c.args.lent.now.previous c.args.lent.now.record c.push-pushed.new.self
     c.at_mut-state.ensures.high c.at_mut-state.ensures.value c.ranges-2.ensures.link c.ranges-2.ensures.record
     (c.in-Ok.ensures.pushed
@@ -32,7 +34,7 @@ overflow_add-state c =
 pub invariant_of-self-2 : goal.invariant_of-self-2
 invariant_of-self-2 c =
     let some = rw (← c.self.view_is) at c.requires in
-    (pushed c.self.invariant c.terminal-terminal.result c.args.segment c.at_mut-state.result.now
+    (pushed c.self.inside.layout c.self.invariant c.terminal-terminal.result c.args.segment c.at_mut-state.result.now
     c.may_delete-state.result c.in-Ok.address c.args.lent.now.previous c.args.lent.now.record
     c.push-pushed.new.self c.terminal-terminal.ensures c.at_mut-state.ensures.low c.at_mut-state.ensures.high
     c.at_mut-state.ensures.value some
@@ -46,7 +48,7 @@ pub returns-clause-pushed : goal.returns-clause-pushed
 returns-clause-pushed c =
     let some = rw (← c.self.view_is) at c.requires in
     rw (← c.self.view_is, c.record_address.ensures)
-    ((pushed c.self.invariant c.terminal-terminal.result c.args.segment c.at_mut-state.result.now
+    ((pushed c.self.inside.layout c.self.invariant c.terminal-terminal.result c.args.segment c.at_mut-state.result.now
     c.may_delete-state.result c.in-Ok.address c.args.lent.now.previous c.args.lent.now.record
     c.push-pushed.new.self c.terminal-terminal.ensures c.at_mut-state.ensures.low c.at_mut-state.ensures.high
     c.at_mut-state.ensures.value some
@@ -66,9 +68,10 @@ returns-clause-full c =
       λ e. absurd cc,
       λ f. c.in-Ok.ensures.full.1
           (subst (ring.IsFull c.self.inside.ring c.get-slot.result) (sym same)
-          (full_there c.self.invariant c.get-slot.result (record_length (record_of_lent c.args.lent.now.record)) f)),
+          (full_there c.self.inside.layout c.self.invariant c.get-slot.result
+          (record_length (record_of_lent c.args.lent.now.record)) f)),
     )
 
 pub returns-clause-fresh : goal.returns-clause-fresh
 returns-clause-fresh c = rw (← c.self.view_is, c.record_address.ensures)
-    (fresh c.self.invariant c.in-Ok.address c.in-Ok.ensures.fresh)
+    (fresh c.self.inside.layout c.self.invariant c.in-Ok.address c.in-Ok.ensures.fresh)

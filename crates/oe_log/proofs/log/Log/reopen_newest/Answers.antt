@@ -10,10 +10,11 @@ use Rattle.oe_log.proofs.log.Log.reopen_newest.Goals as goal
 pub reopen_newest-requires-clause-empty : goal.reopen_newest-requires-clause-empty
 reopen_newest-requires-clause-empty c =
     let none = rw (← c.self.view_is) at c.requires in
-    strings_none c.self.invariant c.get-slot.result (none c.get-slot.result)
+    strings_none c.self.inside.layout c.self.invariant c.get-slot.result (none c.get-slot.result)
 
 pub reopen_newest-requires-clause-some : goal.reopen_newest-requires-clause-some
-reopen_newest-requires-clause-some c = some_strings c.self.invariant c.in-Some.head c.pop_front.new.self.items
+reopen_newest-requires-clause-some c = some_strings c.self.inside.layout c.self.invariant c.in-Some.head
+    c.pop_front.new.self.items
     c.in-Some.ensures.items
 
 pub overflow_add-self : goal.overflow_add-self
@@ -21,17 +22,19 @@ overflow_add-self c =
     let none = rw (← c.self.view_is) at c.requires in
     omega (
       arith,
-      few_opens (inside c.self.invariant) c.get-slot.result c.get-slot.result refl c.get-slot.ensures.low
+      few_opens c.self.inside.layout (inside c.self.invariant) c.get-slot.result c.get-slot.result refl
+          c.get-slot.ensures.low
           (omega (arith, c.get-slot.ensures.high)) (none c.get-slot.result),
     )
 
 pub invariant_of-self-2 : goal.invariant_of-self-2
 invariant_of-self-2 c =
     let none = rw (← c.self.view_is) at c.requires in
-    let closed = none_open (inside c.self.invariant) c.owner-owner.result.terminal
+    let closed = none_open c.self.inside.layout (inside c.self.invariant) c.owner-owner.result.terminal
     (none c.owner-owner.result.terminal) in
     let moment : c.unwrap-self-inside.result ≡ c.self.inside.newest - 1 = search rules in
-    (reopened c.self.invariant _ c.pop_front.new.self.items c.in-Some.head (deque_capacity c.pop_front.new.self)
+    (reopened c.self.inside.layout c.self.invariant _ c.pop_front.new.self.items c.in-Some.head
+    (deque_capacity c.pop_front.new.self)
     c.reopen_newest.new.self.room c.unwrap-self-inside.result (c.self.inside.open_count + 1)
     c.owner-owner.result.terminal c.owner-owner.result.terminal c.len-state.result c.at_mut-state.result.now
     c.may_delete-state.result c.owner-owner.result c.reopen_newest.new.self
@@ -46,10 +49,11 @@ invariant_of-self-2 c =
 pub returns-clause-reopened : goal.returns-clause-reopened
 returns-clause-reopened c =
     let none = rw (← c.self.view_is) at c.requires in
-    let closed = none_open (inside c.self.invariant) c.owner-owner.result.terminal
+    let closed = none_open c.self.inside.layout (inside c.self.invariant) c.owner-owner.result.terminal
     (none c.owner-owner.result.terminal) in
     let moment : c.unwrap-self-inside.result ≡ c.self.inside.newest - 1 = search rules in
-    (reopened c.self.invariant _ c.pop_front.new.self.items c.in-Some.head (deque_capacity c.pop_front.new.self)
+    (reopened c.self.inside.layout c.self.invariant _ c.pop_front.new.self.items c.in-Some.head
+    (deque_capacity c.pop_front.new.self)
     c.reopen_newest.new.self.room c.unwrap-self-inside.result (c.self.inside.open_count + 1)
     c.owner-owner.result.terminal c.owner-owner.result.terminal c.len-state.result c.at_mut-state.result.now
     c.may_delete-state.result c.owner-owner.result c.reopen_newest.new.self

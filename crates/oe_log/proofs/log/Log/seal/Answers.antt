@@ -7,19 +7,21 @@ use Rattle.oe_log.proofs.log.Log.seal.Goals as goal
 
 pub unwrap-moment-requires : goal.unwrap-moment-requires
 unwrap-moment-requires c =
-    let fits = moment_fits (inside c.self.invariant) in
+    let fits = moment_fits c.self.inside.layout (inside c.self.invariant) in
     search rules
 
 pub unreachable-requires : goal.unreachable-requires
 unreachable-requires c =
     let some = rw (← c.self.view_is) at c.requires in
-    never_none (inside c.self.invariant) c.terminal-terminal.result c.args.segment c.at_mut-state.result.now
+    never_none c.self.inside.layout (inside c.self.invariant) c.terminal-terminal.result c.args.segment
+    c.at_mut-state.result.now
     c.terminal-terminal.ensures c.at_mut-state.ensures.high
     c.at_mut-state.ensures.value some (sym c.take.ensures.value ∙ c.in_default.is)
 
 pub overflow_add-state : goal.overflow_add-state
 overflow_add-state c =
-    let below = below_open (inside c.self.invariant) c.terminal-terminal.result c.at_mut-state.result.now
+    let below = below_open c.self.inside.layout (inside c.self.invariant) c.terminal-terminal.result
+    c.at_mut-state.result.now
     c.in-Some.owner c.at_mut-state.ensures.high c.at_mut-state.ensures.value
     (sym c.take.ensures.value ∙ c.in-Some.is) in
     omega arith
@@ -27,13 +29,14 @@ overflow_add-state c =
 pub overflow_sub-self : goal.overflow_sub-self
 overflow_sub-self c =
     let some = rw (← c.self.view_is) at c.requires in
-    omega (arith, some_opens (inside c.self.invariant) c.args.segment some)
+    omega (arith, some_opens c.self.inside.layout (inside c.self.invariant) c.args.segment some)
 
 pub invariant_of-self : goal.invariant_of-self
 invariant_of-self c =
     let moment : c.unwrap-moment.result ≡ c.self.inside.newest + 1 = search rules in
     let some = rw (← c.self.view_is) at c.requires in
-    (sealed c.self.invariant c.terminal-terminal.result c.args.segment (c.at_mut-state.result.now.count + 1)
+    (sealed c.self.inside.layout c.self.invariant c.terminal-terminal.result c.args.segment
+    (c.at_mut-state.result.now.count + 1)
     c.replace-len.new.dest c.unwrap-moment.result (c.self.inside.open_count - 1) c.seal.new.self.room
     c.at_mut-state.result.now c.in-Some.owner c.take.new.self
     (record {
@@ -52,14 +55,16 @@ invariant_of-self c =
     refl c.replace-len.ensures.after c.push_front_reserved.ensures.items c.push_front_reserved.ensures.capacity
     (c.seal.ensures.sealed ∙ ap (λ t. record (ring.sealed_at c.self.inside.ring t) { room = c.seal.new.self.room })
     c.get-slot.ensures.value)
-    c.seal.ensures.room moment refl (some_opens (inside c.self.invariant) c.args.segment some)).kept
+    c.seal.ensures.room moment refl (some_opens c.self.inside.layout (inside c.self.invariant) c.args.segment
+    some)).kept
 
 pub returns-clause-sealed : goal.returns-clause-sealed
 returns-clause-sealed c =
     let moment : c.unwrap-moment.result ≡ c.self.inside.newest + 1 = search rules in
     let some = rw (← c.self.view_is) at c.requires in
     rw (← c.self.view_is)
-    ((sealed c.self.invariant c.terminal-terminal.result c.args.segment (c.at_mut-state.result.now.count + 1)
+    ((sealed c.self.inside.layout c.self.invariant c.terminal-terminal.result c.args.segment
+    (c.at_mut-state.result.now.count + 1)
     c.replace-len.new.dest c.unwrap-moment.result (c.self.inside.open_count - 1) c.seal.new.self.room
     c.at_mut-state.result.now c.in-Some.owner c.take.new.self
     (record {
@@ -78,9 +83,10 @@ returns-clause-sealed c =
     refl c.replace-len.ensures.after c.push_front_reserved.ensures.items c.push_front_reserved.ensures.capacity
     (c.seal.ensures.sealed ∙ ap (λ t. record (ring.sealed_at c.self.inside.ring t) { room = c.seal.new.self.room })
     c.get-slot.ensures.value)
-    c.seal.ensures.room moment refl (some_opens (inside c.self.invariant) c.args.segment some)).view)
+    c.seal.ensures.room moment refl (some_opens c.self.inside.layout (inside c.self.invariant) c.args.segment
+    some)).view)
 
 pub returns-clause-moment : goal.returns-clause-moment
 returns-clause-moment c =
     let moment : c.unwrap-moment.result ≡ c.self.inside.newest + 1 = search rules in
-    rw (← c.self.view_is) (moment ∙ ap (λ n. n + 1) (sym (total_is (inside c.self.invariant))))
+    rw (← c.self.view_is) (moment ∙ ap (λ n. n + 1) (sym (total_is c.self.inside.layout (inside c.self.invariant))))

@@ -1,0 +1,43 @@
+-- Why a record can't be pushed.
+use Rattle.std.proofs.Common.{◌≡◌, subst, None}
+use Rattle.oe_rows.specs.declared.keys.Key.{Key}
+use Rattle.oe_change.specs.Writes.{key_written}
+use Rattle.oe_undo.specs.Links.{place_of}
+use Rattle.oe_model.specs.Lengths.{record_length}
+use Rattle.oe_layout.specs.Records.{record_of_lent}
+use Rattle.oe_store.specs.Places.{rows}
+use Rattle.oe_log.specs.Log.{IsFull}
+use Rattle.oe_undo.specs.Undo.{IsUnpushed}
+use Rattle.oe_engine.specs.Records.{record_of_write}
+use Rattle.oe_engine.specs.Recorded.{Full, Refused}
+use Rattle.oe_engine.proofs.MoreFacts.{of_some}
+use Rattle.oe_engine.proofs.LinkedFacts.{unplaced}
+use Rattle.oe_engine.proofs.RecordedFacts.{record_written, writes_may}
+use Rattle.oe_engine.proofs.journal.writes.push_lent.Goals as goal
+
+pub returns-in-Err-Full-clause-cause : goal.returns-in-Err-Full-clause-cause
+returns-in-Err-Full-clause-cause c =
+    Full (of_some (λ b. IsFull c.args.undo.now.log c.args.segment (record_length b))
+    (record_of_write c.args.undo.now.log.layout c.args.write.now (rows c.args.tables.now))
+    (record_of_lent c.args.lent.now.record) c.requires.own
+    (subst (IsUnpushed c.args.undo.now c.args.segment (record_of_lent c.args.lent.now.record)) c.in-Err-Full.field-0-is
+    c.in-Err-Full.ensures.cause))
+
+pub returns-in-Err-NoMemory-clause-cause : goal.returns-in-Err-NoMemory-clause-cause
+returns-in-Err-NoMemory-clause-cause c =
+    let cause = subst (IsUnpushed c.args.undo.now c.args.segment (record_of_lent c.args.lent.now.record))
+    c.in-Err-NoMemory.field-0-is c.in-Err-NoMemory.ensures.cause in
+    Refused c.unplaced.result
+    (of_some (λ b. IsFull c.args.undo.now.log c.args.segment (record_length b) → ⊥)
+    (record_of_write c.args.undo.now.log.layout c.args.write.now (rows c.args.tables.now))
+    (record_of_lent c.args.lent.now.record) c.requires.own cause.0) c.unplaced.ensures
+
+pub unplaced-requires-clause-unplaced : goal.unplaced-requires-clause-unplaced
+unplaced-requires-clause-unplaced c =
+    let cause = subst (IsUnpushed c.args.undo.now c.args.segment (record_of_lent c.args.lent.now.record))
+    c.in-Err-NoMemory.field-0-is c.in-Err-NoMemory.ensures.cause in
+    let own = record_written c.args.undo.now.log.layout c.args.write.now (rows c.args.tables.now)
+    (record_of_lent c.args.lent.now.record) c.requires.own in
+    unplaced c.args.tables.now c.args.undo.now.links (key_written c.args.write.now) (writes_may c.args.write.now)
+    c.requires.linked
+    (subst (λ (k : Key). place_of c.args.undo.now.links k ≡ None) own cause.1)

@@ -1,0 +1,10 @@
+-- The columns one after another.
+use Rattle.oe_extent.proofs.WriteFacts.{Writes-then}
+use Rattle.oe_image.specs.Before.{name_columns}
+use Rattle.oe_image.proofs.before.CustomerNameBeforeImaged.write.Goals as goal
+
+pub returns : goal.returns
+unfolding name_columns
+returns c =
+    Writes-then _ _ _ _ _ _ _ _ c.write_kept-at.ensures
+    (Writes-then _ _ _ _ _ _ _ _ c.write_kept-at-2.ensures c.write_kept.ensures)

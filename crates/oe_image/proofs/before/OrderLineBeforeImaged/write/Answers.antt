@@ -1,0 +1,14 @@
+-- The mask, and the columns one after another.
+use Rattle.oe_extent.proofs.WriteFacts.{Writes-then}
+use Rattle.oe_image.specs.Before.{order_line_columns}
+use Rattle.oe_image.proofs.before.OrderLineBeforeImaged.write.Goals as goal
+
+pub returns : goal.returns
+unfolding order_line_columns
+returns c =
+    Writes-then _ _ _ _ _ _ _ _ c.write_order_line_mask-at.ensures
+    (Writes-then _ _ _ _ _ _ _ _ c.write_ranged-at.ensures
+    (Writes-then _ _ _ _ _ _ _ _ c.write_ranged-at-2.ensures
+    (Writes-then _ _ _ _ _ _ _ _ c.write_kept-at.ensures
+    (Writes-then _ _ _ _ _ _ _ _ c.write_ranged-at-3.ensures
+    (Writes-then _ _ _ _ _ _ _ _ c.write_kept-at-2.ensures c.write_kept.ensures)))))

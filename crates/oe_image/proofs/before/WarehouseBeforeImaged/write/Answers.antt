@@ -1,0 +1,12 @@
+-- The mask, and the columns one after another.
+use Rattle.oe_extent.proofs.WriteFacts.{Writes-then}
+use Rattle.oe_image.specs.Before.{warehouse_columns}
+use Rattle.oe_image.proofs.before.WarehouseBeforeImaged.write.Goals as goal
+
+pub returns : goal.returns
+unfolding warehouse_columns
+returns c =
+    Writes-then _ _ _ _ _ _ _ _ c.write_warehouse_mask-at.ensures
+    (Writes-then _ _ _ _ _ _ _ _ c.write_kept-at.ensures
+    (Writes-then _ _ _ _ _ _ _ _ c.write-at.ensures
+    (Writes-then _ _ _ _ _ _ _ _ c.write_ranged-at.ensures c.write_kept.ensures)))
