@@ -1,1 +1,2 @@
 pub mod MaskFacts
+pub mod PartFacts

@@ -9,6 +9,7 @@ use Rattle.oe_image.specs.Keys.{key_image, IsKey}
 use Rattle.oe_image.specs.Rows.{row_image, IsRow}
 use Rattle.oe_image.specs.Before.{warehouse_before, district_before, customer_before, order_before, order_line_before}
 use Rattle.oe_image.specs.Before.{stock_before}
+use Rattle.oe_image.specs.Parts.{warehouse_part, district_part, customer_part, order_part, order_line_part, stock_part}
 use Rattle.oe_fronts.specs.BeforeRanges.{IsWarehouseBefore, IsDistrictBefore, IsCustomerBefore, IsOrderBefore}
 use Rattle.oe_fronts.specs.BeforeRanges.{IsOrderLineBefore, IsStockBefore}
 use Rattle.oe_model.specs.Changes as model
@@ -88,7 +89,7 @@ record_of_own (own.ChangedOrder k c) = model.ChangedOrder k (Some c)
 record_of_own (own.ChangedOrderLine k c) = model.ChangedOrderLine k (Some c)
 record_of_own (own.ChangedStock k c) = model.ChangedStock k (Some c)
 
--- the record of the model that a record with a lent row stands for
+-- the record of the model that a record with a lent row, or a part of one, stands for
 abbrev pub record_of_lent : LentRecord → model.Record
 record_of_lent (lent.InsertedHistory k) = model.InsertedHistory k None
 record_of_lent (lent.InsertedNewOrder k) = model.InsertedNewOrder k None
@@ -101,9 +102,9 @@ record_of_lent (lent.UpdatedOrder k x) = model.UpdatedOrder k (Some x.now)
 record_of_lent (lent.UpdatedOrderLine k x) = model.UpdatedOrderLine k (Some x.now)
 record_of_lent (lent.UpdatedStock k x) = model.UpdatedStock k (Some x.now)
 record_of_lent (lent.DeletedNewOrder k) = model.DeletedNewOrder k (Some (record {}))
-record_of_lent (lent.ChangedWarehouse k c) = model.ChangedWarehouse k (Some c.now)
-record_of_lent (lent.ChangedDistrict k c) = model.ChangedDistrict k (Some c.now)
-record_of_lent (lent.ChangedCustomer k c) = model.ChangedCustomer k (Some c.now)
-record_of_lent (lent.ChangedOrder k c) = model.ChangedOrder k (Some c.now)
-record_of_lent (lent.ChangedOrderLine k c) = model.ChangedOrderLine k (Some c.now)
-record_of_lent (lent.ChangedStock k c) = model.ChangedStock k (Some c.now)
+record_of_lent (lent.ChangedWarehouse k p) = model.ChangedWarehouse k (Some (warehouse_part p))
+record_of_lent (lent.ChangedDistrict k p) = model.ChangedDistrict k (Some (district_part p))
+record_of_lent (lent.ChangedCustomer k p) = model.ChangedCustomer k (Some (customer_part p))
+record_of_lent (lent.ChangedOrder k p) = model.ChangedOrder k (Some (order_part p))
+record_of_lent (lent.ChangedOrderLine k p) = model.ChangedOrderLine k (Some (order_line_part p))
+record_of_lent (lent.ChangedStock k p) = model.ChangedStock k (Some (stock_part p))

@@ -6,19 +6,16 @@ ghost use Rattle.oe_layout.specs.declared.parts.TheConstants.{OTHER_BYTES, MOST_
 ghost use Rattle.oe_layout.specs.Kinds.{kind_of};
 ghost use Rattle.oe_model.specs.Changes.{record_key};
 ghost use Rattle.oe_image.specs.Rows.{stock};
-ghost use Rattle.oe_image.specs.Before.{stock_before};
-ghost use Rattle.oe_model.specs.Lengths.{record_length, stock_length, stock_columns_length};
-ghost use Rattle.oe_layout.specs.Records.{contents, record_image, record_of_lent, record_of_own};
+ghost use Rattle.oe_model.specs.Lengths.{record_length, stock_length};
+ghost use Rattle.oe_layout.specs.Records.{contents, record_image, record_of_lent};
 
 use crate::kinds::RecordKind;
 use crate::links::Previous;
 use crate::parts::OTHER_BYTES;
-use crate::ranges::ten_infos;
-use crate::records::OwnRecord;
 use oe_extent::{LENGTH_BYTES, Written};
 use oe_image::Imaged;
-use oe_rows::before::{
-    CustomerBefore, DistrictBefore, OrderBefore, OrderLineBefore, StockBefore, WarehouseBefore,
+use oe_image::parts::{
+    CustomerPart, DistrictPart, OrderLinePart, OrderPart, StockPart, WarehousePart,
 };
 use oe_rows::customers::Customer;
 use oe_rows::districts::District;
@@ -31,7 +28,7 @@ use oe_rows::{
 };
 
 /// The undo record of a change, as it is written: its key, with the row before an update where that
-/// lies, or of each column that the update changed its value before.
+/// lies, or the part of the row that the update changes.
 #[derive(Drop)]
 pub enum LentRecord<'a> {
     InsertedHistory(HistoryKey),
@@ -45,44 +42,12 @@ pub enum LentRecord<'a> {
     UpdatedOrderLine(OrderLineKey, &'a OrderLine),
     UpdatedStock(StockKey, &'a Stock),
     DeletedNewOrder(NewOrderKey),
-    ChangedWarehouse(WarehouseKey, &'a WarehouseBefore),
-    ChangedDistrict(DistrictKey, &'a DistrictBefore),
-    ChangedCustomer(CustomerKey, &'a CustomerBefore),
-    ChangedOrder(OrderKey, &'a OrderBefore),
-    ChangedOrderLine(OrderLineKey, &'a OrderLineBefore),
-    ChangedStock(StockKey, &'a StockBefore),
-}
-
-impl OwnRecord {
-    /// Lends the record, with its row or its columns where they lie.
-    #[inline(always)]
-    pub fn lend(&self) -> LentRecord<'_>
-        ensures { record_of_lent result ≡ record_of_own self.now }
-    {
-        match self {
-            OwnRecord::InsertedHistory(key) => LentRecord::InsertedHistory(*key),
-            OwnRecord::InsertedNewOrder(key) => LentRecord::InsertedNewOrder(*key),
-            OwnRecord::InsertedOrder(key) => LentRecord::InsertedOrder(*key),
-            OwnRecord::InsertedOrderLine(key) => LentRecord::InsertedOrderLine(*key),
-            OwnRecord::UpdatedWarehouse(key, row) => LentRecord::UpdatedWarehouse(*key, row),
-            OwnRecord::UpdatedDistrict(key, row) => LentRecord::UpdatedDistrict(*key, row),
-            OwnRecord::UpdatedCustomer(key, row) => LentRecord::UpdatedCustomer(*key, row),
-            OwnRecord::UpdatedOrder(key, row) => LentRecord::UpdatedOrder(*key, row),
-            OwnRecord::UpdatedOrderLine(key, row) => LentRecord::UpdatedOrderLine(*key, row),
-            OwnRecord::UpdatedStock(key, row) => LentRecord::UpdatedStock(*key, row),
-            OwnRecord::DeletedNewOrder(key) => LentRecord::DeletedNewOrder(*key),
-            OwnRecord::ChangedWarehouse(key, columns) => LentRecord::ChangedWarehouse(
-                *key, columns,
-            ),
-            OwnRecord::ChangedDistrict(key, columns) => LentRecord::ChangedDistrict(*key, columns),
-            OwnRecord::ChangedCustomer(key, columns) => LentRecord::ChangedCustomer(*key, columns),
-            OwnRecord::ChangedOrder(key, columns) => LentRecord::ChangedOrder(*key, columns),
-            OwnRecord::ChangedOrderLine(key, columns) => LentRecord::ChangedOrderLine(
-                *key, columns,
-            ),
-            OwnRecord::ChangedStock(key, columns) => LentRecord::ChangedStock(*key, columns),
-        }
-    }
+    ChangedWarehouse(WarehouseKey, WarehousePart),
+    ChangedDistrict(DistrictKey, DistrictPart),
+    ChangedCustomer(CustomerKey, CustomerPart<'a>),
+    ChangedOrder(OrderKey, OrderPart),
+    ChangedOrderLine(OrderLineKey, OrderLinePart),
+    ChangedStock(StockKey, StockPart),
 }
 
 impl<'a> LentRecord<'a> {
@@ -157,12 +122,12 @@ impl<'a> LentRecord<'a> {
             LentRecord::UpdatedOrderLine(key, row) => key.length() + row.length(),
             LentRecord::UpdatedStock(key, row) => key.length() + stock_length(row),
             LentRecord::DeletedNewOrder(key) => key.length(),
-            LentRecord::ChangedWarehouse(key, columns) => key.length() + columns.length(),
-            LentRecord::ChangedDistrict(key, columns) => key.length() + columns.length(),
-            LentRecord::ChangedCustomer(key, columns) => key.length() + columns.length(),
-            LentRecord::ChangedOrder(key, columns) => key.length() + columns.length(),
-            LentRecord::ChangedOrderLine(key, columns) => key.length() + columns.length(),
-            LentRecord::ChangedStock(key, columns) => key.length() + changed_stock_length(columns),
+            LentRecord::ChangedWarehouse(key, part) => key.length() + part.length(),
+            LentRecord::ChangedDistrict(key, part) => key.length() + part.length(),
+            LentRecord::ChangedCustomer(key, part) => key.length() + part.length(),
+            LentRecord::ChangedOrder(key, part) => key.length() + part.length(),
+            LentRecord::ChangedOrderLine(key, part) => key.length() + part.length(),
+            LentRecord::ChangedStock(key, part) => key.length() + part.length(),
         }
     }
 }
@@ -179,17 +144,6 @@ fn stock_length(row: &Stock) -> usize
 {
     let _figures = row.figures();
     OTHER_STOCK_BYTES + row.data.as_str().len()
-}
-
-/// Tells how many bytes the changed columns of a STOCK row have, with their mask.
-#[inline(always)]
-fn changed_stock_length(columns: &StockBefore) -> usize
-    ensures sum { result ≡ 2 + stock_columns_length columns.now }
-    ensures image { result ≡ length (stock_before columns.now) }
-    ensures short { result ≤ 324 }
-{
-    ten_infos(&columns.dist_info);
-    columns.length()
 }
 
 impl<'a> Imaged for LentRecord<'a> {
@@ -214,12 +168,12 @@ impl<'a> Imaged for LentRecord<'a> {
             LentRecord::UpdatedOrderLine(key, row) => (key, *row).write(bytes, start),
             LentRecord::UpdatedStock(key, row) => (key, *row).write(bytes, start),
             LentRecord::DeletedNewOrder(key) => key.write(bytes, start),
-            LentRecord::ChangedWarehouse(key, columns) => (key, *columns).write(bytes, start),
-            LentRecord::ChangedDistrict(key, columns) => (key, *columns).write(bytes, start),
-            LentRecord::ChangedCustomer(key, columns) => (key, *columns).write(bytes, start),
-            LentRecord::ChangedOrder(key, columns) => (key, *columns).write(bytes, start),
-            LentRecord::ChangedOrderLine(key, columns) => (key, *columns).write(bytes, start),
-            LentRecord::ChangedStock(key, columns) => (key, *columns).write(bytes, start),
+            LentRecord::ChangedWarehouse(key, part) => (key, part).write(bytes, start),
+            LentRecord::ChangedDistrict(key, part) => (key, part).write(bytes, start),
+            LentRecord::ChangedCustomer(key, part) => (key, part).write(bytes, start),
+            LentRecord::ChangedOrder(key, part) => (key, part).write(bytes, start),
+            LentRecord::ChangedOrderLine(key, part) => (key, part).write(bytes, start),
+            LentRecord::ChangedStock(key, part) => (key, part).write(bytes, start),
         }
     }
 }

@@ -1,8 +1,7 @@
 //! The ranges of a record's columns, which the types keep. The functions change nothing: each tells
 //! proofs above, which see no type's range, what holds of its values.
-ghost use Rattle.std.specs.Prelude.{◌≡◌, ◌≤◌, ◌<◌, length, IfSome};
+ghost use Rattle.std.specs.Prelude.{◌≡◌, ◌≤◌, ◌<◌, IfSome, option_map};
 ghost use Rattle.std.specs.Int.{IsInRange};
-ghost use Rattle.std.specs.List.{All};
 ghost use Rattle.oe_values.specs.Number.{IsWithin};
 ghost use Rattle.oe_values.specs.Text.{IsText};
 ghost use Rattle.oe_values.specs.declared.stamps.TheConstants.{SECONDS};
@@ -13,7 +12,9 @@ ghost use Rattle.oe_rows.specs.Order.{IsOrder, IsOrderLine};
 ghost use Rattle.oe_rows.specs.Item.{IsStock};
 ghost use Rattle.oe_image.specs.Keys.{IsWarehouseKey, IsHistoryKey, IsNewOrderKey, IsOrderKey, IsOrderLineKey, IsStockKey};
 ghost use Rattle.oe_rows.specs.Key.{IsDistrictKey, IsCustomerKey};
-ghost use Rattle.oe_fronts.specs.BeforeRanges.{IsAddressBefore, IsNameBefore, IsAccountBefore};
+ghost use Rattle.oe_image.specs.Parts.{warehouse_part, district_part, customer_part, order_part};
+ghost use Rattle.oe_image.specs.Parts.{order_line_part, stock_part};
+ghost use Rattle.oe_fronts.specs.BeforeRanges.{IsAccountBefore};
 ghost use Rattle.oe_fronts.specs.BeforeRanges.{IsWarehouseBefore, IsDistrictBefore};
 ghost use Rattle.oe_fronts.specs.BeforeRanges.{IsCustomerBefore, IsOrderBefore, IsOrderLineBefore};
 ghost use Rattle.oe_fronts.specs.BeforeRanges.{IsStockBefore};
@@ -22,10 +23,10 @@ ghost use Rattle.oe_layout.specs.Records.{record_of_lent, IsInRanges};
 
 use crate::links::{Previous, RecordAddress};
 use crate::loans::{LentRecord, LinkedRecord};
-use oe_rows::before::{
-    AccountBefore, AddressBefore, CustomerBefore, CustomerNameBefore, DistrictBefore, OrderBefore,
-    OrderLineBefore, StockBefore, WarehouseBefore,
+use oe_image::parts::{
+    CustomerPart, DistrictPart, OrderLinePart, OrderPart, StockPart, WarehousePart,
 };
+use oe_rows::before::AccountBefore;
 use oe_rows::customers::Customer;
 use oe_rows::districts::District;
 use oe_rows::items::Stock;
@@ -121,14 +122,6 @@ fn stock(key: &StockKey, row: &Stock)
     let _figures = row.figures();
 }
 
-fn text<const LEAST: usize, const MOST: usize>(column: &Option<Text<LEAST, MOST>>)
-    ensures { IfSome column.now (IsText LEAST MOST) }
-{
-    if let Some(text) = column {
-        let _text = text.as_str();
-    }
-}
-
 fn number<const LOW: u32, const HIGH: u32>(column: &Option<Number<LOW, HIGH>>)
     ensures { IfSome column.now (IsInRange LOW HIGH) }
 {
@@ -185,22 +178,12 @@ fn carrier(column: &Option<Option<Carrier>>)
     }
 }
 
-fn address_columns(columns: &AddressBefore)
-    ensures { IsAddressBefore columns.now }
+fn lent_text(column: &Option<&Text<0, 500>>)
+    ensures { IfSome (option_map (λ t. t.now) column.now) (IsText 0 500) }
 {
-    text(&columns.street_1);
-    text(&columns.street_2);
-    text(&columns.city);
-    text(&columns.state);
-    text(&columns.zip);
-}
-
-fn name_columns(columns: &CustomerNameBefore)
-    ensures { IsNameBefore columns.now }
-{
-    text(&columns.first);
-    text(&columns.middle);
-    text(&columns.last);
+    if let Some(text) = column {
+        let _text = text.as_str();
+    }
 }
 
 fn account_columns(columns: &AccountBefore)
@@ -214,95 +197,58 @@ fn account_columns(columns: &AccountBefore)
     count(&columns.delivery_count);
 }
 
-/// States that there are ten columns S_DIST_01 to S_DIST_10, in their ranges where they are there.
-pub(crate) fn ten_infos(infos: &[Option<Text<24, 24>>; 10])
-    ensures count { length infos.now ≡ 10 }
-    ensures ranges { All (λ d. IfSome d (IsText 24 24)) infos.now }
-{
-    text(&infos[0]);
-    text(&infos[1]);
-    text(&infos[2]);
-    text(&infos[3]);
-    text(&infos[4]);
-    text(&infos[5]);
-    text(&infos[6]);
-    text(&infos[7]);
-    text(&infos[8]);
-    text(&infos[9]);
-}
-
-fn warehouse_columns(key: &WarehouseKey, columns: &WarehouseBefore)
+fn warehouse_part(key: &WarehouseKey, part: &WarehousePart)
     ensures key { IsWarehouseKey key.now }
-    ensures columns { IsWarehouseBefore columns.now }
+    ensures part { IsWarehouseBefore (warehouse_part part.now) }
 {
     let _warehouse = key.warehouse.get();
-    text(&columns.name);
-    address_columns(&columns.address);
-    count(&columns.tax);
-    amount(&columns.ytd);
+    amount(&part.ytd);
 }
 
-fn district_columns(key: &DistrictKey, columns: &DistrictBefore)
+fn district_part(key: &DistrictKey, part: &DistrictPart)
     ensures key { IsDistrictKey key.now }
-    ensures columns { IsDistrictBefore columns.now }
+    ensures part { IsDistrictBefore (district_part part.now) }
 {
     let _columns = key.columns();
-    text(&columns.name);
-    address_columns(&columns.address);
-    count(&columns.tax);
-    amount(&columns.ytd);
-    number(&columns.next_order);
+    amount(&part.ytd);
+    number(&part.next_order);
 }
 
-fn customer_columns(key: &CustomerKey, columns: &CustomerBefore)
+fn customer_part(key: &CustomerKey, part: &CustomerPart<'_>)
     ensures key { IsCustomerKey key.now }
-    ensures columns { IsCustomerBefore columns.now }
+    ensures part { IsCustomerBefore (customer_part part.now) }
 {
     let _columns = key.columns();
-    name_columns(&columns.name);
-    address_columns(&columns.address);
-    text(&columns.phone);
-    stamp(&columns.since);
-    account_columns(&columns.account);
-    text(&columns.data);
+    account_columns(&AccountBefore::of(part.before, part.after));
+    lent_text(&part.data);
 }
 
-fn order_columns(key: &OrderKey, columns: &OrderBefore)
+fn order_part(key: &OrderKey, part: &OrderPart)
     ensures key { IsOrderKey key.now }
-    ensures columns { IsOrderBefore columns.now }
+    ensures part { IsOrderBefore (order_part part.now) }
 {
     order_key(key);
-    number(&columns.customer);
-    stamp(&columns.entry);
-    carrier(&columns.carrier);
-    number(&columns.line_count);
+    carrier(&part.carrier);
 }
 
-fn order_line_columns(key: &OrderLineKey, columns: &OrderLineBefore)
+fn order_line_part(key: &OrderLineKey, part: &OrderLinePart)
     ensures key { IsOrderLineKey key.now }
-    ensures columns { IsOrderLineBefore columns.now }
+    ensures part { IsOrderLineBefore (order_line_part part.now) }
 {
     order_line_key(key);
-    number(&columns.item);
-    number(&columns.supply);
-    delivery(&columns.delivery);
-    count(&columns.quantity);
-    amount(&columns.amount);
-    text(&columns.dist_info);
+    delivery(&part.delivery);
 }
 
-fn stock_columns(key: &StockKey, columns: &StockBefore)
+fn stock_part(key: &StockKey, part: &StockPart)
     ensures key { IsStockKey key.now }
-    ensures columns { IsStockBefore columns.now }
+    ensures part { IsStockBefore (stock_part part.now) }
 {
     let _warehouse = key.warehouse.get();
     let _item = key.item.get();
-    count(&columns.quantity);
-    ten_infos(&columns.dist_info);
-    count(&columns.ytd);
-    count(&columns.order_count);
-    count(&columns.remote_count);
-    text(&columns.data);
+    count(&part.quantity);
+    count(&part.ytd);
+    count(&part.order_count);
+    count(&part.remote_count);
 }
 
 impl RecordAddress {
@@ -345,12 +291,12 @@ impl<'a> LentRecord<'a> {
             LentRecord::UpdatedOrderLine(key, row) => order_line(key, row),
             LentRecord::UpdatedStock(key, row) => stock(key, row),
             LentRecord::DeletedNewOrder(key) => new_order_key(key),
-            LentRecord::ChangedWarehouse(key, columns) => warehouse_columns(key, columns),
-            LentRecord::ChangedDistrict(key, columns) => district_columns(key, columns),
-            LentRecord::ChangedCustomer(key, columns) => customer_columns(key, columns),
-            LentRecord::ChangedOrder(key, columns) => order_columns(key, columns),
-            LentRecord::ChangedOrderLine(key, columns) => order_line_columns(key, columns),
-            LentRecord::ChangedStock(key, columns) => stock_columns(key, columns),
+            LentRecord::ChangedWarehouse(key, part) => warehouse_part(key, part),
+            LentRecord::ChangedDistrict(key, part) => district_part(key, part),
+            LentRecord::ChangedCustomer(key, part) => customer_part(key, part),
+            LentRecord::ChangedOrder(key, part) => order_part(key, part),
+            LentRecord::ChangedOrderLine(key, part) => order_line_part(key, part),
+            LentRecord::ChangedStock(key, part) => stock_part(key, part),
         }
     }
 }

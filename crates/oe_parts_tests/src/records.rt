@@ -4,9 +4,9 @@ ghost use Rattle.std.specs.Prelude.{◌≡◌, length};
 
 use crate::made::{address, committed, order, order_key, queue_entry, stock, stock_key, warehouse};
 use oe_extent::Written;
+use oe_image::parts::{OrderPart, StockPart, WarehousePart};
 use oe_layout::{LentRecord, LinkedRecord, OwnRecord, Previous, read_record};
-use oe_rows::{Layout, StockBefore, StockCounters, WarehouseBefore};
-use oe_values::{Number, YearToDate};
+use oe_rows::Layout;
 
 const WAREHOUSE: &[u8] =
     b"\x00\x4d\x02\x01\xff\xff\xff\xff\x00\x00\x00\x00\x00\x00\x00\x00\x00\x01\x00\x06WARE01\x00\x07STREET1\x00\x07STREET2\x00\x04CITY\x00\x02ST\x00\x09000111111\x00\x64\x00\x00\x00\x00\x00\x01\x86\xa0\x00\x4d";
@@ -34,6 +34,10 @@ const WAREHOUSE_YTD: &[u8] =
 // The same of stock (3, 41): S_QUANTITY, S_YTD and S_ORDER_CNT were others.
 const STOCK_COUNTERS: &[u8] =
     b"\x00\x22\x04\x09\x00\x00\x00\x84\xff\xff\xff\xff\xff\xff\xff\xff\x00\x03\x00\x00\x00\x29\x80\x18\x00\x0e\x00\x00\x00\x0a\x00\x01\x00\x22";
+
+// The record of an order whose carrier is set anew to itself has no column.
+const SAME_CARRIER: &[u8] =
+    b"\x00\x1a\x04\x06\xff\xff\xff\xff\x00\x00\x00\x00\x00\x00\x00\x00\x00\x0c\x03\x00\x01\x02\x03\x00\x00\x1a";
 
 /// Makes room for the longest record and more.
 fn room() -> [u8; 709]
@@ -81,31 +85,41 @@ fn writes_stock() -> Option<bool> {
     Some(is_written(&record, STOCK))
 }
 
-/// Tells whether the record of a payment of 2.00 to a warehouse is written with its W_YTD alone.
+/// Tells whether the record of a payment to a warehouse is written with its W_YTD alone.
 fn writes_warehouse_ytd() -> Option<bool> {
     let (key, row) = warehouse(100_000)?;
-    let columns = WarehouseBefore::of_ytd(&row, YearToDate::new(100_200)?);
+    let part = WarehousePart { ytd: Some(row.ytd) };
     let record = LinkedRecord {
         previous: Previous::Nothing,
-        record: LentRecord::ChangedWarehouse(key, &columns),
+        record: LentRecord::ChangedWarehouse(key, part),
     };
     Some(is_written(&record, WAREHOUSE_YTD))
 }
 
-/// Tells whether the record of a sale of three is written with the counters that it changes.
+/// Tells whether the record of a sale of three by the stock's own warehouse is written with the
+/// counters that it changes.
 fn writes_stock_counters() -> Option<bool> {
-    let counters = StockCounters {
-        quantity: Number::new(11)?,
-        ytd: Number::new(13)?,
-        order_count: Number::new(2)?,
-        remote_count: Number::new(0)?,
+    let row = stock()?;
+    let part = StockPart {
+        quantity: Some(row.quantity),
+        ytd: Some(row.ytd),
+        order_count: Some(row.order_count),
+        remote_count: None,
     };
-    let columns = StockBefore::of_counters(&stock()?, &counters);
     let record = LinkedRecord {
         previous: Previous::Own(address(0, 132)?),
-        record: LentRecord::ChangedStock(stock_key(3, 41)?, &columns),
+        record: LentRecord::ChangedStock(stock_key(3, 41)?, part),
     };
     Some(is_written(&record, STOCK_COUNTERS))
+}
+
+/// Tells whether the record of a carrier that stays is written with an empty mask.
+fn writes_same_carrier() -> Option<bool> {
+    let record = LinkedRecord {
+        previous: Previous::Nothing,
+        record: LentRecord::ChangedOrder(order_key()?, OrderPart { carrier: None }),
+    };
+    Some(is_written(&record, SAME_CARRIER))
 }
 
 /// Tells whether the order is read with its link: its previous record lies in extent 7 at offset
@@ -134,6 +148,7 @@ fn records_are_as_worked(rt: HostRuntime) {
     assert!(rt; reads_order() == Some(true));
     assert!(rt; writes_warehouse_ytd() == Some(true));
     assert!(rt; writes_stock_counters() == Some(true));
+    assert!(rt; writes_same_carrier() == Some(true));
 }
 
 /// A worked record with its layout, the offset of a byte, and another byte, with which it is none.

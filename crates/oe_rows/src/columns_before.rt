@@ -22,7 +22,7 @@ use oe_values::stamps::Stamp;
 use oe_values::texts::Text;
 
 /// Gives the text before, where it is another one than after.
-pub(crate) fn text_before<const LEAST: usize, const MOST: usize>(
+fn text_before<const LEAST: usize, const MOST: usize>(
     before: &Text<LEAST, MOST>,
     after: &Text<LEAST, MOST>,
 ) -> Option<Text<LEAST, MOST>>
@@ -37,7 +37,7 @@ pub(crate) fn text_before<const LEAST: usize, const MOST: usize>(
 
 /// Gives the number before, where it is another one than after.
 #[inline(always)]
-pub(crate) fn number_before<const LOW: u32, const HIGH: u32>(
+pub fn number_before<const LOW: u32, const HIGH: u32>(
     before: Number<LOW, HIGH>,
     after: Number<LOW, HIGH>,
 ) -> Option<Number<LOW, HIGH>>
@@ -48,7 +48,7 @@ pub(crate) fn number_before<const LOW: u32, const HIGH: u32>(
 
 /// Gives the amount before, where it is another one than after.
 #[inline(always)]
-pub(crate) fn amount_before<const MOST: u64>(
+pub fn amount_before<const MOST: u64>(
     before: Amount<MOST>,
     after: Amount<MOST>,
 ) -> Option<Amount<MOST>>
@@ -75,7 +75,7 @@ fn stamp_before(before: Stamp, after: Stamp) -> Option<Stamp>
 
 /// Gives the date of delivery before, where it is another one than after.
 #[inline(always)]
-pub(crate) fn delivery_before(before: Option<Stamp>, after: Option<Stamp>) -> Option<Option<Stamp>>
+fn delivery_before(before: Option<Stamp>, after: Option<Stamp>) -> Option<Option<Stamp>>
     ensures { result ≡ where_changed (option_eq nat_eq) before after }
 {
     if before == after { None } else { Some(before) }
@@ -83,10 +83,7 @@ pub(crate) fn delivery_before(before: Option<Stamp>, after: Option<Stamp>) -> Op
 
 /// Gives the carrier before, where it is another one than after.
 #[inline(always)]
-pub(crate) fn carrier_before(
-    before: Option<Carrier>,
-    after: Option<Carrier>,
-) -> Option<Option<Carrier>>
+fn carrier_before(before: Option<Carrier>, after: Option<Carrier>) -> Option<Option<Carrier>>
     ensures { result ≡ where_changed (option_eq nat_eq) before after }
 {
     if before == after { None } else { Some(before) }

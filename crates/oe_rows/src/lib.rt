@@ -5,7 +5,7 @@
 #![tactic(auto)]
 
 pub mod before;
-mod columns_before;
+pub mod columns_before;
 pub mod credits;
 pub mod customers;
 pub mod districts;
@@ -20,7 +20,6 @@ pub mod rows;
 pub mod scales;
 pub mod table_keys;
 pub mod warehouses;
-mod writes_before;
 
 pub use before::{
     AccountBefore, AddressBefore, CustomerBefore, CustomerNameBefore, DistrictBefore, OrderBefore,

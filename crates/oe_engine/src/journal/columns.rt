@@ -1,26 +1,47 @@
-//! The records of writes that have the columns which an update changes. A column is compared only
-//! where the write sets it.
-ghost use Rattle.std.specs.Prelude.{◌≡◌, option_map};
+//! The records of writes that have the columns which an update changes, lent from where they lie.
+ghost use Rattle.std.specs.Prelude.{◌≡◌, Some, None, option_map, IfOk, IfErr, OnErr};
 ghost use Rattle.oe_rows.specs.declared.layouts.Layout.TheVariants.{ChangedColumns};
-ghost use Rattle.oe_layout.specs.Records.{record_of_own};
+ghost use Rattle.oe_layout.specs.Records.{record_of_lent};
+ghost use Rattle.oe_change.specs.Writes.{key_written, written};
 ghost use Rattle.oe_change.specs.declared.writes.Write.TheVariants as writes;
 ghost use Rattle.oe_store.specs.Places.{rows};
 ghost use Rattle.oe_engine.specs.Records.{record_of_write};
 
-use oe_change::{OwnRecord, Write};
+use crate::journal::parts;
+use oe_change::Write;
+use oe_layout::LentRecord;
+use oe_requests::Refusal;
 use oe_rows::customers::Account;
 use oe_rows::items::StockCounters;
-use oe_rows::{
-    CustomerBefore, CustomerKey, DistrictBefore, DistrictKey, OrderBefore, OrderKey,
-    OrderLineBefore, OrderLineKey, StockBefore, StockKey, WarehouseBefore, WarehouseKey,
-};
+use oe_rows::{CustomerKey, DistrictKey, OrderKey, OrderLineKey, StockKey, WarehouseKey};
 use oe_store::Tables;
 use oe_values::{Carrier, OrderNumber, Stamp, Text, YearToDate};
 
 /// Gives the record of a write to rows as they stand: of an insert or a delete its key, of an
-/// update the columns that it changes. None exactly where the row to be updated is absent.
-pub(crate) fn columns_before(tables: &Tables, write: &Write) -> Option<OwnRecord>
-    ensures { option_map record_of_own result
+/// update the columns that it changes.
+///
+/// `NoSuchRow`: the row to be updated is absent.
+#[inline(always)]
+pub(crate) fn lend_columns<'a>(
+    tables: &'a Tables,
+    write: &'a Write,
+) -> Result<LentRecord<'a>, Refusal>
+    ensures lent { IfOk result
+        (λ b. record_of_write ChangedColumns write.now (rows tables.now)
+        ≡ Some (record_of_lent b)) }
+    ensures absent { OnErr result (written write.now (rows tables.now) ≡ None) }
+    ensures cause { IfErr result (λ e. e ≡ Refusal.NoSuchRow (key_written write.now)) }
+{
+    match columns_before(tables, write) {
+        Some(before) => Ok(before),
+        None => Err(Refusal::NoSuchRow(write.key())),
+    }
+}
+
+/// Gives the record of a write; none exactly where the row to be updated is absent.
+#[inline(always)]
+fn columns_before<'a>(tables: &'a Tables, write: &'a Write) -> Option<LentRecord<'a>>
+    ensures { option_map record_of_lent result
         ≡ record_of_write ChangedColumns write.now (rows tables.now) }
 {
     match write {
@@ -32,129 +53,157 @@ pub(crate) fn columns_before(tables: &Tables, write: &Write) -> Option<OwnRecord
         Write::StockCounters(key, counters) => stock_counters(tables, key, counters),
         Write::Carrier(key, number) => carrier(tables, key, *number),
         Write::DeliveryDate(key, stamp) => delivery_date(tables, key, *stamp),
-        Write::InsertHistory(key, _) => Some(OwnRecord::InsertedHistory(*key)),
-        Write::InsertNewOrder(key) => Some(OwnRecord::InsertedNewOrder(*key)),
-        Write::InsertOrder(key, _) => Some(OwnRecord::InsertedOrder(*key)),
-        Write::InsertOrderLine(key, _) => Some(OwnRecord::InsertedOrderLine(*key)),
-        Write::DeleteNewOrder(key) => Some(OwnRecord::DeletedNewOrder(*key)),
+        Write::InsertHistory(key, _) => Some(LentRecord::InsertedHistory(*key)),
+        Write::InsertNewOrder(key) => Some(LentRecord::InsertedNewOrder(*key)),
+        Write::InsertOrder(key, _) => Some(LentRecord::InsertedOrder(*key)),
+        Write::InsertOrderLine(key, _) => Some(LentRecord::InsertedOrderLine(*key)),
+        Write::DeleteNewOrder(key) => Some(LentRecord::DeletedNewOrder(*key)),
     }
 }
 
 /// Gives the record of a W_YTD that is set, if the warehouse is there.
-fn warehouse_ytd(tables: &Tables, key: &WarehouseKey, ytd: YearToDate) -> Option<OwnRecord>
-    ensures { option_map record_of_own result
+#[inline(always)]
+fn warehouse_ytd<'a>(
+    tables: &'a Tables,
+    key: &WarehouseKey,
+    ytd: YearToDate,
+) -> Option<LentRecord<'a>>
+    ensures { option_map record_of_lent result
         ≡ record_of_write ChangedColumns (writes.WarehouseYtd key.now ytd) (rows tables.now) }
 {
     match tables.warehouse(*key) {
         Some(row) => {
-            let columns = WarehouseBefore::of_ytd(row, ytd);
-            Some(OwnRecord::ChangedWarehouse(*key, columns))
+            let part = parts::of_warehouse_ytd(row, ytd);
+            Some(LentRecord::ChangedWarehouse(*key, part))
         }
         None => None,
     }
 }
 
 /// Gives the record of a D_YTD that is set, if the district is there.
-fn district_ytd(tables: &Tables, key: &DistrictKey, ytd: YearToDate) -> Option<OwnRecord>
-    ensures { option_map record_of_own result
+#[inline(always)]
+fn district_ytd<'a>(
+    tables: &'a Tables,
+    key: &DistrictKey,
+    ytd: YearToDate,
+) -> Option<LentRecord<'a>>
+    ensures { option_map record_of_lent result
         ≡ record_of_write ChangedColumns (writes.DistrictYtd key.now ytd) (rows tables.now) }
 {
     match tables.district(*key) {
         Some(row) => {
-            let columns = DistrictBefore::of_ytd(row, ytd);
-            Some(OwnRecord::ChangedDistrict(*key, columns))
+            let part = parts::of_district_ytd(row, ytd);
+            Some(LentRecord::ChangedDistrict(*key, part))
         }
         None => None,
     }
 }
 
 /// Gives the record of a D_NEXT_O_ID that is set, if the district is there.
-fn next_order(tables: &Tables, key: &DistrictKey, order: OrderNumber) -> Option<OwnRecord>
-    ensures { option_map record_of_own result
+#[inline(always)]
+fn next_order<'a>(
+    tables: &'a Tables,
+    key: &DistrictKey,
+    order: OrderNumber,
+) -> Option<LentRecord<'a>>
+    ensures { option_map record_of_lent result
         ≡ record_of_write ChangedColumns (writes.NextOrder key.now order) (rows tables.now) }
 {
     match tables.district(*key) {
         Some(row) => {
-            let columns = DistrictBefore::of_next_order(row, order);
-            Some(OwnRecord::ChangedDistrict(*key, columns))
+            let part = parts::of_next_order(row, order);
+            Some(LentRecord::ChangedDistrict(*key, part))
         }
         None => None,
     }
 }
 
 /// Gives the record of a customer's account that is set, if the customer is there.
-fn customer_account(tables: &Tables, key: &CustomerKey, account: &Account) -> Option<OwnRecord>
-    ensures { option_map record_of_own result
+#[inline(always)]
+fn customer_account<'a>(
+    tables: &'a Tables,
+    key: &CustomerKey,
+    account: &'a Account,
+) -> Option<LentRecord<'a>>
+    ensures { option_map record_of_lent result
         ≡ record_of_write ChangedColumns (writes.CustomerAccount key.now account.now)
         (rows tables.now) }
 {
     match tables.customer(*key) {
         Some(row) => {
-            let columns = CustomerBefore::of_account(row, account);
-            Some(OwnRecord::ChangedCustomer(*key, columns))
+            let part = parts::of_account(row, account);
+            Some(LentRecord::ChangedCustomer(*key, part))
         }
         None => None,
     }
 }
 
 /// Gives the record of an account and of an entry before C_DATA, if the customer is there.
-fn bad_credit(
-    tables: &Tables,
+#[inline(always)]
+fn bad_credit<'a>(
+    tables: &'a Tables,
     key: &CustomerKey,
-    account: &Account,
+    account: &'a Account,
     entry: &Text<0, 90>,
-) -> Option<OwnRecord>
-    ensures { option_map record_of_own result
+) -> Option<LentRecord<'a>>
+    ensures { option_map record_of_lent result
         ≡ record_of_write ChangedColumns (writes.BadCredit key.now account.now entry.now)
         (rows tables.now) }
 {
     match tables.customer(*key) {
         Some(row) => {
-            let columns = CustomerBefore::of_bad_credit(row, account, entry);
-            Some(OwnRecord::ChangedCustomer(*key, columns))
+            let part = parts::of_bad_credit(row, account, entry);
+            Some(LentRecord::ChangedCustomer(*key, part))
         }
         None => None,
     }
 }
 
 /// Gives the record of a stock's counters that are set, if the stock is there.
-fn stock_counters(tables: &Tables, key: &StockKey, counters: &StockCounters) -> Option<OwnRecord>
-    ensures { option_map record_of_own result
+#[inline(always)]
+fn stock_counters<'a>(
+    tables: &'a Tables,
+    key: &StockKey,
+    counters: &StockCounters,
+) -> Option<LentRecord<'a>>
+    ensures { option_map record_of_lent result
         ≡ record_of_write ChangedColumns (writes.StockCounters key.now counters.now)
         (rows tables.now) }
 {
     match tables.stock(*key) {
         Some(row) => {
-            let columns = StockBefore::of_counters(row, counters);
-            Some(OwnRecord::ChangedStock(*key, columns))
+            let part = parts::of_counters(row, counters);
+            Some(LentRecord::ChangedStock(*key, part))
         }
         None => None,
     }
 }
 
 /// Gives the record of an O_CARRIER_ID that is set, if the order is there.
-fn carrier(tables: &Tables, key: &OrderKey, carrier: Carrier) -> Option<OwnRecord>
-    ensures { option_map record_of_own result
+#[inline(always)]
+fn carrier<'a>(tables: &'a Tables, key: &OrderKey, carrier: Carrier) -> Option<LentRecord<'a>>
+    ensures { option_map record_of_lent result
         ≡ record_of_write ChangedColumns (writes.Carrier key.now carrier) (rows tables.now) }
 {
     match tables.order(*key) {
         Some(row) => {
-            let columns = OrderBefore::of_carrier(row, carrier);
-            Some(OwnRecord::ChangedOrder(*key, columns))
+            let part = parts::of_carrier(row, carrier);
+            Some(LentRecord::ChangedOrder(*key, part))
         }
         None => None,
     }
 }
 
 /// Gives the record of an OL_DELIVERY_D that is set, if the line is there.
-fn delivery_date(tables: &Tables, key: &OrderLineKey, stamp: Stamp) -> Option<OwnRecord>
-    ensures { option_map record_of_own result
+#[inline(always)]
+fn delivery_date<'a>(tables: &'a Tables, key: &OrderLineKey, stamp: Stamp) -> Option<LentRecord<'a>>
+    ensures { option_map record_of_lent result
         ≡ record_of_write ChangedColumns (writes.DeliveryDate key.now stamp) (rows tables.now) }
 {
     match tables.order_line(*key) {
         Some(row) => {
-            let columns = OrderLineBefore::of_delivery(row, stamp);
-            Some(OwnRecord::ChangedOrderLine(*key, columns))
+            let part = parts::of_delivery(row, stamp);
+            Some(LentRecord::ChangedOrderLine(*key, part))
         }
         None => None,
     }

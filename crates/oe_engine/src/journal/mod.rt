@@ -6,6 +6,7 @@ mod inserts;
 pub mod laws;
 mod lending;
 mod names;
+mod parts;
 pub mod purges;
 pub mod rewinds;
 mod settings;

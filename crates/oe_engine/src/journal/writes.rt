@@ -10,7 +10,7 @@ ghost use Rattle.oe_layout.specs.Records.{record_of_lent};
 ghost use Rattle.oe_engine.specs.Records.{record_of_write};
 ghost use Rattle.oe_engine.specs.Recorded.{HasRoomFor, HasWritten, HasRecorded, CantWrite};
 
-use crate::journal::columns::columns_before;
+use crate::journal::columns::lend_columns;
 use crate::journal::lending::lend;
 use crate::journal::settings::set;
 use crate::journal::unplaced::unplaced;
@@ -150,15 +150,15 @@ fn push_columns(
     ensures cause { IfErr result (CantWrite write.now tables.now undo.old.log segment) }
     ensures err { OnErr result (undo.new ≡ undo.old) }
 {
-    match columns_before(tables, write) {
-        Some(before) => {
+    match lend_columns(tables, write) {
+        Ok(before) => {
             let mut lent = LinkedRecord {
                 previous: Previous::Nothing,
-                record: before.lend(),
+                record: before,
             };
             push_lent(tables, undo, segment, write, &mut lent)
         }
-        None => Err(Refusal::NoSuchRow(write.key())),
+        Err(refusal) => Err(refusal),
     }
 }
 

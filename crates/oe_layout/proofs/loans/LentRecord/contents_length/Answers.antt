@@ -1,12 +1,12 @@
--- The key's length, and that of the row or the columns, are sums of widths and of lengths of texts.
-use Rattle.std.proofs.Common.{sym, ◌∙◌}
+-- The key's length, and that of the row or its part, are sums of widths and of lengths of texts.
+use Rattle.std.proofs.Common.{refl, sym, ◌∙◌}
 use Rattle.oe_rows.specs.declared.keys.Key.TheVariants as key
 use Rattle.oe_rows.specs.declared.rows.Row.TheVariants as row
-use Rattle.oe_image.specs.Before.{stock_before}
+use Rattle.oe_image.specs.Parts.{warehouse_part, district_part, customer_part, order_part, order_line_part, stock_part}
 use Rattle.oe_layout.proofs.LengthFacts.{key_alone, key_and_row, warehouse_long, district_long, customer_long}
 use Rattle.oe_layout.proofs.LengthFacts.{order_long, order_line_long, key_and_columns, changed_warehouse_long}
 use Rattle.oe_layout.proofs.LengthFacts.{changed_district_long, changed_customer_long, changed_order_long}
-use Rattle.oe_layout.proofs.LengthFacts.{changed_order_line_long}
+use Rattle.oe_layout.proofs.LengthFacts.{changed_order_line_long, changed_stock_long}
 use Rattle.oe_layout.proofs.loans.LentRecord.contents_length.Goals as goal
 
 pub returns-in-InsertedHistory-clause-sum : goal.returns-in-InsertedHistory-clause-sum
@@ -75,40 +75,40 @@ pub returns-in-ChangedWarehouse-clause-sum : goal.returns-in-ChangedWarehouse-cl
 returns-in-ChangedWarehouse-clause-sum c =
     rw c.in-ChangedWarehouse.is
     (key_and_columns (key.Warehouse c.in-ChangedWarehouse.key) _ _ _ _
-    (changed_warehouse_long c.in-ChangedWarehouse.columns.now)
+    (changed_warehouse_long (warehouse_part c.in-ChangedWarehouse.part))
     c.length-in-ChangedWarehouse.ensures.value c.length-in-ChangedWarehouse-2.ensures.value)
 
 pub returns-in-ChangedDistrict-clause-sum : goal.returns-in-ChangedDistrict-clause-sum
 returns-in-ChangedDistrict-clause-sum c =
     rw c.in-ChangedDistrict.is
     (key_and_columns (key.District c.in-ChangedDistrict.key) _ _ _ _
-    (changed_district_long c.in-ChangedDistrict.columns.now)
+    (changed_district_long (district_part c.in-ChangedDistrict.part))
     c.length-in-ChangedDistrict.ensures.value c.length-in-ChangedDistrict-2.ensures.value)
 
 pub returns-in-ChangedCustomer-clause-sum : goal.returns-in-ChangedCustomer-clause-sum
 returns-in-ChangedCustomer-clause-sum c =
     rw c.in-ChangedCustomer.is
     (key_and_columns (key.Customer c.in-ChangedCustomer.key) _ _ _ _
-    (changed_customer_long c.in-ChangedCustomer.columns.now)
+    (changed_customer_long (customer_part c.in-ChangedCustomer.part))
     c.length-in-ChangedCustomer.ensures.value c.length-in-ChangedCustomer-2.ensures.value)
 
 pub returns-in-ChangedOrder-clause-sum : goal.returns-in-ChangedOrder-clause-sum
 returns-in-ChangedOrder-clause-sum c =
     rw c.in-ChangedOrder.is
     (key_and_columns (key.Order c.in-ChangedOrder.key) _ _ _ _
-    (changed_order_long c.in-ChangedOrder.columns.now)
+    (changed_order_long (order_part c.in-ChangedOrder.part))
     c.length-in-ChangedOrder.ensures.value c.length-in-ChangedOrder-2.ensures.value)
 
 pub returns-in-ChangedOrderLine-clause-sum : goal.returns-in-ChangedOrderLine-clause-sum
 returns-in-ChangedOrderLine-clause-sum c =
     rw c.in-ChangedOrderLine.is
     (key_and_columns (key.OrderLine c.in-ChangedOrderLine.key) _ _ _ _
-    (changed_order_line_long c.in-ChangedOrderLine.columns.now)
+    (changed_order_line_long (order_line_part c.in-ChangedOrderLine.part))
     c.length-in-ChangedOrderLine.ensures.value c.length-in-ChangedOrderLine-2.ensures.value)
 
 pub returns-in-ChangedStock-clause-sum : goal.returns-in-ChangedStock-clause-sum
 returns-in-ChangedStock-clause-sum c =
     rw c.in-ChangedStock.is
-    (key_and_columns (key.Stock c.in-ChangedStock.key) (stock_before c.in-ChangedStock.columns.now) _ _ _
-    (record { is = sym c.changed_stock_length.ensures.image ∙ c.changed_stock_length.ensures.sum })
-    c.length-in-ChangedStock.ensures.value c.changed_stock_length.ensures.image)
+    (key_and_columns (key.Stock c.in-ChangedStock.key) _ _ _ _
+    (changed_stock_long (stock_part c.in-ChangedStock.part) refl)
+    c.length-in-ChangedStock.ensures.value c.length-in-ChangedStock-2.ensures.value)
