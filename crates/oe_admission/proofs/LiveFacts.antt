@@ -1,11 +1,11 @@
--- What the steps of today keep of a world, that each of them is answered, and that a run of them ends.
+-- What steps keep of a world, and that a run of advances ends.
 use Rattle.std.proofs.Common.{◌≡◌, ℕ, zero, suc, ◌<◌, ◌==◌, cond, Bool, true, false, Option, None, Some, [], ◌∷◌, refl}
 use Rattle.std.proofs.Common.{ap, ◌∙◌, subst, arith}
 use Rattle.oe_theory.specs.Machine.{Go}
 use Rattle.oe_theory.specs.World.{World, State, Open, set, tx_of, tables}
 use Rattle.oe_theory.specs.Theorems.{IsReached}
 use Rattle.oe_theory.specs.Next as theory
-use Rattle.oe_theory.specs.Next.{Next, begun, moved, Begin, Advance, More, begins, goes_on, commits, saves, goes_back}
+use Rattle.oe_theory.specs.Next.{Next, begun, moved, Advance, More, begins, goes_on, commits, saves, goes_back}
 use Rattle.oe_theory.specs.Next.{rolls_back, reads, audits, purges, rewinds, stops, fails, is_busy, is_full}
 use Rattle.oe_theory.specs.Next.{is_rejected, is_open, number_is_rejected, query_is_rejected, misses, not_open, too_old}
 use Rattle.oe_theory.specs.Next.{future, not_quiet, lacks_memory_at_begin, lacks_memory}
@@ -20,7 +20,7 @@ use Rattle.oe_model.specs.Effects.{Doing}
 use Rattle.oe_model.specs.Positions.{Position}
 use Rattle.oe_model.specs.System.{system, ask, act, marks, start_of}
 use Rattle.oe_model.proofs.SystemLaws.{laws}
-use Rattle.oe_admission.specs.Programs.{HasProgram, IsServed, IsServing, AreServing, IsLive}
+use Rattle.oe_admission.specs.Programs.{IsServed, IsServing, AreServing, IsLive}
 use Rattle.oe_admission.proofs.RankFacts.{rank, goes}
 
 abbrev pub rank_of : Rows → Option (Open system) → ℕ
@@ -43,17 +43,12 @@ placed t v f h k u = one_of (u == t) v (f u) k (h u)
 here : (w : World system) → AreServing w → (t : ℕ) (o : Open system) → w.active t ≡ Some o → IsServing (Some o)
 here w h t o e = subst IsServing e (h t)
 
--- a transaction that begins has a program of today
-abbrev pub IsBegun : theory.Step system → Type 0
-IsBegun (Begin t q) = HasProgram q
-IsBegun i = Unit {0}
-
-starts : (q : Request) → HasProgram q → IsServed (start_of q)
-starts (request.Payment q) h = tt
-starts (request.NewOrder q) h = tt
-starts (request.Delivery q) h = tt
-starts (request.Deliveries q) h = let less : 0 < 10 = omega arith in less
-starts (request.Rename q) h = absurd h
+starts : (q : Request) → IsServed (start_of q)
+starts (request.Payment q) = tt
+starts (request.NewOrder q) = tt
+starts (request.Delivery q) = tt
+starts (request.Deliveries q) = let less : 0 < 10 = omega arith in less
+starts (request.Rename q) = tt
 
 -- a stage that moves the mark puts it where the program stands
 marked : (b : Bool) (now mark : State system) → IsServed now.position → IsServed mark.position
@@ -61,47 +56,47 @@ marked : (b : Bool) (now mark : State system) → IsServed now.position → IsSe
 marked true now mark h k = h
 marked false now mark h k = k
 
-served_stay : (w : World system) (i : theory.Step system) (a : theory.Answer system) (w' : World system) → IsBegun i
+served_stay : (w : World system) (i : theory.Step system) (a : theory.Answer system) (w' : World system)
     → AreServing w → Next system w i a w' → AreServing w'
-served_stay w _ _ _ b h (begins t q m) = placed t (Some (begun system w t q)) w.active h (starts q b, starts q b)
-served_stay w _ _ _ b h (goes_on t o c p e g r room) =
+served_stay w _ _ _ h (begins t q m) = placed t (Some (begun system w t q)) w.active h (starts q, starts q)
+served_stay w _ _ _ h (goes_on t o c p e g r room) =
     placed t (Some (moved system w.layout o _ c p (tables system w))) w.active h (
       (goes (tx_of system t o) o.now.position (tables system w) c p (here w h t o e).0 r).0,
       marked
           (marks o.now.position) o.now o.mark (here w h t o e).0 (here w h t o e).1,
     )
-served_stay w _ _ _ b h (commits t o reply e g r) = placed t None w.active h tt
-served_stay w _ _ _ b h (saves t o e) = placed t (Some (record o { mark = o.now; mark_lengths = o.lengths })) w.active h
+served_stay w _ _ _ h (commits t o reply e g r) = placed t None w.active h tt
+served_stay w _ _ _ h (saves t o e) = placed t (Some (record o { mark = o.now; mark_lengths = o.lengths })) w.active h
     ((here w h t o e).0, (here w h t o e).0)
-served_stay w _ _ _ b h (goes_back t o e) = placed t (Some (record o { now = o.mark; lengths = o.mark_lengths }))
+served_stay w _ _ _ h (goes_back t o e) = placed t (Some (record o { now = o.mark; lengths = o.mark_lengths }))
     w.active h ((here w h t o e).1, (here w h t o e).1)
-served_stay w _ _ _ b h (rolls_back t o e) = placed t None w.active h tt
-served_stay w _ _ _ b h (reads m q f a l u k) = h
-served_stay w _ _ _ b h (audits m c l u) = h
-served_stay w _ _ _ b h (purges m l u) = h
-served_stay w _ _ _ b h (rewinds m q l u) = h
-served_stay w _ _ _ b h (stops t o e f r) = placed t None w.active h tt
-served_stay w _ _ _ b h (fails t o e f g r) = placed t None w.active h tt
-served_stay w _ _ _ b h (is_busy t o n m u e r g) = h
-served_stay w _ _ _ b h (is_full t o c p e g r f) = h
-served_stay w _ _ _ b h (is_rejected t q e r) = h
-served_stay w _ _ _ b h (is_open t q o r e) = h
-served_stay w _ _ _ b h (number_is_rejected t q e r c k) = h
-served_stay w _ _ _ b h (query_is_rejected m q e r) = h
-served_stay w _ _ _ b h (misses m q e r l u k) = h
-served_stay w _ _ _ b h (not_open s t e f) = h
-served_stay w _ _ _ b h (too_old s m e p l) = h
-served_stay w _ _ _ b h (future s m e p l) = h
-served_stay w _ _ _ b h (not_quiet m n e) = h
-served_stay w _ _ _ b h (lacks_memory_at_begin t q m) = h
-served_stay w _ _ _ b h (lacks_memory t o e m) = h
+served_stay w _ _ _ h (rolls_back t o e) = placed t None w.active h tt
+served_stay w _ _ _ h (reads m q f a l u k) = h
+served_stay w _ _ _ h (audits m c l u) = h
+served_stay w _ _ _ h (purges m l u) = h
+served_stay w _ _ _ h (rewinds m q l u) = h
+served_stay w _ _ _ h (stops t o e f r) = placed t None w.active h tt
+served_stay w _ _ _ h (fails t o e f g r) = placed t None w.active h tt
+served_stay w _ _ _ h (is_busy t o n m u e r g) = h
+served_stay w _ _ _ h (is_full t o c p e g r f) = h
+served_stay w _ _ _ h (is_rejected t q e r) = h
+served_stay w _ _ _ h (is_open t q o r e) = h
+served_stay w _ _ _ h (number_is_rejected t q e r c k) = h
+served_stay w _ _ _ h (query_is_rejected m q e r) = h
+served_stay w _ _ _ h (misses m q e r l u k) = h
+served_stay w _ _ _ h (not_open s t e f) = h
+served_stay w _ _ _ h (too_old s m e p l) = h
+served_stay w _ _ _ h (future s m e p l) = h
+served_stay w _ _ _ h (not_quiet m n e) = h
+served_stay w _ _ _ h (lacks_memory_at_begin t q m) = h
+served_stay w _ _ _ h (lacks_memory t o e m) = h
 
 -- WORLDS STAY REACHED
 
-pub next_live : (w : World system) (i : theory.Step system) (a : theory.Answer system) (w' : World system) → IsBegun i
+pub next_live : (w : World system) (i : theory.Step system) (a : theory.Answer system) (w' : World system)
     → IsLive (Some w) → Next system w i a w' → IsLive (Some w')
-next_live w i a w' b l n =
-    (run_is_reached system laws w w' (i ∷ []) (a ∷ []) l.0 (w', n, refl), served_stay w i a w' b l.1 n)
+next_live w i a w' l n =
+    (run_is_reached system laws w w' (i ∷ []) (a ∷ []) l.0 (w', n, refl), served_stay w i a w' l.1 n)
 
 -- A RUN ENDS
 

@@ -16,10 +16,13 @@ use Rattle.oe_rows.specs.declared.keys.OrderLineKey.{OrderLineKey}
 use Rattle.oe_rows.specs.declared.keys.Key.TheVariants as key
 use Rattle.oe_rows.specs.declared.orders.NewOrder.{NewOrder}
 use Rattle.oe_rows.specs.declared.orders.OrderLine.{OrderLine}
+use Rattle.oe_requests.specs.declared.requests.CustomerChoice.{CustomerChoice}
+use Rattle.oe_requests.specs.declared.requests.CustomerChoice.TheVariants.{Number, LastName}
 use Rattle.oe_requests.specs.declared.requests.PaymentRequest.{PaymentRequest}
 use Rattle.oe_requests.specs.declared.requests.NewOrderRequest.{NewOrderRequest}
 use Rattle.oe_requests.specs.declared.requests.DeliveryRequest.{DeliveryRequest}
 use Rattle.oe_requests.specs.declared.requests.DeliveriesRequest.{DeliveriesRequest}
+use Rattle.oe_requests.specs.declared.requests.RenameRequest.{RenameRequest}
 use Rattle.oe_requests.specs.declared.requests.Request.{Request}
 use Rattle.oe_requests.specs.declared.replies.DistrictDelivery.{DistrictDelivery}
 use Rattle.oe_requests.specs.declared.replies.DistrictDelivery.TheVariants.{Skipped}
@@ -35,11 +38,14 @@ use Rattle.oe_model.specs.Changes.{DeleteNewOrder}
 use Rattle.oe_model.specs.Choice.{chosen}
 use Rattle.oe_model.specs.Effects.{Doing}
 use Rattle.oe_model.specs.Positions.{Position, InPayment, InNewOrder, InDelivery, InDeliveries, DeliveriesEnd}
-use Rattle.oe_model.specs.Positions.{NoProgram, PaymentPosition, PaymentWarehouse, PaymentDistrict, PaymentCustomer}
-use Rattle.oe_model.specs.Positions.{PaymentHistory, PaymentEnd, NewOrderPosition, NewOrderWarehouse, NewOrderDistrict}
-use Rattle.oe_model.specs.Positions.{NewOrderCustomer, NewOrderOrder, NewOrderQueue, NewOrderStock, NewOrderLine}
+use Rattle.oe_model.specs.Payment.{behind_district}
+use Rattle.oe_model.specs.Positions.{PaymentPosition, PaymentWarehouse, PaymentDistrict, PaymentNames}
+use Rattle.oe_model.specs.Positions.{PaymentCustomer, PaymentHistory, PaymentEnd, NewOrderPosition, NewOrderWarehouse}
+use Rattle.oe_model.specs.Positions.{NewOrderDistrict, NewOrderCustomer, NewOrderOrder, NewOrderQueue, NewOrderStock}
+use Rattle.oe_model.specs.Positions.{NewOrderLine}
 use Rattle.oe_model.specs.Positions.{DeliveryPosition, DeliveryQueue, DeliveryNothing, DeliveryOrder, DeliveryLine}
-use Rattle.oe_model.specs.Positions.{DeliveryEnd}
+use Rattle.oe_model.specs.Positions.{DeliveryEnd, RenamePosition, RenameCustomer, RenameOld, RenameNew, RenameEnd}
+use Rattle.oe_model.specs.Positions.{InRename}
 use Rattle.oe_model.specs.NewOrder.{item_at, stock_of}
 use Rattle.oe_model.specs.Delivery.{Setting, end_of, alone, undelivered, oldest, lines_of, delivered, district_act}
 use Rattle.oe_model.specs.Deliveries.{in_district, at_hand, after_done, among_ten}
@@ -68,11 +74,12 @@ abbrev pub rank_from : DeliveriesRequest → Rows → ℕ → ℕ → ℕ
 rank_from q r d zero = 0
 rank_from q r d (suc n) = district_rank (in_district q d) r DeliveryQueue + rank_from q r (d + 1) n
 
--- how many rows of its program a payment, an order or a delivery has left before its commit, with these tables
+-- how many rows of its program a transaction has left before its commit, with these tables
 abbrev pub rank : Rows → Position → ℕ
-rank r (InPayment q PaymentWarehouse) = 4
-rank r (InPayment q (PaymentDistrict w)) = 3
-rank r (InPayment q (PaymentCustomer w d)) = 2
+rank r (InPayment q PaymentWarehouse) = 5
+rank r (InPayment q (PaymentDistrict w)) = 4
+rank r (InPayment q (PaymentNames w d)) = 3
+rank r (InPayment q (PaymentCustomer w d c)) = 2
 rank r (InPayment q (PaymentHistory d y)) = 1
 rank r (InPayment q (PaymentEnd y)) = 0
 rank r (InNewOrder q NewOrderWarehouse) = 5 + 2 * length q.lines
@@ -85,7 +92,10 @@ rank r (InNewOrder q (NewOrderLine s before done l f ls)) = 1 + 2 * length ls
 rank r (InDelivery q p) = district_rank q r p
 rank r (InDeliveries q done p) = district_rank (at_hand q done) r p + rank_from q r (length done + 2) (9 - length done)
 rank r (DeliveriesEnd done) = 0
-rank r NoProgram = 0
+rank r (InRename q RenameCustomer) = 3
+rank r (InRename q (RenameOld last)) = 2
+rank r (InRename q (RenameNew last)) = 1
+rank r (InRename q (RenameEnd last)) = 0
 
 -- a row that goes on leads to such a position, with fewer rows left in the tables after it
 abbrev pub Falls : Rows → ℕ → Doing → Type 0
@@ -96,23 +106,35 @@ lands : (r : Rows) (d c : Option Change) (p z : Position) (n : ℕ) → ◌≡�
     → rank (with_change system (Go d p) r) p < n → Falls r n (Go c z)
 lands r d c p z n e a b = subst (Falls r n) e (a, b)
 
+-- the district's stage leads to the customer, of a payment by name past the names
+behind_lands : (r : Rows) (d c : Option Change) (z : Position) (q : PaymentRequest) (who : CustomerChoice)
+    (w n : List ℕ) → ◌≡◌ {A = Doing} (Go d (InPayment q (behind_district who w n))) (Go c z) → Falls r 4 (Go c z)
+behind_lands r d c z q (Number b) w n e =
+    let less : 2 < 4 = omega arith in
+    lands r d c _ z 4 e tt less
+behind_lands r d c z q (LastName last) w n e =
+    let less : 3 < 4 = omega arith in
+    lands r d c _ z 4 e tt less
+
 payment_goes : (x : Tx Request) (q : PaymentRequest) (p : PaymentPosition) (r : Rows) (c : Option Change) (z : Position)
     → act x (InPayment q p) r ≡ Go c z
     → Falls r (rank r (InPayment q p)) (Go c z)
 payment_goes x q PaymentWarehouse r c z e =
     let (y, here, e1) = given_goes (refusal.NoSuchRow (key.Warehouse (warehouse_of_district q.district)))
     (get r.warehouses (warehouse_of_district q.district)) _ c z e in
-    let less : 3 < 4 = omega arith in
-    lands r _ c _ z 4 (within_goes _ _ c z e1) tt less
+    let less : 4 < 5 = omega arith in
+    lands r _ c _ z 5 (within_goes _ _ c z e1) tt less
 payment_goes x q (PaymentDistrict w) r c z e =
     let (y, here, e1) = given_goes (refusal.NoSuchRow (key.District q.district)) (get r.districts q.district) _ c z e in
-    let less : 2 < 3 = omega arith in
-    lands r _ c _ z 3 (within_goes _ _ c z e1) tt less
-payment_goes x q (PaymentCustomer w d) r c z e =
+    behind_lands r _ c z q q.customer w y.name (within_goes _ _ c z e1)
+payment_goes x q (PaymentNames w d) r c z e =
     let (b, found, e1) = given_goes refusal.NoCustomer (chosen q.customer_district q.customer r.customers) _ c z e in
-    let (y, here, e2) = given_goes refusal.NoCustomer (get r.customers (customer_in q.customer_district b)) _ c z e1 in
+    let less : 2 < 3 = omega arith in
+    lands r _ c _ z 3 e1 tt less
+payment_goes x q (PaymentCustomer w d b) r c z e =
+    let (y, here, e1) = given_goes refusal.NoCustomer (get r.customers (customer_in q.customer_district b)) _ c z e in
     let less : 1 < 2 = omega arith in
-    lands r _ c _ z 2 (within_goes _ _ c z e2) tt less
+    lands r _ c _ z 2 (within_goes _ _ c z e1) tt less
 payment_goes x q (PaymentHistory d y) r c z e =
     let less : 0 < 1 = omega arith in
     lands r _ c _ z 1 e tt less
@@ -149,6 +171,22 @@ new_order_goes x q (NewOrderStock s before done (l ∷ ls)) r c z e =
 new_order_goes x q (NewOrderLine s before done l f ls) r c z e =
     let less : 2 * length ls < 1 + 2 * length ls = omega arith in
     lands r _ c _ z (1 + 2 * length ls) e tt less
+
+rename_goes : (x : Tx Request) (q : RenameRequest) (p : RenamePosition) (r : Rows) (c : Option Change) (z : Position)
+    → act x (InRename q p) r ≡ Go c z
+    → Falls r (rank r (InRename q p)) (Go c z)
+rename_goes x q RenameCustomer r c z e =
+    let (y, here, e1) = given_goes refusal.NoCustomer (get r.customers q.customer) _ c z e in
+    let less : 2 < 3 = omega arith in
+    lands r _ c _ z 3 e1 tt less
+rename_goes x q (RenameOld last) r c z e =
+    let less : 1 < 2 = omega arith in
+    lands r _ c _ z 2 e tt less
+rename_goes x q (RenameNew last) r c z e =
+    let (y, here, e1) = given_goes refusal.NoCustomer (get r.customers q.customer) _ c z e in
+    let less : 0 < 1 = omega arith in
+    lands r _ c _ z 1 e1 tt less
+rename_goes x q (RenameEnd last) r c z e = let no : ⊥ = cc in absurd no
 
 -- A STAGE OF A DISTRICT'S DELIVERY
 
@@ -387,4 +425,4 @@ goes x (InNewOrder q p) r c z h e = new_order_goes x q p r c z e
 goes x (InDelivery q p) r c z h e = delivery_goes x q p r c z e
 goes x (InDeliveries q done p) r c z h e = deliveries_goes x q done p r c z h e
 goes x (DeliveriesEnd done) r c z h e = let no : ⊥ = cc in absurd no
-goes x NoProgram r c z h e = absurd h
+goes x (InRename q p) r c z h e = rename_goes x q p r c z e

@@ -1,12 +1,11 @@
-//! What the types of a request say: that its numbers and its name are in their ranges. All are
+//! What the types of a request say: that its numbers and its names are in their ranges. All are
 //! laws, and do nothing.
 ghost use Rattle.std.specs.List.{All};
-ghost use Rattle.oe_model.specs.Requests.{IsDistrict, IsChoice, IsPayment, IsRequestLine, IsNewOrder, IsDelivery, IsDeliveries, IsRequest};
-ghost use Rattle.oe_admission.specs.Programs.{HasProgram};
+ghost use Rattle.oe_model.specs.Requests.{IsDistrict, IsChoice, IsPayment, IsRequestLine, IsNewOrder, IsDelivery, IsDeliveries, IsRename, IsRequest};
 
 use oe_requests::{
-    CustomerChoice, DeliveriesRequest, DeliveryRequest, NewOrderRequest, PaymentRequest, Request,
-    RequestLine,
+    CustomerChoice, DeliveriesRequest, DeliveryRequest, NewOrderRequest, PaymentRequest,
+    RenameRequest, Request, RequestLine,
 };
 use oe_rows::DistrictKey;
 
@@ -89,10 +88,20 @@ fn deliveries_hold(deliveries: &DeliveriesRequest)
     let _stamp = deliveries.stamp.seconds();
 }
 
-/// Says that a request which has a program is in its ranges.
+#[inline]
+fn rename_holds(rename: &RenameRequest)
+    ensures { IsRename rename.now }
+{
+    let _warehouse = rename.customer.warehouse.get();
+    let _district = rename.customer.district.get();
+    let _customer = rename.customer.customer.get();
+    let _last = rename.last.as_str();
+    let _first = rename.first.as_str();
+}
+
+/// Says that a request is in its ranges.
 #[inline]
 pub fn ranges_hold(request: &Request)
-    requires { HasProgram request.now }
     ensures { IsRequest request.now }
 {
     match request {
@@ -100,6 +109,6 @@ pub fn ranges_hold(request: &Request)
         Request::NewOrder(order) => order_holds(order),
         Request::Delivery(delivery) => delivery_holds(delivery),
         Request::Deliveries(deliveries) => deliveries_hold(deliveries),
-        _ => unreachable!(),
+        Request::Rename(rename) => rename_holds(rename),
     }
 }

@@ -4,7 +4,6 @@ ghost use Rattle.std.specs.Prelude.{◌≡◌, [], ◌∷◌, map};
 ghost use Rattle.oe_model.specs.Requests.{first_absent};
 ghost use Rattle.oe_model.specs.Requests as model;
 ghost use Rattle.oe_store.specs.Places.{rows};
-ghost use Rattle.oe_admission.specs.Programs.{HasProgram};
 
 use oe_requests::{PaymentRequest, Refusal, Request, RequestLine};
 use oe_rows::{Key, WarehouseKey};
@@ -56,7 +55,6 @@ fn absent_supply(tables: &Tables, lines: &[RequestLine]) -> Option<Refusal>
 /// Gives `NoSuchRow` of the first warehouse, from the left, that the request names and that isn't
 /// there.
 pub fn rejection(tables: &Tables, request: &Request) -> Option<Refusal>
-    requires { HasProgram request.now }
     ensures { result ≡ model.rejection request.now (rows tables.now) }
 {
     match request {
@@ -67,6 +65,6 @@ pub fn rejection(tables: &Tables, request: &Request) -> Option<Refusal>
         },
         Request::Delivery(delivery) => absent(tables, delivery.district.warehouse),
         Request::Deliveries(deliveries) => absent(tables, deliveries.warehouse.warehouse),
-        _ => unreachable!(),
+        Request::Rename(rename) => absent(tables, rename.customer.warehouse),
     }
 }

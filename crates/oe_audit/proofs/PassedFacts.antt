@@ -1,8 +1,7 @@
 -- Walks of the rows that stand pass each row of a moment, and each row that stands.
-use Rattle.std.proofs.Common.{◌≡◌, ℕ, Option, Some, None, refl, sym, ◌∙◌, ap}
-use Rattle.std.specs.Prelude.{is_some, IsSome, option_map}
+use Rattle.std.proofs.Common.{ℕ, refl, sym, ◌∙◌, ap}
+use Rattle.std.specs.Prelude.{is_some, option_map}
 use Rattle.std.specs.FinMap.{get}
-use Rattle.oe_rows.specs.declared.customers.Customer.{Customer}
 use Rattle.oe_rows.specs.declared.keys.Key.TheVariants as key
 use Rattle.oe_rows.specs.declared.rows.Row.TheVariants as row
 use Rattle.oe_theory.specs.Store.{Store}
@@ -15,17 +14,9 @@ use Rattle.oe_store.specs.Places.{rows}
 use Rattle.oe_store.specs.Places as tables
 use Rattle.oe_log.specs.Log.{SegmentLog}
 use Rattle.oe_log.specs.Moments.{store_with}
-use Rattle.oe_versions.specs.Lasting.{names_of}
 use Rattle.oe_versions.specs.Versions.{version, Stand}
 use Rattle.oe_versions.proofs.LastingFacts.{rows_last, versions_meet}
 use Rattle.oe_audit.specs.AsOf.{ArePassed}
-
--- a customer has its names at all times
-named : (a b : Option Customer) → names_of (option_map row.Customer a) ≡ names_of (option_map row.Customer b) → IsSome a
-    → IsSome b
-named None b e h = let no : ⊥ = cc in absurd no
-named (Some x) None e h = let no : ⊥ = cc in absurd no
-named (Some x) (Some y) e h = refl
 
 pub passed_now : (r : Rows) → Meets r → ArePassed r r
 passed_now r m = record {
@@ -53,8 +44,9 @@ module _ (ts : tables.Places) (u : SegmentLog) (m : ℕ) (h : Stand ts u) where
     districts = λ k there.
         sym (some-map row.District (get (rows ts).districts k)) ∙ sym (rows_last store m (key.District k) h.1)
         ∙ some-map row.District (get past.districts k) ∙ there;
-    customers = λ k there. named (get past.customers k) (get (rows ts).customers k)
-        (rows_last store m (key.Customer k) h.1) there;
+    customers = λ k there.
+        sym (some-map row.Customer (get (rows ts).customers k)) ∙ sym (rows_last store m (key.Customer k) h.1)
+        ∙ some-map row.Customer (get past.customers k) ∙ there;
     histories = λ k there.
         un_history (get (rows ts).histories k) (get past.histories k)
         (rows_last store m (key.History k) h.1 (some-map row.History (get past.histories k) ∙ there));

@@ -1,11 +1,13 @@
 -- What a change makes of the tables, and why one is refused.
-use Rattle.std.specs.Prelude.{◌≡◌, true, Some, is_some, is_none, not}
+use Rattle.std.specs.Prelude.{◌≡◌, ◌≢◌, ◌⊎◌, true, Some, is_some, is_none, not}
+use Rattle.std.specs.FinMap.{get}
 use Rattle.std.specs.List.{find}
+use Rattle.oe_rows.specs.declared.customers.Customer.{Customer}
 use Rattle.oe_rows.specs.declared.layouts.Layout.{Layout}
 use Rattle.oe_requests.specs.declared.refusals.Refusal.{Refusal}
 use Rattle.oe_requests.specs.declared.refusals.Refusal.TheVariants.{Reference, NoMemory}
 use Rattle.oe_model.specs.Rows.{Rows, row_at}
-use Rattle.oe_model.specs.Changes.{Change, key_of, changed, Record, record_in}
+use Rattle.oe_model.specs.Changes.{Change, UpdateCustomer, key_of, changed, Record, record_in}
 use Rattle.oe_model.specs.Meets.{Accepts, Cause, is_insert, referred}
 use Rattle.oe_layout.specs.declared.records.OwnRecord.{OwnRecord}
 use Rattle.oe_layout.specs.Records.{record_of_own}
@@ -23,10 +25,18 @@ pub record Applies (l : Layout) (c : Change) (old new : Places) (b : Record) : T
 abbrev pub HasApplied : Layout → Change → Places → Places → OwnRecord → Type 0
 HasApplied l c old new b = Applies l c old new (record_of_own b)
 
--- why a change is refused: the cause is there, or, for an insert that the tables accept, its key has no place and takes
--- memory
+-- an update gives a customer another C_LAST
+abbrev pub Renames : Change → Rows → Type 0
+Renames (UpdateCustomer k x) r = (y : Customer) × (get r.customers k ≡ Some y) × (x.name.last ≢ y.name.last)
+Renames _ r = ⊥
+
+-- a change takes memory: the key of an insert has no place, or customers are to be found by another C_LAST
+abbrev pub WantsMemory : Change → Places → Type 0
+WantsMemory c s = ((is_insert c ≡ true) × (HasPlace s (key_of c) → ⊥)) ⊎ Renames c (rows s)
+
+-- why a change is refused: the cause is there, or the tables accept it, and it takes memory
 abbrev pub Refuses : Change → Places → Refusal → Type 0
-Refuses c s NoMemory = (is_insert c ≡ true) × Accepts c (rows s) × (HasPlace s (key_of c) → ⊥)
+Refuses c s NoMemory = Accepts c (rows s) × WantsMemory c s
 Refuses c s e = Cause c (rows s) e
 
 -- of several causes the first is named: the change's key comes before what its row refers to, and that in its order

@@ -7,10 +7,11 @@ use Rattle.oe_rows.specs.Credit.{with_entry}
 use Rattle.oe_rows.specs.Item.{with_counters}
 use Rattle.oe_model.specs.Rows.{Rows}
 use Rattle.oe_model.specs.Changes as model
+use Rattle.oe_model.specs.Rename.{with_names}
 use Rattle.oe_change.specs.declared.writes.Write.{Write}
 use Rattle.oe_change.specs.declared.writes.Write.TheVariants.{WarehouseYtd, DistrictYtd, NextOrder, CustomerAccount}
-use Rattle.oe_change.specs.declared.writes.Write.TheVariants.{BadCredit, StockCounters, Carrier, DeliveryDate}
-use Rattle.oe_change.specs.declared.writes.Write.TheVariants.{InsertHistory, InsertNewOrder, InsertOrder}
+use Rattle.oe_change.specs.declared.writes.Write.TheVariants.{BadCredit, CustomerNames, StockCounters, Carrier}
+use Rattle.oe_change.specs.declared.writes.Write.TheVariants.{DeliveryDate, InsertHistory, InsertNewOrder, InsertOrder}
 use Rattle.oe_change.specs.declared.writes.Write.TheVariants.{InsertOrderLine, DeleteNewOrder}
 
 -- the key of the row that it changes
@@ -20,6 +21,7 @@ key_written (DistrictYtd k y) = key.District k
 key_written (NextOrder k n) = key.District k
 key_written (CustomerAccount k a) = key.Customer k
 key_written (BadCredit k a e) = key.Customer k
+key_written (CustomerNames k l f) = key.Customer k
 key_written (StockCounters k n) = key.Stock k
 key_written (Carrier k c) = key.Order k
 key_written (DeliveryDate k t) = key.OrderLine k
@@ -38,6 +40,7 @@ written (NextOrder k n) r = option_map (λ d. model.UpdateDistrict k (record d {
 written (CustomerAccount k a) r = option_map (λ c. model.UpdateCustomer k (record c { account = a }))
     (get r.customers k)
 written (BadCredit k a e) r = option_map (λ c. model.UpdateCustomer k (with_entry a e c)) (get r.customers k)
+written (CustomerNames k l f) r = option_map (λ c. model.UpdateCustomer k (with_names l f c)) (get r.customers k)
 written (StockCounters k n) r = option_map (λ s. model.UpdateStock k (with_counters n s)) (get r.stocks k)
 written (Carrier k c) r = option_map (λ o. model.UpdateOrder k (record o { carrier = Some c })) (get r.orders k)
 written (DeliveryDate k t) r = option_map (λ l. model.UpdateOrderLine k (record l { delivery = Some t }))

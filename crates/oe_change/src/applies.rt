@@ -21,9 +21,9 @@ use oe_store::Tables;
 ///
 /// `NoSuchRow`: the key of an update or a delete is absent. `RowExists`: the key of an insert is
 /// there. `Reference`: what the new row refers to is absent (clauses 1.3 and 1.4). `KeyColumn`: an
-/// update changes C_LAST, C_FIRST or O_C_ID. `NoMemory`: the tables accept the insert, but its key
-/// takes a new place, and its memory was refused. A column can't leave its range, since rows are in
-/// their ranges by type.
+/// update changes O_C_ID. `NoMemory`: the tables accept the change, but the key of an insert takes
+/// a new place, or an update changes C_LAST, and its memory was refused. A column can't leave its
+/// range, since rows are in their ranges by type.
 pub fn apply(tables: &mut Tables, layout: Layout, change: Change) -> Result<OwnRecord, Refusal>
     ensures applied { IfOk result (HasApplied layout (change_of change) tables.old tables.new) }
 

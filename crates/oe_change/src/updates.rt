@@ -1,5 +1,5 @@
-//! Updates and deletes, which take no memory: the key is there, columns that other rows are found
-//! by stay, and what the row refers to is there.
+//! Updates and deletes: the key is there, O_C_ID stays, and what the row refers to is there. Only
+//! another C_LAST takes memory, since customers are found by it.
 ghost use Rattle.std.specs.Prelude.{◌≡◌, IfOk, IfErr, OnErr};
 ghost use Rattle.oe_rows.specs.declared.layouts.Layout.{Layout};
 ghost use Rattle.oe_model.specs.Changes.{UpdateWarehouse, UpdateDistrict, UpdateCustomer, UpdateOrder, UpdateOrderLine, UpdateStock, DeleteNewOrder};
@@ -61,7 +61,8 @@ pub(crate) fn update_district(
     Ok(record)
 }
 
-/// Puts another CUSTOMER row with the same C_LAST and C_FIRST in the place of a key's.
+/// Puts another CUSTOMER row in the place of a key's. `NoMemory`: C_LAST is another, and its memory
+/// was refused. Nothing has changed then.
 #[inline(never)]
 pub(crate) fn update_customer(
     tables: &mut Tables,
@@ -78,15 +79,11 @@ pub(crate) fn update_customer(
     let Some(old) = tables.customer(*key) else {
         return Err(Refusal::NoSuchRow(Key::Customer(*key)));
     };
-    if row.name.last != old.name.last {
-        return Err(Refusal::KeyColumn);
-    }
-    if row.name.first != old.name.first {
-        return Err(Refusal::KeyColumn);
-    }
     let record = customer_record(layout, key, old, &row);
-    drop(tables.update_customer(*key, row));
-    Ok(record)
+    match tables.update_customer(*key, row) {
+        Ok(_before) => Ok(record),
+        Err(_) => Err(Refusal::NoMemory),
+    }
 }
 
 /// Puts another ORDER row with the same O_C_ID in the place of a key's.

@@ -14,9 +14,10 @@ use oe_values::numbers::{Carrier, OrderNumber, YearToDate};
 use oe_values::stamps::Stamp;
 use oe_values::texts::Text;
 
-/// What a transaction writes to one row (clauses 2.4.2, 2.5.2 and 2.7.4): under its key the columns
-/// that an update sets, the row that is inserted, or nothing but the key of a row that is deleted.
-/// An update has no column that it does not set, so that it is short; it is passed by reference.
+/// What a transaction writes to one row (clauses 2.4.2, 2.5.2 and 2.7.4, and renames): under its
+/// key the columns that an update sets, the row that is inserted, or nothing but the key of a row
+/// that is deleted. An update has no column that it does not set, so that it is short; it is passed
+/// by reference.
 #[derive(Drop)]
 pub enum Write {
     /// W_YTD.
@@ -29,6 +30,8 @@ pub enum Write {
     CustomerAccount(CustomerKey, Account),
     /// The account of a customer with bad credit, and the entry that goes before C_DATA.
     BadCredit(CustomerKey, Account, Text<0, 90>),
+    /// C_LAST and C_FIRST.
+    CustomerNames(CustomerKey, Text<0, 16>, Text<0, 16>),
     /// S_QUANTITY, S_YTD, S_ORDER_CNT and S_REMOTE_CNT.
     StockCounters(StockKey, StockCounters),
     /// O_CARRIER_ID.
@@ -55,6 +58,7 @@ impl Write {
             Write::NextOrder(key, _) => Key::District(*key),
             Write::CustomerAccount(key, _) => Key::Customer(*key),
             Write::BadCredit(key, _, _) => Key::Customer(*key),
+            Write::CustomerNames(key, _, _) => Key::Customer(*key),
             Write::StockCounters(key, _) => Key::Stock(*key),
             Write::Carrier(key, _) => Key::Order(*key),
             Write::DeliveryDate(key, _) => Key::OrderLine(*key),

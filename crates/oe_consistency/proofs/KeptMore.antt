@@ -19,6 +19,7 @@ use Rattle.oe_model.proofs.SystemLaws.{laws}
 use Rattle.oe_consistency.proofs.PaymentMore.{payment_more}
 use Rattle.oe_consistency.proofs.NewOrderMore.{new_order_more}
 use Rattle.oe_consistency.proofs.DeliveryMore.{delivery_more, deliveries_more}
+use Rattle.oe_consistency.proofs.RenameMore.{rename_more}
 
 -- by the request, of tables on which its HISTORY row is new
 by_request : (f : ℕ → ℕ) (x : Tx Request) (r after : Rows) (y : Reply) → IsGood system f x r → More r
@@ -29,7 +30,7 @@ by_request f x r after y g more new (request.NewOrder q) e = new_order_more q r 
     more e
 by_request f x r after y g more new (request.Delivery q) e = delivery_more q r after y more e
 by_request f x r after y g more new (request.Deliveries q) e = deliveries_more q r after y more e
-by_request f x r after y g more new (request.Rename q) e = let no : ⊥ = cc in absurd no
+by_request f x r after y g more new (request.Rename q) e = rename_more q r after y more e
 
 pub kept : IsKept system More
 kept f x r after y g e more = by_request f x r after y g more

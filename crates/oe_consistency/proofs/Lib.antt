@@ -3,5 +3,6 @@ mod RowSums
 mod PaymentMore
 mod NewOrderMore
 mod DeliveryMore
+pub mod RenameMore
 pub mod KeptMore
 pub mod PopulationMore

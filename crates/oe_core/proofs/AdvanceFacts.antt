@@ -45,7 +45,7 @@ use Rattle.oe_core.specs.Core.{store_of, world_of, IsOrderly, Moves, keeps_open}
 use Rattle.oe_core.specs.Steps.{refusal_in, Carries}
 use Rattle.oe_core.specs.Works.{WorkState, HoldsTaken, gone_on}
 use Rattle.oe_model.specs.Positions.{Position}
-use Rattle.oe_core.proofs.WantFacts.{allocates}
+use Rattle.oe_core.proofs.WantFacts.{wants_in, allocates}
 use Rattle.oe_core.proofs.SlotFacts.{get_slot, get_set_same}
 use Rattle.oe_core.proofs.MoveFacts.{within, works_within, standing, carries, the_steps, has_work, HasOpen, slot_here}
 use Rattle.oe_core.proofs.MoveFacts.{own_work, worked, emptied, open_still, tx_still, dropped_here}
@@ -352,7 +352,8 @@ kept_lead s t y w o NoMemory kp h =
     new (inl a) = inl (subst
         (λ z. IsNew system z (ask (tx_in system t (here s t y w o)) w.position (view_of s.engine).rows)) own
         (subst (IsNew system ((view_of s.engine).held y.terminal)) (asked_here s t y w o) a))
-    new (inr a) = inr (allocates (tx_of s.engine y w.request) w.position (view_of s.engine).rows a.0 a.1 a.2 a.3.0)
+    new (inr a) = inr (allocates (tx_of s.engine y w.request) w.position (view_of s.engine).rows a.0 a.1 a.2
+        (wants_in s.engine a.0 a.3))
 kept_lead s t y w o NotOpen kp h = let no : ⊥ = cc in absurd no
 kept_lead s t y w o AlreadyOpen kp h = let no : ⊥ = cc in absurd no
 kept_lead s t y w o InvalidItem kp h = let no : ⊥ = cc in absurd no

@@ -11,4 +11,3 @@ pub mod PastFacts
 mod SendFacts
 pub mod CountFacts
 mod AskFacts
-pub mod LiveFacts

@@ -1,10 +1,9 @@
 -- Steps and answers as the theory of transactions has them, and what a step may be answered.
-use Rattle.std.specs.Prelude.{◌≡◌, ℕ, Option, None, Some, Result, Ok, Err}
+use Rattle.std.specs.Prelude.{◌≡◌, ℕ, Option, Some, Result, Ok, Err}
 use Rattle.oe_theory.specs.World.{World}
 use Rattle.oe_theory.specs.Next as theory
 use Rattle.oe_theory.specs.Next.{Next}
 use Rattle.oe_theory.specs.Theorems.{IsReached}
-use Rattle.oe_requests.specs.declared.requests.Request.{Request}
 use Rattle.oe_requests.specs.declared.refusals.Refusal.{Refusal}
 use Rattle.oe_requests.specs.declared.refusals.Refusal.TheVariants as refusal
 use Rattle.oe_requests.specs.declared.replies.Reply.{Reply}
@@ -73,8 +72,3 @@ Advances w t advanced.More w' last = Carries w (step.Advance t) answer.More w'
 Advances w t (advanced.Committed m) w' last = (y : Reply) × (last ≡ Some y)
     × Carries w (step.Advance t) (answer.Committed m y) w'
 Advances w t (advanced.Refused e) w' last = Carries w (step.Advance t) (answer.Refused e) w'
-
--- the request that a step begins a transaction with
-abbrev pub begins_with : Step → Option Request
-begins_with (step.Begin t q) = Some q
-begins_with i = None

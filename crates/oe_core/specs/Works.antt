@@ -2,7 +2,7 @@
 use Rattle.std.specs.Prelude.{◌≡◌, ℕ, cond}
 use Rattle.oe_requests.specs.declared.requests.Request.{Request}
 use Rattle.oe_requests.specs.declared.requests.Request.TheVariants as request
-use Rattle.oe_model.specs.Positions.{Position, InPayment, InNewOrder, InDelivery}
+use Rattle.oe_model.specs.Positions.{Position, InPayment, InNewOrder, InDelivery, InRename}
 use Rattle.oe_model.specs.System.{taken, start_of, marks}
 use Rattle.oe_engine.specs.View.{EngineState, view_of, Handle}
 use Rattle.oe_engine.specs.Programs.{tx_of}
@@ -12,6 +12,7 @@ use Rattle.oe_engine.specs.Stages.{HoldsAll}
 use Rattle.oe_delivery.specs.Program as delivery
 use Rattle.oe_delivery.specs.Deliveries.{place_of}
 use Rattle.oe_neworder.specs.Program as neworder
+use Rattle.oe_rename.specs.Program as rename
 use Rattle.oe_core.specs.declared.works.Task.{Task}
 use Rattle.oe_core.specs.declared.works.Task.TheVariants as task
 
@@ -41,6 +42,13 @@ state_of (task.Delivery q p m) n =
     }
 state_of (task.Deliveries q p m) n =
     record { request = request.Deliveries q; position = place_of q p; mark = place_of q m; mark_records = n }
+state_of (task.Rename q p m) n =
+    record {
+      request = request.Rename q;
+      position = InRename q (rename.position_of p);
+      mark = InRename q (rename.position_of m);
+      mark_records = n;
+    }
 
 -- work for a request whose transaction has just begun: the program and the mark stand at its first row
 abbrev pub begun : Request → WorkState

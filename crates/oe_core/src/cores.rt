@@ -16,8 +16,7 @@ ghost use Rattle.oe_store.specs.Places.{rows};
 ghost use Rattle.oe_engine.specs.View.{view_of, IsOpen};
 ghost use Rattle.oe_engine.specs.Calls.{committed, rolled_back};
 ghost use Rattle.oe_engine.specs.Programs.{hold_of, reply_at};
-ghost use Rattle.oe_admission.specs.Programs.{HasProgram};
-ghost use Rattle.oe_core.specs.Steps.{step_in, answer_in, Carries, begin_answer, Advances, begins_with};
+ghost use Rattle.oe_core.specs.Steps.{step_in, answer_in, Carries, begin_answer, Advances};
 ghost use Rattle.oe_core.specs.Asks.{held_by, wanted_by};
 ghost use Rattle.oe_core.specs.Core.{world_of, last_reply, keeps_open, IsEndable, IsEnded};
 
@@ -180,7 +179,6 @@ impl Core {
     // In its callers, so that an answer is not copied from layer to layer.
     #[inline(always)]
     pub fn step(&mut self, step: Step) -> Answer
-        requires { IfSome (begins_with step) HasProgram }
         ensures serves { Next system (world_of self.old) (step_in step) (answer_in step result)
             (world_of self.new) }
         ensures reached { IsReached system (world_of self.new) }
@@ -263,7 +261,6 @@ impl Core {
 
     // A Begin, and its answer.
     fn answer_begin(&mut self, terminal: Terminal, request: &Request) -> Answer
-        requires { HasProgram request.now }
         ensures { Carries (world_of self.old) (Step.Begin terminal request.now) result
             (world_of self.new) }
     {
@@ -294,7 +291,6 @@ impl Core {
     /// `NoMemory`. The first of these is named, and nothing has changed.
     #[inline(never)]
     pub fn begin(&mut self, terminal: Terminal, request: &Request) -> Result<(), Refusal>
-        requires { HasProgram request.now }
         ensures { Carries (world_of self.old) (Step.Begin terminal request.now)
             (begin_answer result) (world_of self.new) }
     {

@@ -2,7 +2,6 @@
 //! transactions, and what these carry out.
 ghost use Rattle.std.specs.Prelude.{◌≡◌, ◌≤◌, suc, Some, None, IsSome, IfOk, slice_get, slice_set, replicate};
 ghost use Rattle.oe_values.specs.declared.numbers.TheConstants.{TERMINALS};
-ghost use Rattle.oe_admission.specs.Programs.{HasProgram};
 ghost use Rattle.oe_core.specs.Core.{in_slot};
 ghost use Rattle.oe_core.specs.Works.{begun};
 
@@ -60,7 +59,6 @@ pub fn put_tx(txs: &mut PerTerminal<Option<Tx>>, terminal: Terminal, tx: Tx)
 // In a slot: over what an earlier transaction left there, if there was one.
 #[inline]
 fn begin_slot(slot: &mut Option<Work>, request: &Request)
-    requires { HasProgram request.now }
     ensures { slot.new ≡ Some (begun request.now) }
 {
     match slot {
@@ -72,7 +70,6 @@ fn begin_slot(slot: &mut Option<Work>, request: &Request)
 // In a slot where no transaction has been.
 #[inline(never)]
 fn begin_first(slot: &mut Option<Work>, request: &Request)
-    requires { HasProgram request.now }
     ensures { slot.new ≡ Some (begun request.now) }
 {
     *slot = Some(Work::new(request));
@@ -82,7 +79,6 @@ fn begin_first(slot: &mut Option<Work>, request: &Request)
 /// Over what an earlier one left there it is written part by part, since the whole is long.
 #[inline]
 pub fn begin_work(works: &mut PerTerminal<Option<Work>>, terminal: Terminal, request: &Request)
-    requires { HasProgram request.now }
     ensures { works.new
         ≡ slice_set works.old terminal (Some (begun request.now)) }
 {

@@ -11,13 +11,13 @@ ghost use Rattle.oe_theory.specs.Machine as theory;
 ghost use Rattle.oe_model.specs.System.{ask};
 ghost use Rattle.oe_store.specs.Places.{rows};
 ghost use Rattle.oe_engine.specs.Programs.{Progresses, hold_of, reply_at, wanted};
-ghost use Rattle.oe_admission.specs.Programs.{HasProgram};
 ghost use Rattle.oe_delivery.specs.Deliveries.{place_of, HoldsNames};
 ghost use Rattle.oe_core.specs.Works.{begun, state_of, HoldsTaken, Leaves};
 
 use oe_engine::{Engine, Lock, Progress, Savepoint, Tx};
 use oe_requests::{
-    DeliveriesRequest, DeliveryRequest, NewOrderRequest, PaymentRequest, Reply, ReplyRef, Request,
+    DeliveriesRequest, DeliveryRequest, NewOrderRequest, PaymentRequest, RenameRequest, Reply,
+    ReplyRef, Request,
 };
 use oe_store::Tables;
 use std::marker::Model;
@@ -46,6 +46,11 @@ pub(crate) enum Task {
         program: oe_delivery::Deliveries,
         mark: oe_delivery::Deliveries,
     },
+    Rename {
+        request: RenameRequest,
+        program: oe_rename::Program,
+        mark: oe_rename::Program,
+    },
 }
 
 /// What an open transaction carries out. Clauses see it as its request, the positions of its
@@ -67,7 +72,6 @@ impl Model for Work {
 impl Task {
     /// Gives the task of a request whose transaction has just begun.
     fn new(request: &Request) -> Self
-        requires { HasProgram request.now }
         ensures { state_of result 0 ≡ begun request.now }
     {
         match request {
@@ -91,7 +95,11 @@ impl Task {
                 program: oe_delivery::Deliveries::new(),
                 mark: oe_delivery::Deliveries::new(),
             },
-            _ => unreachable!(),
+            Request::Rename(rename) => Task::Rename {
+                request: rename.copied(),
+                program: oe_rename::Program::new(),
+                mark: oe_rename::Program::new(),
+            },
         }
     }
 }
@@ -99,7 +107,6 @@ impl Task {
 impl Work {
     /// Begins the work of a transaction of this request.
     pub fn new(request: &Request) -> Self
-        requires { HasProgram request.now }
         ensures { result ≡ begun request.now }
     {
         Work {
@@ -111,7 +118,6 @@ impl Work {
     /// Becomes the work of a transaction of this request, which has just begun.
     #[inline]
     pub fn start(&mut self, request: &Request)
-        requires { HasProgram request.now }
         ensures { self.new ≡ begun request.now }
     {
         match &mut self.task {
@@ -136,7 +142,6 @@ impl Work {
     // payment's start does without.
     #[inline(never)]
     fn start_other(&mut self, request: &Request)
-        requires { HasProgram request.now }
         ensures { self.new ≡ begun request.now }
     {
         *self = Work::new(request);
@@ -160,6 +165,7 @@ impl Work {
             Task::NewOrder { program, mark, .. } => *mark = program.copied(),
             Task::Delivery { program, mark, .. } => *mark = program.copied(),
             Task::Deliveries { program, mark, .. } => *mark = program.copied(),
+            Task::Rename { program, mark, .. } => *mark = program.copied(),
         }
     }
 
@@ -172,6 +178,7 @@ impl Work {
             Task::NewOrder { program, mark, .. } => *program = mark.copied(),
             Task::Delivery { program, mark, .. } => *program = mark.copied(),
             Task::Deliveries { program, mark, .. } => *program = mark.copied(),
+            Task::Rename { program, mark, .. } => *program = mark.copied(),
         }
     }
 
@@ -198,6 +205,11 @@ impl Work {
                 Some(reply) => Some(ReplyRef::Deliveries(reply)),
                 None => None,
             },
+            Task::Rename {
+                request: rename,
+                program,
+                ..
+            } => program.reply(rename),
         }
     }
 
@@ -238,6 +250,7 @@ impl Work {
             Task::NewOrder { request, .. } => Request::NewOrder(request.copied()),
             Task::Delivery { request, .. } => Request::Delivery(*request),
             Task::Deliveries { request, .. } => Request::Deliveries(*request),
+            Task::Rename { request, .. } => Request::Rename(request.copied()),
         };
         Some((Snapshot::of(&request), Snapshot::of(&reply)))
     }
@@ -269,6 +282,11 @@ impl Work {
                 program,
                 ..
             } => program.wanted(request),
+            Task::Rename {
+                request,
+                program,
+                ..
+            } => program.wanted(request, tables),
         }
     }
 
@@ -332,6 +350,11 @@ impl Work {
                 engine,
                 tx,
             ),
+            Task::Rename {
+                request: rename,
+                program,
+                ..
+            } => program.next(rename, engine, tx),
         }
     }
 }

@@ -4,7 +4,7 @@ use crate::made::{district_key, payment, populated};
 use oe_engine::{Engine, Savepoint, Tx};
 use oe_requests::{DistrictDelivery, Refusal, Reply, Request};
 use oe_rows::{DistrictKey, Key, Layout, Mode, Name, Row};
-use oe_values::{ExtentCount, LastName, Terminal};
+use oe_values::{ExtentCount, LastName, ShortText, Terminal};
 use std::alloc::Global;
 use std::process::Abort;
 use std::snapshot::Snapshot;
@@ -25,12 +25,16 @@ fn next_of(row: &Option<Row>) -> u32 {
     }
 }
 
-/// Finds, for a transaction that holds the names of a district and of its queue, the oldest order
-/// that waits there, the customer in the middle of those of a last name, and D_NEXT_O_ID.
+/// Finds, for a transaction that holds the names of a district, of its queue and of who has a last
+/// name, the oldest order that waits there, the customer in the middle of those of that name, and
+/// D_NEXT_O_ID.
 fn found(engine: &Engine, tx: &Tx, district: &DistrictKey, last: &LastName) -> Option<[u32; 3]> {
     if !engine.is_open(tx)
         || engine.held(tx, &Name::Queue(*district)).is_none()
         || engine.held(tx, &Name::District(*district)).is_none()
+        || engine
+            .held(tx, &Name::Names(*district, ShortText::of(&last.as_text())))
+            .is_none()
     {
         return None;
     }
@@ -60,9 +64,11 @@ fn are_answered(engine: &mut Engine, tx: &Tx) -> Option<bool> {
     let last = &LastName::read("BARBARANTI")?;
     let queue = &Name::Queue(*district);
     let row = &Name::District(*district);
+    let names = &Name::Names(*district, ShortText::of(&last.as_text()));
     Some(
         taken(engine, tx, queue, Mode::Shared) == Some(Mode::Shared)
             && taken(engine, tx, row, Mode::Exclusive) == Some(Mode::Exclusive)
+            && taken(engine, tx, names, Mode::Shared) == Some(Mode::Shared)
             && found(engine, tx, district, last) == Some([8, 7, 11])
             && is_given_back(engine, tx, queue),
     )

@@ -1,6 +1,5 @@
 //! The first calls of a library, as the head of its crate quotes them: of tables, a core, and a
 //! script's session.
-ghost use Rattle.oe_admission.specs.Programs.{HasProgram};
 
 use crate::made::{district_key, payment, populated};
 use crate::sessions::{Nowhere, core_on};
@@ -26,9 +25,7 @@ fn tables_answer(tables: &mut Tables, district: &DistrictKey, last: &LastName) -
 }
 
 /// Tells whether a payment takes one of its five stages, and is rolled back.
-fn core_goes_back(core: &mut Core, terminal: Terminal, request: &Request) -> bool
-    requires { HasProgram request.now }
-{
+fn core_goes_back(core: &mut Core, terminal: Terminal, request: &Request) -> bool {
     if core.begin(terminal, request).is_err() {
         return false;
     }

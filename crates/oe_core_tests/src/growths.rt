@@ -1,10 +1,6 @@
 //! A population, a core and a list of steps, each asked for again where it was refused memory: what
 //! was refused has changed nothing, and goes on. With ample memory nothing is refused:
 //! `rt try --test --fail-alloc N` refuses the Nth growth.
-ghost use Rattle.std.specs.Prelude.{IfSome};
-ghost use Rattle.std.specs.List.{All};
-ghost use Rattle.oe_admission.specs.Programs.{HasProgram};
-ghost use Rattle.oe_core.specs.Steps.{begins_with};
 
 use crate::made::{payment, populated};
 use crate::sessions::sum_of;
@@ -47,9 +43,7 @@ fn shown(core: &Core) -> [u64; 3] {
 
 /// Runs these steps, and again where memory was refused. `None` where the refused run has changed
 /// what the core shows, or the second is refused too.
-fn run_at_last(core: &mut Core, steps: &[Step]) -> Option<Vec<Answer>>
-    requires { All (λ i. IfSome (begins_with i) HasProgram) steps.now }
-{
+fn run_at_last(core: &mut Core, steps: &[Step]) -> Option<Vec<Answer>> {
     let before = shown(core);
     if let Ok(answers) = run(core, steps) {
         return Some(answers);
@@ -69,9 +63,7 @@ fn is_no_memory(answer: &Answer) -> bool {
 
 /// Carries out a step, and again where it was refused memory, and tells whether it is then answered
 /// so.
-fn is_stepped(core: &mut Core, step: &Step, answer: &Answer) -> bool
-    requires { IfSome (begins_with step.now) HasProgram }
-{
+fn is_stepped(core: &mut Core, step: &Step, answer: &Answer) -> bool {
     let first = core.step(step.copied());
     if !is_no_memory(&first) {
         return first == *answer;
@@ -81,9 +73,7 @@ fn is_stepped(core: &mut Core, step: &Step, answer: &Answer) -> bool
 
 /// Carries out the steps one after another, and tells whether they are answered as the run was.
 /// From a step of the run on that was refused memory, its answers are those of other stages.
-fn are_stepped(core: &mut Core, steps: &[Step], answers: &[Answer]) -> bool
-    requires { All (λ i. IfSome (begins_with i) HasProgram) steps.now }
-{
+fn are_stepped(core: &mut Core, steps: &[Step], answers: &[Answer]) -> bool {
     let mut rest = answers;
     let mut is_refused = false;
     for step in steps {
@@ -101,9 +91,7 @@ fn are_stepped(core: &mut Core, steps: &[Step], answers: &[Answer]) -> bool
 
 /// Tells whether a run of these steps is answered as the same steps one after another on another
 /// core.
-fn runs_as_steps(running: &mut Core, stepping: &mut Core, steps: &[Step]) -> bool
-    requires { All (λ i. IfSome (begins_with i) HasProgram) steps.now }
-{
+fn runs_as_steps(running: &mut Core, stepping: &mut Core, steps: &[Step]) -> bool {
     let Some(answers) = run_at_last(running, steps) else {
         return false;
     };
@@ -112,16 +100,13 @@ fn runs_as_steps(running: &mut Core, stepping: &mut Core, steps: &[Step]) -> boo
 
 /// Tells the same of a payment that goes back to its mark, beside a rewind and an audit, and is
 /// purged. A rollback behind it finds nothing open.
-#[tactic(auto, using(crate::proofs::LiveFacts::all_behind_begin))]
 fn payment_runs_as_steps(
     running: &mut Core,
     stepping: &mut Core,
     terminal: Terminal,
     payment: Request,
     moments: (Moment, Moment),
-) -> bool
-    requires { HasProgram payment }
-{
+) -> bool {
     let steps = [
         Step::Begin(terminal, payment),
         Step::Advance(terminal),

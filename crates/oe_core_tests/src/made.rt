@@ -1,7 +1,5 @@
 //! Keys, a payment, and small populations. `None` where a number is out of its range, or the system
 //! has refused memory.
-ghost use Rattle.std.specs.Prelude.{IfSome};
-ghost use Rattle.oe_admission.specs.Programs.{HasProgram};
 
 use oe_population::populate;
 use oe_requests::{CustomerChoice, PaymentRequest, Request};
@@ -32,9 +30,7 @@ pub(crate) fn history_key(terminal: u32, number: u32) -> Option<HistoryKey> {
 
 /// Makes the payment of a customer of district 3 of warehouse 1, in cents, in district 7 of
 /// warehouse 2.
-pub(crate) fn payment(customer: u32, cents: u32) -> Option<Request>
-    ensures { IfSome result HasProgram }
-{
+pub(crate) fn payment(customer: u32, cents: u32) -> Option<Request> {
     Some(Request::Payment(PaymentRequest {
         district: district_key(2, 7)?,
         customer_district: district_key(1, 3)?,

@@ -4,7 +4,6 @@
 //! thread hands its desk back with that fact, and a shop whose desks are idle can be closed. A call
 //! may wait for the hall's lock; none takes memory.
 ghost use Rattle.std.specs.Prelude.{◌≡◌, ◌+◌, false};
-ghost use Rattle.oe_admission.specs.Programs.{HasProgram};
 ghost use Rattle.oe_moments.specs.Pins.{is_pinned};
 ghost use Rattle.oe_hall.specs.Counts.{untold, told_rolled_back};
 ghost use Rattle.oe_hall.specs.Desks.{TheDesk, with_told};
@@ -65,9 +64,7 @@ impl<J: Naming> Idle<J> {
         request: &Request,
         calls: &mut Calls<'_, G>,
         deeds: &mut Deeds,
-    )
-        requires { HasProgram request.now }
-    {
+    ) {
         if let Some(moment) = carry_one_out(rt, front, &mut self.desk, request, calls, deeds) {
             self.desk.told(front, moment);
         }
@@ -123,8 +120,7 @@ fn carry_one_out<J: Naming, W: Wait, G: Gate>(
     calls: &mut Calls<'_, G>,
     deeds: &mut Deeds,
 ) -> Option<Moment>
-    requires program { HasProgram request.now }
-    requires ended { desk.old.told.begun ≡ desk.old.told.committed + desk.old.told.rolled_back }
+    requires { desk.old.told.begun ≡ desk.old.told.committed + desk.old.told.rolled_back }
     ensures ended { desk.new.told.begun ≡ desk.new.told.committed + desk.new.told.rolled_back }
     ensures seat { desk.new.seat ≡ desk.old.seat }
 {

@@ -2,8 +2,7 @@
 //!
 //! A station keeps an idle desk, by the type of it. What a thread at a station does is not told by
 //! any clause, but for that fact.
-ghost use Rattle.std.specs.Prelude.{◌≡◌, ◌↔◌, ◌+◌, IsTrue, false};
-ghost use Rattle.oe_admission.specs.Programs.{HasProgram};
+ghost use Rattle.std.specs.Prelude.{◌≡◌, ◌+◌, false};
 ghost use Rattle.oe_moments.specs.Pins.{is_pinned};
 ghost use Rattle.oe_hall.specs.Counts.{untold};
 ghost use Rattle.oe_hall.specs.Desks.{TheDesk};
@@ -61,25 +60,14 @@ impl<J: Naming> Model for Bench<J> {
     ghost invariant = { λ b. Unit {0} };
 }
 
-// Tells whether a transaction can be begun with a request.
-fn has_program(request: &Request) -> bool
-    ensures { IsTrue result ↔ HasProgram request.now }
-{
-    matches!(
-        request,
-        Request::Payment(_) | Request::NewOrder(_) | Request::Delivery(_) | Request::Deliveries(_)
-    )
-}
-
 // Makes the one request for all ten districts of a warehouse.
 fn of_warehouse(deliveries: &DeliveriesRequest) -> Request
-    ensures program { HasProgram result }
-    ensures value { result ≡ Request.Deliveries deliveries.now }
+    ensures { result ≡ Request.Deliveries deliveries.now }
 {
     Request::Deliveries(*deliveries)
 }
 
-// Carries out an errand. A request that has no program is given up.
+// Carries out an errand.
 fn carry_out<J: Naming, W: Wait, G: Gate>(
     rt: &W,
     front: &Front<J>,
@@ -91,13 +79,7 @@ fn carry_out<J: Naming, W: Wait, G: Gate>(
 ) {
     deeds.errands = deeds.errands.saturating_add(1);
     match errand {
-        Errand::Begin(request) => {
-            if has_program(request) {
-                idle.carry_out(rt, front, request, calls, deeds);
-            } else {
-                deeds.given_up = deeds.given_up.saturating_add(1);
-            }
-        }
+        Errand::Begin(request) => idle.carry_out(rt, front, request, calls, deeds),
         Errand::Read(query) => idle.read(rt, front, query, calls, deeds),
         Errand::Deliver(deliveries) => submit(rt, sender, deliveries, deeds),
     }

@@ -36,7 +36,6 @@ use Rattle.oe_rows.specs.declared.layouts.Layout.TheVariants.{WholeRows, Changed
 use Rattle.oe_model.specs.Meets.{Meets, Accepts}
 use Rattle.oe_model.specs.System.{system}
 use Rattle.oe_model.proofs.RowFacts.{key_true, key_refl, at_changed, at_put_back, same_rows, out-map, undone, un_order}
-use Rattle.oe_model.proofs.RowFacts.{un_customer}
 use Rattle.oe_model.proofs.PresenceFacts.{some-map, mapped_absent}
 use Rattle.oe_model.proofs.ChangeFacts.{accepted_meets}
 use Rattle.oe_change.specs.PutBack.{Stands}
@@ -151,7 +150,7 @@ whole_made WholeRows (InsertOrderLine k x) r a = tt
 whole_made WholeRows (UpdateWarehouse k x) r a = there_as row.Warehouse as_warehouse (λ _. refl) (get r.warehouses k) a
 whole_made WholeRows (UpdateDistrict k x) r a = there_as row.District as_district (λ _. refl) (get r.districts k) a
 whole_made WholeRows (UpdateCustomer k x) r a =
-    there_as row.Customer as_customer (λ _. refl) (get r.customers k) (ap is_some a.1)
+    there_as row.Customer as_customer (λ _. refl) (get r.customers k) a
 whole_made WholeRows (UpdateOrder k x) r a = there_as row.Order as_order (λ _. refl) (get r.orders k) (ap is_some a.1)
 whole_made WholeRows (UpdateOrderLine k x) r a =
     there_as row.OrderLine as_order_line (λ _. refl) (get r.order_lines k) a.0
@@ -166,7 +165,7 @@ whole_made ChangedColumns (UpdateWarehouse k x) r a =
 whole_made ChangedColumns (UpdateDistrict k x) r a =
     columns_there district_before row.District as_district (λ _. refl) (get r.districts k) x a
 whole_made ChangedColumns (UpdateCustomer k x) r a =
-    columns_there customer_before row.Customer as_customer (λ _. refl) (get r.customers k) x (ap is_some a.1)
+    columns_there customer_before row.Customer as_customer (λ _. refl) (get r.customers k) x a
 whole_made ChangedColumns (UpdateOrder k x) r a =
     columns_there order_before row.Order as_order (λ _. refl) (get r.orders k) x (ap is_some a.1)
 whole_made ChangedColumns (UpdateOrderLine k x) r a =
@@ -289,7 +288,7 @@ accepted_before c b r p a = go c p.order (at_other_put_back b r (key_of c) (λ e
     )
     go (UpdateWarehouse k x) n e h = there_alike row.Warehouse (get r.warehouses k) _ e h
     go (UpdateDistrict k x) n e h = there_alike row.District (get r.districts k) _ e h
-    go (UpdateCustomer k x) n e h = (h.0, un_customer _ (get r.customers k) e ∙ h.1, h.2, h.3)
+    go (UpdateCustomer k x) n e h = there_alike row.Customer (get r.customers k) _ e h
     go (UpdateOrder k x) n e h = (h.0, un_order _ (get r.orders k) e ∙ h.1, h.2)
     go (UpdateOrderLine k x) n e h =
         (there_alike row.OrderLine (get r.order_lines k) _ e h.0, stock_then b r (supply_of_line x) p.whole h.1)

@@ -24,7 +24,8 @@ use Rattle.oe_model.specs.Meets.{Accepts}
 use Rattle.oe_model.specs.System.{system}
 use Rattle.oe_change.specs.declared.writes.Write.{Write}
 use Rattle.oe_change.specs.declared.writes.Write.TheVariants.{WarehouseYtd, DistrictYtd, NextOrder, CustomerAccount}
-use Rattle.oe_change.specs.declared.writes.Write.TheVariants.{BadCredit, StockCounters, Carrier, DeliveryDate}
+use Rattle.oe_change.specs.declared.writes.Write.TheVariants.{BadCredit, CustomerNames, StockCounters, Carrier}
+use Rattle.oe_change.specs.declared.writes.Write.TheVariants.{DeliveryDate}
 use Rattle.oe_change.specs.declared.writes.Write.TheVariants.{InsertHistory, InsertNewOrder, InsertOrder}
 use Rattle.oe_change.specs.declared.writes.Write.TheVariants.{InsertOrderLine, DeleteNewOrder}
 use Rattle.oe_change.specs.Writes.{written}
@@ -96,6 +97,7 @@ write_records l (DistrictYtd k y) c r e a = update l r _ c e
 write_records l (NextOrder k n) c r e a = update l r _ c e
 write_records l (CustomerAccount k n) c r e a = update l r _ c e
 write_records l (BadCredit k n m) c r e a = update l r _ c e
+write_records l (CustomerNames k n m) c r e a = update l r _ c e
 write_records l (StockCounters k n) c r e a = update l r _ c e
 write_records l (Carrier k c') c r e a = update l r _ c e
 write_records l (DeliveryDate k t) c r e a = update l r _ c e
@@ -135,6 +137,7 @@ unrecorded l (DistrictYtd k y) r e = no_row _ _ e
 unrecorded l (NextOrder k n) r e = no_row _ _ e
 unrecorded l (CustomerAccount k a) r e = no_row _ _ e
 unrecorded l (BadCredit k a m) r e = no_row _ _ e
+unrecorded l (CustomerNames k n m) r e = no_row _ _ e
 unrecorded l (StockCounters k n) r e = no_row _ _ e
 unrecorded l (Carrier k c) r e = no_row _ _ e
 unrecorded l (DeliveryDate k t) r e = no_row _ _ e
@@ -155,6 +158,7 @@ recorded l (DistrictYtd k y) r h = a_row _ _ h
 recorded l (NextOrder k n) r h = a_row _ _ h
 recorded l (CustomerAccount k a) r h = a_row _ _ h
 recorded l (BadCredit k a m) r h = a_row _ _ h
+recorded l (CustomerNames k n m) r h = a_row _ _ h
 recorded l (StockCounters k n) r h = a_row _ _ h
 recorded l (Carrier k c) r h = a_row _ _ h
 recorded l (DeliveryDate k t) r h = a_row _ _ h

@@ -14,7 +14,8 @@ use Rattle.oe_model.specs.System.{system}
 use Rattle.oe_model.proofs.RowFacts.{in_layout_key}
 use Rattle.oe_change.specs.declared.writes.Write.{Write}
 use Rattle.oe_change.specs.declared.writes.Write.TheVariants.{WarehouseYtd, DistrictYtd, NextOrder, CustomerAccount}
-use Rattle.oe_change.specs.declared.writes.Write.TheVariants.{BadCredit, StockCounters, Carrier, DeliveryDate}
+use Rattle.oe_change.specs.declared.writes.Write.TheVariants.{BadCredit, CustomerNames, StockCounters, Carrier}
+use Rattle.oe_change.specs.declared.writes.Write.TheVariants.{DeliveryDate}
 use Rattle.oe_change.specs.declared.writes.Write.TheVariants.{InsertHistory, InsertNewOrder, InsertOrder}
 use Rattle.oe_change.specs.declared.writes.Write.TheVariants.{InsertOrderLine, DeleteNewOrder}
 use Rattle.oe_change.specs.Writes.{key_written, written}
@@ -45,6 +46,7 @@ record_written l (DistrictYtd k y) r b e = updated_key l r _ (get r.districts k)
 record_written l (NextOrder k n) r b e = updated_key l r _ (get r.districts k) b _ (λ x. refl) e
 record_written l (CustomerAccount k a) r b e = updated_key l r _ (get r.customers k) b _ (λ x. refl) e
 record_written l (BadCredit k a m) r b e = updated_key l r _ (get r.customers k) b _ (λ x. refl) e
+record_written l (CustomerNames k n m) r b e = updated_key l r _ (get r.customers k) b _ (λ x. refl) e
 record_written l (StockCounters k n) r b e = updated_key l r _ (get r.stocks k) b _ (λ x. refl) e
 record_written l (Carrier k c) r b e = updated_key l r _ (get r.orders k) b _ (λ x. refl) e
 record_written l (DeliveryDate k t) r b e = updated_key l r _ (get r.order_lines k) b _ (λ x. refl) e
@@ -61,6 +63,7 @@ writes_may (DistrictYtd k y) = tt
 writes_may (NextOrder k n) = tt
 writes_may (CustomerAccount k a) = tt
 writes_may (BadCredit k a m) = tt
+writes_may (CustomerNames k n m) = tt
 writes_may (StockCounters k n) = tt
 writes_may (Carrier k c) = tt
 writes_may (DeliveryDate k t) = tt

@@ -7,6 +7,7 @@ use Rattle.oe_rows.specs.declared.keys.Key.TheVariants as key
 use Rattle.oe_requests.specs.declared.requests.PaymentRequest.{PaymentRequest}
 use Rattle.oe_requests.specs.declared.requests.NewOrderRequest.{NewOrderRequest}
 use Rattle.oe_requests.specs.declared.requests.DeliveryRequest.{DeliveryRequest}
+use Rattle.oe_requests.specs.declared.requests.RenameRequest.{RenameRequest}
 use Rattle.oe_requests.specs.declared.requests.Request.{Request}
 use Rattle.oe_requests.specs.declared.replies.Reply.{Reply}
 use Rattle.oe_requests.specs.declared.replies.DistrictDelivery.TheVariants.{Skipped}
@@ -19,17 +20,19 @@ use Rattle.oe_model.specs.Changes.{Change, DeleteNewOrder}
 use Rattle.oe_model.specs.Effects.{Doing, given, within}
 use Rattle.oe_model.specs.Choice.{chosen}
 use Rattle.oe_model.specs.Positions.{Position, InPayment, InNewOrder, InDelivery, InDeliveries, DeliveriesEnd}
-use Rattle.oe_model.specs.Positions.{NoProgram, PaymentPosition, PaymentWarehouse, PaymentDistrict, PaymentCustomer}
-use Rattle.oe_model.specs.Positions.{PaymentHistory, PaymentEnd, NewOrderPosition, NewOrderWarehouse, NewOrderDistrict}
-use Rattle.oe_model.specs.Positions.{NewOrderCustomer, NewOrderOrder, NewOrderQueue, NewOrderStock, NewOrderLine}
+use Rattle.oe_model.specs.Positions.{InRename, PaymentPosition, PaymentWarehouse, PaymentDistrict, PaymentNames}
+use Rattle.oe_model.specs.Positions.{PaymentCustomer, PaymentHistory, PaymentEnd, NewOrderPosition, NewOrderWarehouse}
+use Rattle.oe_model.specs.Positions.{NewOrderDistrict, NewOrderCustomer, NewOrderOrder, NewOrderQueue, NewOrderStock}
+use Rattle.oe_model.specs.Positions.{NewOrderLine}
 use Rattle.oe_model.specs.Positions.{DeliveryPosition, DeliveryQueue, DeliveryNothing, DeliveryOrder, DeliveryLine}
-use Rattle.oe_model.specs.Positions.{DeliveryEnd}
+use Rattle.oe_model.specs.Positions.{DeliveryEnd, RenamePosition, RenameCustomer, RenameOld, RenameNew, RenameEnd}
 use Rattle.oe_model.specs.Payment.{payment_act}
 use Rattle.oe_model.specs.NewOrder.{item_at, stock_of, new_order_act}
 use Rattle.oe_model.specs.Delivery.{Setting, alone, district_act, oldest}
 use Rattle.oe_model.specs.Deliveries.{at_hand, among_ten}
+use Rattle.oe_model.specs.Rename.{rename_act}
 use Rattle.oe_model.specs.System.{act}
-use Rattle.oe_engine.specs.Programs.{payment_reply, new_order_reply, district_reply, reply_at}
+use Rattle.oe_engine.specs.Programs.{payment_reply, new_order_reply, district_reply, renamed_reply, reply_at}
 
 given_ready : {A : Type 0} (e : Refusal) (o : Option A) (f : A → Doing) (y : Reply) → given e o f ≡ Ready y
     → (a : A) × (f a ≡ Ready y)
@@ -51,10 +54,12 @@ payment_ready t k q PaymentWarehouse r y h =
 payment_ready t k q (PaymentDistrict w) r y h =
     let (x, e) = given_ready (NoSuchRow (key.District q.district)) (get r.districts q.district) _ y h in
     absurd (goes _ _ y (within_ready _ _ y e))
-payment_ready t k q (PaymentCustomer w d) r y h =
+payment_ready t k q (PaymentNames w d) r y h =
     let (c, e) = given_ready NoCustomer (chosen q.customer_district q.customer r.customers) _ y h in
-    let (x, f) = given_ready NoCustomer (get r.customers (customer_in q.customer_district c)) _ y e in
-    absurd (goes _ _ y (within_ready _ _ y f))
+    absurd (goes _ _ y e)
+payment_ready t k q (PaymentCustomer w d c) r y h =
+    let (x, e) = given_ready NoCustomer (get r.customers (customer_in q.customer_district c)) _ y h in
+    absurd (goes _ _ y (within_ready _ _ y e))
 payment_ready t k q (PaymentHistory d z) r y h = absurd (goes _ _ y h)
 payment_ready t k q (PaymentEnd z) r y h = cc
 
@@ -104,10 +109,19 @@ district_ready t q (DeliveryLine o c (n ∷ ns) sum) r y h =
     (get r.order_lines (line_in (order_in q.district o) n)) _ y h in absurd (goes _ _ y e)
 district_ready t q (DeliveryEnd o c sum) r y h = cc
 
+rename_ready : (q : RenameRequest) (p : RenamePosition) (r : Rows) (y : Reply) → rename_act q p r ≡ Ready y
+    → renamed_reply q p ≡ Some y
+rename_ready q RenameCustomer r y h =
+    let (x, e) = given_ready NoCustomer (get r.customers q.customer) _ y h in absurd (goes _ _ y e)
+rename_ready q (RenameOld last) r y h = absurd (goes _ _ y h)
+rename_ready q (RenameNew last) r y h =
+    let (x, e) = given_ready NoCustomer (get r.customers q.customer) _ y h in absurd (goes _ _ y e)
+rename_ready q (RenameEnd last) r y h = cc
+
 pub ready_at : (x : Tx Request) (p : Position) (r : Rows) (y : Reply) → act x p r ≡ Ready y → reply_at p ≡ Some y
 ready_at x (InPayment q p) r y h = payment_ready x.terminal x.number q p r y h
 ready_at x (InNewOrder q p) r y h = new_order_ready q p r y h
 ready_at x (InDelivery q p) r y h = district_ready (alone q) q p r y h
 ready_at x (InDeliveries q done p) r y h = district_ready (among_ten q done) (at_hand q done) p r y h
 ready_at x (DeliveriesEnd done) r y h = cc
-ready_at x NoProgram r y h = let no : ⊥ = cc in absurd no
+ready_at x (InRename q p) r y h = rename_ready q p r y h

@@ -78,20 +78,14 @@ module _ (old new : Places) (same : SamePlaces old new) where
       made (λ x. UpdateDistrict k (f x)) (get (rows old).districts k) some
       (λ x is. (ap is_some is, set x is, place_of_row district_total exact_district old.districts k (ap is_some is)))
 
-  -- its names stay
-  pub customer_made : (k : CustomerKey) (f : Customer → Customer) → ((x : Customer) → (f x).name ≡ x.name)
+  pub customer_made : (k : CustomerKey) (f : Customer → Customer)
       → IsSome (option_map (λ x. UpdateCustomer k (f x)) (get (rows old).customers k))
       → ((x : Customer) → get (rows old).customers k ≡ Some x → rows new ≡ changed (UpdateCustomer k (f x)) (rows old))
       → IsSomeAnd (option_map (λ x. UpdateCustomer k (f x)) (get (rows old).customers k))
       (λ c. IsApplied c old new)
-  customer_made k f name some set =
+  customer_made k f some set =
       made (λ x. UpdateCustomer k (f x)) (get (rows old).customers k) some
-      (λ x is. (
-        (x, is, ap (λ n. n.last) (name x), ap (λ n. n.first) (name x)),
-        set x is,
-        place_of_row customer_total
-            exact_customer old.customers k (ap is_some is),
-      ))
+      (λ x is. (ap is_some is, set x is, place_of_row customer_total exact_customer old.customers k (ap is_some is)))
 
   -- its customer stays
   pub order_made : (k : OrderKey) (f : Order → Order) → ((x : Order) → (f x).customer ≡ x.customer)

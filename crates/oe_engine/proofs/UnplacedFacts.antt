@@ -19,7 +19,8 @@ use Rattle.oe_rows.specs.declared.rows.Row.{Row}
 use Rattle.oe_model.specs.Rows.{row_at}
 use Rattle.oe_change.specs.declared.writes.Write.{Write}
 use Rattle.oe_change.specs.declared.writes.Write.TheVariants.{WarehouseYtd, DistrictYtd, NextOrder, CustomerAccount}
-use Rattle.oe_change.specs.declared.writes.Write.TheVariants.{BadCredit, StockCounters, Carrier, DeliveryDate}
+use Rattle.oe_change.specs.declared.writes.Write.TheVariants.{BadCredit, CustomerNames, StockCounters, Carrier}
+use Rattle.oe_change.specs.declared.writes.Write.TheVariants.{DeliveryDate}
 use Rattle.oe_change.specs.declared.writes.Write.TheVariants.{InsertHistory, InsertNewOrder, InsertOrder}
 use Rattle.oe_change.specs.declared.writes.Write.TheVariants.{InsertOrderLine, DeleteNewOrder}
 use Rattle.oe_change.specs.Writes.{key_written, written}
@@ -67,6 +68,8 @@ write_unplaced (NextOrder k m) s h n o l there none =
 write_unplaced (CustomerAccount k a) s h n o l there none = absurd
     (none (place_of_row customer_total exact_customer s.customers k (row_there _ _ there)))
 write_unplaced (BadCredit k a m) s h n o l there none =
+    absurd (none (place_of_row customer_total exact_customer s.customers k (row_there _ _ there)))
+write_unplaced (CustomerNames k a m) s h n o l there none =
     absurd (none (place_of_row customer_total exact_customer s.customers k (row_there _ _ there)))
 write_unplaced (StockCounters k m) s h n o l there none =
     absurd (none (place_of_row stock_total exact_stock s.stocks k (row_there _ _ there)))

@@ -21,7 +21,8 @@ use Rattle.oe_model.specs.Locks.{governs}
 use Rattle.oe_model.specs.System.{system}
 use Rattle.oe_change.specs.declared.writes.Write.{Write}
 use Rattle.oe_change.specs.declared.writes.Write.TheVariants.{WarehouseYtd, DistrictYtd, NextOrder, CustomerAccount}
-use Rattle.oe_change.specs.declared.writes.Write.TheVariants.{BadCredit, StockCounters, Carrier, DeliveryDate}
+use Rattle.oe_change.specs.declared.writes.Write.TheVariants.{BadCredit, CustomerNames, StockCounters, Carrier}
+use Rattle.oe_change.specs.declared.writes.Write.TheVariants.{DeliveryDate}
 use Rattle.oe_change.specs.declared.writes.Write.TheVariants.{InsertHistory, InsertNewOrder, InsertOrder}
 use Rattle.oe_change.specs.declared.writes.Write.TheVariants.{InsertOrderLine, DeleteNewOrder}
 use Rattle.oe_change.specs.Writes.{key_written, written}
@@ -35,7 +36,7 @@ use Rattle.oe_engine.proofs.RecordFacts.{deleted_in}
 use Rattle.oe_engine.specs.View.{View}
 use Rattle.oe_engine.specs.Covered.{Owns, HoldsOrder, MayMake, IsOwn}
 use Rattle.oe_engine.specs.Calls.{locked, ChangeRefused}
-use Rattle.oe_engine.specs.Writes.{ask_of_write, WriteHoldsOrder, MayWrite, AbsentRefused, WantsRow}
+use Rattle.oe_engine.specs.Writes.{ask_of_write, HoldsBeside, MayWrite, AbsentRefused, WantsRow}
 use Rattle.oe_engine.proofs.LockFacts.{set_at}
 use Rattle.oe_engine.proofs.SafeFacts.{owns_to_write}
 use Rattle.oe_engine.proofs.PartFacts.{refused_so}
@@ -59,7 +60,7 @@ module _ (P : Change → Type 0) where
 
 -- a change at the write's key, of an order whose name the write's transaction holds
 abbrev IsOf : (Name → Option theory.Mode) → Write → Change → Type 0
-IsOf held w c = (key_of c ≡ key_written w) × (WriteHoldsOrder held w → HoldsOrder held c)
+IsOf held w c = (key_of c ≡ key_written w) × (HoldsBeside held w → HoldsOrder held c)
 
 is_of : (held : Name → Option theory.Mode) (w : Write) (r : Rows) (c : Change) → written w r ≡ Some c → IsOf held w c
 is_of held (WarehouseYtd k y) r c e = of_row (IsOf held (WarehouseYtd k y)) _ (get r.warehouses k) c
@@ -71,6 +72,8 @@ is_of held (CustomerAccount k a) r c e = of_row (IsOf held (CustomerAccount k a)
     (λ x. (refl, λ h. tt)) e
 is_of held (BadCredit k a t) r c e = of_row (IsOf held (BadCredit k a t)) _ (get r.customers k) c (λ x. (refl, λ h. tt))
     e
+is_of held (CustomerNames k n m) r c e = of_row (IsOf held (CustomerNames k n m)) _ (get r.customers k) c
+    (λ x. (refl, λ h. tt)) e
 is_of held (StockCounters k n) r c e = of_row (IsOf held (StockCounters k n)) _ (get r.stocks k) c
     (λ x. (refl, λ h. tt)) e
 is_of held (Carrier k n) r c e = of_row (IsOf held (Carrier k n)) _ (get r.orders k) c (λ x. (refl, λ h. tt)) e
@@ -90,27 +93,28 @@ may_make held t k w r c e may =
     (subst (λ j. Owns held t k (governs j)) (sym same) may.0, holds may.1)
 
 -- it may make the write once its name was taken
-order_still : (v : View) (t : ℕ) (w : Write) → WriteHoldsOrder (v.held t) w
-    → WriteHoldsOrder (held_after system (ask_of_write w) (v.held t)) w
-order_still v t (InsertNewOrder k) h = h
-order_still v t (WarehouseYtd k y) h = tt
-order_still v t (DistrictYtd k y) h = tt
-order_still v t (NextOrder k n) h = tt
-order_still v t (CustomerAccount k a) h = tt
-order_still v t (BadCredit k a e) h = tt
-order_still v t (StockCounters k n) h = tt
-order_still v t (Carrier k n) h = tt
-order_still v t (DeliveryDate k d) h = tt
-order_still v t (InsertHistory k x) h = tt
-order_still v t (InsertOrder k x) h = tt
-order_still v t (InsertOrderLine k x) h = tt
-order_still v t (DeleteNewOrder k) h = tt
+beside_still : (v : View) (t : ℕ) (w : Write) → HoldsBeside (v.held t) w
+    → HoldsBeside (held_after system (ask_of_write w) (v.held t)) w
+beside_still v t (InsertNewOrder k) h = h
+beside_still v t (WarehouseYtd k y) h = tt
+beside_still v t (DistrictYtd k y) h = tt
+beside_still v t (NextOrder k n) h = tt
+beside_still v t (CustomerAccount k a) h = tt
+beside_still v t (BadCredit k a e) h = tt
+beside_still v t (CustomerNames k n m) h = h
+beside_still v t (StockCounters k n) h = tt
+beside_still v t (Carrier k n) h = tt
+beside_still v t (DeliveryDate k d) h = tt
+beside_still v t (InsertHistory k x) h = tt
+beside_still v t (InsertOrder k x) h = tt
+beside_still v t (InsertOrderLine k x) h = tt
+beside_still v t (DeleteNewOrder k) h = tt
 
 pub may_write : (v : View) (t : ℕ) (w : Write) → IsOwn t (suc (v.counts t)) (governs (key_written w))
-    → WriteHoldsOrder (v.held t) w
+    → HoldsBeside (v.held t) w
     → MayWrite (held_after system (ask_of_write w) (v.held t)) t (suc (v.counts t)) w
 may_write v t w own order =
-    (owns_to_write v t (suc (v.counts t)) (governs (key_written w)) own, order_still v t w order)
+    (owns_to_write v t (suc (v.counts t)) (governs (key_written w)) own, beside_still v t w order)
 
 pub may_after : (t : ℕ) (n : Name) (m : theory.Mode) (w : Write) (v : View)
     → MayWrite (held_after system (Take n m) (v.held t)) t (suc (v.counts t)) w
@@ -148,6 +152,7 @@ no_longer l (DistrictYtd k y) r c b = as_long l r _ c b
 no_longer l (NextOrder k n) r c b = as_long l r _ c b
 no_longer l (CustomerAccount k a) r c b = as_long l r _ c b
 no_longer l (BadCredit k a t) r c b = as_long l r _ c b
+no_longer l (CustomerNames k n m) r c b = as_long l r _ c b
 no_longer l (StockCounters k n) r c b = as_long l r _ c b
 no_longer l (Carrier k n) r c b = as_long l r _ c b
 no_longer l (DeliveryDate k t) r c b = as_long l r _ c b

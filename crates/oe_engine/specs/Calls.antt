@@ -146,7 +146,8 @@ StageRefused s x a c NoMemory = IsOpen s x × IsFree (view_of s) x.terminal a
     × (IsNew system ((view_of s).held x.terminal) a ⊎ IsSome c)
 StageRefused s x a c e = IsOpen s x × IsFree (view_of s) x.terminal a × CauseOf c (view_of s).rows e
 
--- memory is wanted for the tables: the stage's change is an insert that they accept, at a key without a place
+-- memory is wanted for the tables: they accept the stage's change, which is an insert at a key without a place, or
+-- gives a customer another last name
 abbrev pub WantsPlace : Option Change → tables.Places → Type 0
 WantsPlace None s = ⊥
 WantsPlace (Some c) s = Refuses c s NoMemory

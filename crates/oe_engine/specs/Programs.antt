@@ -4,6 +4,7 @@ use Rattle.oe_theory.specs.Machine.{Tx, Ask, Stop, Plain, Take, Act, Fail, Go, R
 use Rattle.oe_theory.specs.Machine as theory
 use Rattle.oe_theory.specs.Next.{IsNew, GivesWay}
 use Rattle.oe_requests.specs.declared.requests.Request.{Request}
+use Rattle.oe_requests.specs.declared.requests.RenameRequest.{RenameRequest}
 use Rattle.oe_requests.specs.declared.replies.Reply.{Reply}
 use Rattle.oe_requests.specs.declared.replies.Reply.TheVariants as reply
 use Rattle.oe_requests.specs.declared.replies.DistrictDelivery.{DistrictDelivery}
@@ -14,11 +15,12 @@ use Rattle.oe_model.specs.Changes.{Change}
 use Rattle.oe_model.specs.Locks.{mode_of, hold}
 use Rattle.oe_model.specs.Meets.{Cause}
 use Rattle.oe_model.specs.Positions.{Position, InPayment, InNewOrder, InDelivery, InDeliveries, DeliveriesEnd}
-use Rattle.oe_model.specs.Positions.{NoProgram, PaymentPosition, PaymentEnd, NewOrderPosition, NewOrderStock}
-use Rattle.oe_model.specs.Positions.{DeliveryPosition, DeliveryNothing, DeliveryEnd}
+use Rattle.oe_model.specs.Positions.{InRename, PaymentPosition, PaymentEnd, NewOrderPosition, NewOrderStock}
+use Rattle.oe_model.specs.Positions.{DeliveryPosition, DeliveryNothing, DeliveryEnd, RenamePosition, RenameEnd}
 use Rattle.oe_model.specs.NewOrder.{ordered_reply}
 use Rattle.oe_model.specs.Delivery.{delivered}
 use Rattle.oe_model.specs.Deliveries.{among_ten}
+use Rattle.oe_model.specs.Rename.{rename_reply}
 use Rattle.oe_model.specs.System.{system, ask, act, yields}
 use Rattle.oe_engine.specs.View.{EngineState, view_of, Handle, IsOpen}
 use Rattle.oe_engine.specs.Calls.{IsFree, IsInTheWay, IsFullFor, IsFullForAny, stage_done, AcceptsAll, WantsPlace}
@@ -77,13 +79,17 @@ district_reply DeliveryNothing = Some Skipped
 district_reply (DeliveryEnd o c sum) = Some (delivered o c sum)
 district_reply _ = None
 
+abbrev pub renamed_reply : RenameRequest → RenamePosition → Option Reply
+renamed_reply q (RenameEnd last) = Some (reply.Rename (rename_reply q))
+renamed_reply q _ = None
+
 abbrev pub reply_at : Position → Option Reply
 reply_at (InPayment q p) = payment_reply p
 reply_at (InNewOrder q p) = new_order_reply p
 reply_at (InDelivery q p) = option_map reply.Delivery (district_reply p)
 reply_at (InDeliveries q done p) = option_map ((among_ten q done).answer) (district_reply p)
 reply_at (DeliveriesEnd done) = Some (reply.Deliveries done)
-reply_at NoProgram = None
+reply_at (InRename q p) = renamed_reply q p
 
 -- the program has come to its end with this reply
 pub record IsReady (s : EngineState) (x : Handle) (q : Request) (p : Position) (y : Reply) : Type 0 where

@@ -11,8 +11,9 @@ use Rattle.oe_requests.specs.declared.refusals.Refusal.TheVariants.{Busy, NotOpe
 use Rattle.oe_model.specs.Keys.{order_of_new_order}
 use Rattle.oe_model.specs.Changes.{Change}
 use Rattle.oe_model.specs.Locks.{governs}
+use Rattle.oe_model.specs.Rename.{names_of}
 use Rattle.oe_change.specs.declared.writes.Write.{Write}
-use Rattle.oe_change.specs.declared.writes.Write.TheVariants.{InsertNewOrder}
+use Rattle.oe_change.specs.declared.writes.Write.TheVariants.{CustomerNames, InsertNewOrder}
 use Rattle.oe_change.specs.Writes.{key_written, written}
 use Rattle.oe_store.specs.Places as tables
 use Rattle.oe_engine.specs.View.{EngineState, View, view_of, Handle, IsOpen}
@@ -27,14 +28,16 @@ ask_of_write w = ask_to_write (governs (key_written w))
 abbrev pub change_written : Write → View → Option Change
 change_written w v = written w v.rows
 
--- whoever inserts a NEW-ORDER row holds the name of its order
-abbrev pub WriteHoldsOrder : (Name → Option theory.Mode) → Write → Type 0
-WriteHoldsOrder held (InsertNewOrder k) = IsSome (held (name.Order (order_of_new_order k)))
-WriteHoldsOrder held _ = Unit {0}
+-- beside the name of its row, whoever inserts a NEW-ORDER row holds the name of its order, and whoever gives a customer
+-- other names holds alone who has the new last name
+abbrev pub HoldsBeside : (Name → Option theory.Mode) → Write → Type 0
+HoldsBeside held (InsertNewOrder k) = IsSome (held (name.Order (order_of_new_order k)))
+HoldsBeside held (CustomerNames k last first) = held (names_of k last) ≡ Some theory.Exclusive
+HoldsBeside held _ = Unit {0}
 
 -- transaction k of terminal t may make the write beside others' open work: of a row that it alone may change
 abbrev pub MayWrite : (Name → Option theory.Mode) → ℕ → ℕ → Write → Type 0
-MayWrite held t k w = Owns held t k (governs (key_written w)) × WriteHoldsOrder held w
+MayWrite held t k w = Owns held t k (governs (key_written w)) × HoldsBeside held w
 
 -- why a write without its row is refused: the row is absent
 abbrev pub AbsentRefused : Key → Refusal → Type 0
@@ -47,15 +50,15 @@ AbsentPairRefused v t n m k (Busy name u) = LockRefused v t n m (Busy name u)
 AbsentPairRefused v t n m k NoMemory = IsFree v t (Take n m)
 AbsentPairRefused v t n m k e = IsFree v t (Take n m) × (e ≡ NoSuchRow k)
 
--- and in a transaction, with the lock of the row's key: the transaction isn't open here; or another is in the way of
--- the lock; or that is free, and memory is wanted for it or the row is absent
-abbrev pub AbsentRowRefused : EngineState → Handle → Key → Refusal → Type 0
-AbsentRowRefused s x k NotOpen = IsOpen s x → ⊥
-AbsentRowRefused s x k (Busy n u) = IsOpen s x
-    × ((m : theory.Mode) × (ask_to_write (governs k) ≡ Take n m) × IsInTheWay (view_of s) x.terminal n m u)
-AbsentRowRefused s x k NoMemory = IsOpen s x × IsFree (view_of s) x.terminal (ask_to_write (governs k))
-AbsentRowRefused s x k e = IsOpen s x × IsFree (view_of s) x.terminal (ask_to_write (governs k)) × (e ≡ NoSuchRow k)
+-- and in a transaction, with this lock: the transaction isn't open here; or another is in the way of the lock; or that
+-- is free, and memory is wanted for it or the row is absent
+abbrev pub AbsentRowRefused : EngineState → Handle → Ask Name Refusal → Key → Refusal → Type 0
+AbsentRowRefused s x a k NotOpen = IsOpen s x → ⊥
+AbsentRowRefused s x a k (Busy n u) = IsOpen s x
+    × ((m : theory.Mode) × (a ≡ Take n m) × IsInTheWay (view_of s) x.terminal n m u)
+AbsentRowRefused s x a k NoMemory = IsOpen s x × IsFree (view_of s) x.terminal a
+AbsentRowRefused s x a k e = IsOpen s x × IsFree (view_of s) x.terminal a × (e ≡ NoSuchRow k)
 
--- memory is wanted for a write of a row: a place in the tables
+-- memory is wanted for a write of a row: a place in the tables, or one on the list of a customer's new last name
 abbrev pub WantsRow : Option Change → tables.Places → Type 0
 WantsRow o s = IsSomeAnd o (λ c. WantsPlace (Some c) s)

@@ -41,6 +41,7 @@ pub(crate) fn lock_of_write(write: &Write) -> Option<Lock>
         Write::NextOrder(key, _) => exclusive(Name::District(*key)),
         Write::CustomerAccount(key, _) => exclusive(Name::Customer(*key)),
         Write::BadCredit(key, _, _) => exclusive(Name::Customer(*key)),
+        Write::CustomerNames(key, _, _) => exclusive(Name::Customer(*key)),
         Write::StockCounters(key, _) => exclusive(Name::Stock(*key)),
         Write::Carrier(key, _) => exclusive(Name::Order(*key)),
         Write::DeliveryDate(key, _) => exclusive(Name::Order(key.order_key())),

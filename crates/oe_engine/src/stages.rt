@@ -1,12 +1,14 @@
 //! A stage of a program of any kind, carried out on an engine or refused by it.
 ghost use Rattle.std.specs.Prelude.{◌≡◌, true, suc, Some, None, IsSome, OnOk, OnErr};
 ghost use Rattle.oe_theory.specs.Machine.{Plain, Take};
+ghost use Rattle.oe_theory.specs.Next.{held_after};
 ghost use Rattle.oe_model.specs.Changes as model;
 ghost use Rattle.oe_model.specs.Locks.{mode_of, governs};
+ghost use Rattle.oe_model.specs.System.{system};
 ghost use Rattle.oe_change.specs.Writes.{key_written};
 ghost use Rattle.oe_engine.specs.View.{view_of, IsOpen};
 ghost use Rattle.oe_engine.specs.Covered.{IsOwn, Owns};
-ghost use Rattle.oe_engine.specs.Writes.{ask_of_write, change_written, WriteHoldsOrder};
+ghost use Rattle.oe_engine.specs.Writes.{ask_of_write, change_written, HoldsBeside, MayWrite};
 ghost use Rattle.oe_engine.specs.Stages.{is_failure, IsFailure, Does};
 
 use crate::engine::{Engine, Tx};
@@ -45,8 +47,8 @@ pub fn put(engine: &mut Engine, tx: &Tx, write: &Write) -> Result<(), Refusal>
     requires own { IsOpen engine.old tx.now
         → IsOwn tx.now.terminal (suc ((view_of engine.old).counts tx.now.terminal))
         (governs (key_written write.now)) }
-    requires order { IsOpen engine.old tx.now
-        → WriteHoldsOrder ((view_of engine.old).held tx.now.terminal) write.now }
+    requires beside { IsOpen engine.old tx.now
+        → HoldsBeside ((view_of engine.old).held tx.now.terminal) write.now }
     ensures does { (c : model.Change) → change_written write.now (view_of engine.old) ≡ Some c
         → Does engine.old tx.now (ask_of_write write.now) (Some c) result engine.new }
     ensures there { OnOk result
@@ -65,8 +67,8 @@ pub fn put_held(engine: &mut Engine, tx: &Tx, write: &Write) -> Result<(), Refus
     requires held { IsOpen engine.old tx.now
         → Owns ((view_of engine.old).held tx.now.terminal) tx.now.terminal
         (suc ((view_of engine.old).counts tx.now.terminal)) (governs (key_written write.now)) }
-    requires order { IsOpen engine.old tx.now
-        → WriteHoldsOrder ((view_of engine.old).held tx.now.terminal) write.now }
+    requires beside { IsOpen engine.old tx.now
+        → HoldsBeside ((view_of engine.old).held tx.now.terminal) write.now }
     ensures does { (c : model.Change) → change_written write.now (view_of engine.old) ≡ Some c
         → Does engine.old tx.now Plain (Some c) result engine.new }
     ensures there { OnOk result
@@ -76,4 +78,22 @@ pub fn put_held(engine: &mut Engine, tx: &Tx, write: &Write) -> Result<(), Refus
 {
     engine.is_safe();
     engine.change(tx, write)
+}
+
+/// Carries out a stage that takes a lock and writes to a row in its place, whose name the
+/// transaction holds alone. After an error the engine stands for what it stood for before.
+pub fn put_under(engine: &mut Engine, tx: &Tx, lock: &Lock, write: &Write) -> Result<(), Refusal>
+    requires covered { IsOpen engine.old tx.now
+        → MayWrite (held_after system (Take lock.now.name (mode_of lock.now.mode))
+        ((view_of engine.old).held tx.now.terminal)) tx.now.terminal
+        (suc ((view_of engine.old).counts tx.now.terminal)) write.now }
+    ensures does { (c : model.Change) → change_written write.now (view_of engine.old) ≡ Some c
+        → Does engine.old tx.now (Take lock.now.name (mode_of lock.now.mode)) (Some c)
+        result engine.new }
+    ensures there { OnOk result
+        (IsSome (change_written write.now (view_of engine.old))) }
+    ensures name { engine.new.name ≡ engine.old.name }
+    ensures err { OnErr result (view_of engine.new ≡ view_of engine.old) }
+{
+    engine.change_under(tx, lock, write)
 }

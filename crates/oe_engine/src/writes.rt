@@ -10,7 +10,7 @@ ghost use Rattle.oe_change.specs.Writes.{key_written};
 ghost use Rattle.oe_engine.specs.View.{view_of, IsOpen};
 ghost use Rattle.oe_engine.specs.Covered.{IsOwn};
 ghost use Rattle.oe_engine.specs.Calls.{IsFree, IsFullFor, locked, made, ChangeRefused, PairRefused, stage_done, StageRefused};
-ghost use Rattle.oe_engine.specs.Writes.{ask_of_write, change_written, WriteHoldsOrder, MayWrite, AbsentRefused, AbsentPairRefused, AbsentRowRefused, WantsRow};
+ghost use Rattle.oe_engine.specs.Writes.{ask_of_write, change_written, HoldsBeside, MayWrite, AbsentRefused, AbsentPairRefused, AbsentRowRefused, WantsRow};
 
 use crate::access::lock_of_write;
 use crate::engine::{Engine, Tx};
@@ -115,15 +115,15 @@ impl Engine {
     /// the name in a mode that conflicts. `NoSuchRow`: the row to be changed or deleted is absent.
     /// `UndoFull`: the record fits neither the rest of the transaction's last extent nor a free
     /// one. `NoMemory`: memory was refused for a name that was not held, or for an insert that the
-    /// tables accept, at a key without a place. Else the tables don't accept the insert. After an
-    /// error nothing has changed: a lock that was gained is given back, and a mode that rose has
-    /// fallen again.
+    /// tables accept, at a key without a place, or for another C_LAST. Else the tables don't accept
+    /// the insert. After an error nothing has changed: a lock that was gained is given back, and a
+    /// mode that rose has fallen again.
     pub fn change(&mut self, tx: &Tx, write: &Write) -> Result<(), Refusal>
         requires own { IsOpen self.old tx.now
             → IsOwn tx.now.terminal (suc ((view_of self.old).counts tx.now.terminal))
             (governs (key_written write.now)) }
-        requires order { IsOpen self.old tx.now
-            → WriteHoldsOrder ((view_of self.old).held tx.now.terminal) write.now }
+        requires beside { IsOpen self.old tx.now
+            → HoldsBeside ((view_of self.old).held tx.now.terminal) write.now }
         ensures open { OnOk result (IsOpen self.old tx.now) }
         ensures free { OnOk result
             (IsFree (view_of self.old) tx.now.terminal (ask_of_write write.now)) }
@@ -138,7 +138,8 @@ impl Engine {
         ensures cause { ForSome (change_written write.now (view_of self.old))
             (λ c. IfErr result (StageRefused self.old tx.now (ask_of_write write.now) (Some c))) }
         ensures absent { change_written write.now (view_of self.old) ≡ None
-            → IfErr result (AbsentRowRefused self.old tx.now (key_written write.now)) }
+            → IfErr result
+            (AbsentRowRefused self.old tx.now (ask_of_write write.now) (key_written write.now)) }
         ensures full { ForSome (change_written write.now (view_of self.old))
             (λ c. IfErr result
             (λ e. e ≡ Refusal.UndoFull → IsFullFor (view_of self.old) tx.now.terminal c)) }
@@ -158,5 +159,50 @@ impl Engine {
             None => self.put(terminal, write),
             Some(lock) => self.take_and_put(terminal, &lock, write),
         }
+    }
+    /// Writes to one row in its place for a transaction that holds the row's name alone, with its
+    /// undo record, and takes another lock, beside which the write is covered: a customer's new
+    /// names go under the name of who has that C_LAST.
+    ///
+    /// Refused as `change`, where the lock is this one: after an error nothing has changed.
+    pub fn change_under(&mut self, tx: &Tx, lock: &Lock, write: &Write) -> Result<(), Refusal>
+        requires covered { IsOpen self.old tx.now
+            → MayWrite (held_after system (Take lock.now.name (mode_of lock.now.mode))
+            ((view_of self.old).held tx.now.terminal)) tx.now.terminal
+            (suc ((view_of self.old).counts tx.now.terminal)) write.now }
+        ensures open { OnOk result (IsOpen self.old tx.now) }
+        ensures free { OnOk result
+            (IsFree (view_of self.old) tx.now.terminal
+            (Take lock.now.name (mode_of lock.now.mode))) }
+        ensures there { OnOk result (IsSome (change_written write.now (view_of self.old))) }
+        ensures accepted { ForSome (change_written write.now (view_of self.old))
+            (λ c. OnOk result (Accepts c (view_of self.old).rows)) }
+        ensures done { ForSome (change_written write.now (view_of self.old))
+            (λ c. OnOk result
+            (view_of self.new
+            ≡ stage_done tx.now.terminal (Take lock.now.name (mode_of lock.now.mode)) (Some c)
+            (view_of self.old))) }
+        ensures name { self.new.name ≡ self.old.name }
+        ensures cause { ForSome (change_written write.now (view_of self.old))
+            (λ c. IfErr result (StageRefused self.old tx.now
+            (Take lock.now.name (mode_of lock.now.mode)) (Some c))) }
+        ensures absent { change_written write.now (view_of self.old) ≡ None
+            → IfErr result (AbsentRowRefused self.old tx.now
+            (Take lock.now.name (mode_of lock.now.mode)) (key_written write.now)) }
+        ensures full { ForSome (change_written write.now (view_of self.old))
+            (λ c. IfErr result
+            (λ e. e ≡ Refusal.UndoFull → IsFullFor (view_of self.old) tx.now.terminal c)) }
+        ensures fits { ForSome (change_written write.now (view_of self.old))
+            (λ c. OnOk result (IsFullFor (view_of self.old) tx.now.terminal c → ⊥)) }
+        ensures wants { (IsNew system ((view_of self.old).held tx.now.terminal)
+            (Take lock.now.name (mode_of lock.now.mode)) → ⊥) → IfErr result
+            (λ e. e ≡ Refusal.NoMemory
+            → WantsRow (change_written write.now (view_of self.old)) self.old.tables) }
+        ensures err { OnErr result (view_of self.new ≡ view_of self.old) }
+    {
+        if !self.is_open(tx) {
+            return Err(Refusal::NotOpen);
+        }
+        self.take_and_put(tx.terminal(), lock, write)
     }
 }

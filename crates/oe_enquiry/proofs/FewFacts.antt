@@ -42,7 +42,7 @@ use Rattle.oe_log.specs.Log.{SegmentLog}
 use Rattle.oe_log.specs.Moments.{store_with}
 use Rattle.oe_versions.specs.Versions.{version, Stand}
 use Rattle.oe_versions.proofs.LastingFacts.{rows_last}
-use Rattle.oe_versions.proofs.LineFacts.{left, right, lower, same_number}
+use Rattle.oe_versions.proofs.ClimbFacts.{left, right, lower, same_number}
 use Rattle.oe_enquiry.specs.Few.{Orders_are_short, Recent_are_few, Levels_are_small}
 use Rattle.oe_enquiry.proofs.ListedFacts.{no_more, is_mapped}
 

@@ -63,11 +63,11 @@ fn decimal(out: &mut Pending, number: u128)
 
 /// Appends why a whole line is no command, while something is open, or nothing.
 fn tell_line(out: &mut Pending, line: &[u8], is_open: bool)
-    requires room { array_vec_len out.old + length line.now + 900 ≤ SIZE }
+    requires room { array_vec_len out.old + length line.now + 1_120 ≤ SIZE }
     requires bad { IsUntaken is_open line.now }
     ensures items { (why : List ℕ) × IsLineWhy is_open line.now why
         × (out.new.items ≡ out.old.items ++ why) }
-    ensures len { array_vec_len out.new ≤ array_vec_len out.old + length line.now + 900 }
+    ensures len { array_vec_len out.new ≤ array_vec_len out.old + length line.now + 1_120 }
 {
     let Some(reason) = why(line, is_open) else {
         unreachable!()
@@ -77,11 +77,11 @@ fn tell_line(out: &mut Pending, line: &[u8], is_open: bool)
 
 /// Appends why a line is answered `BadLine`.
 fn tell_why(out: &mut Pending, line: &[u8], place: Place)
-    requires room { array_vec_len out.old + 2_000 ≤ SIZE }
+    requires room { array_vec_len out.old + 2_200 ≤ SIZE }
     requires bad { IsBad place line.now }
     ensures items { (why : List ℕ) × IsWhy place line.now why
         × (out.new.items ≡ out.old.items ++ why) }
-    ensures len { array_vec_len out.new ≤ array_vec_len out.old + 2_000 }
+    ensures len { array_vec_len out.new ≤ array_vec_len out.old + 2_200 }
 {
     match place {
         Place::Closed => tell_line(out, line, false),

@@ -3,7 +3,6 @@
 ghost use Rattle.std.specs.Prelude.{◌≡◌, ℕ, ◌≤◌, Option, true, false};
 ghost use Rattle.oe_theory.specs.World.{newest, horizon};
 ghost use Rattle.oe_model.specs.System.{system};
-ghost use Rattle.oe_admission.specs.Programs.{HasProgram};
 ghost use Rattle.oe_core.specs.Core.{world_of};
 ghost use Rattle.oe_core.specs.Steps.{Carries, Advances, begin_answer};
 ghost use Rattle.oe_hall.specs.Turns.{keeps, advanced_of, end_answer, read_answer, IsYoung, IsSorted, HasMoved, LeavesReply, BeginMoves, EndMoves, HasPurged};
@@ -39,7 +38,6 @@ fn keeps(refusal: &Refusal) -> bool
 /// Begins the terminal's transaction. A refusal has changed nothing.
 #[tactic(auto, using(crate::proofs::TurnFacts::after_begin, crate::proofs::TurnFacts::after_refused_begin))]
 pub fn begin(core: &mut Core, terminal: Terminal, request: &Request) -> Result<(), Refusal>
-    requires { HasProgram request.now }
     ensures step { Carries (world_of core.old) (Step.Begin terminal request.now)
         (begin_answer result) (world_of core.new) }
     ensures counts { BeginMoves result (world_of core.old) (world_of core.new) }

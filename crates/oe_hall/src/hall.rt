@@ -7,7 +7,6 @@ ghost use Rattle.std.specs.Prelude.{◌≡◌, ◌<◌, ◌^◌, min};
 ghost use Rattle.std.specs.Arc.{arc_value};
 ghost use Rattle.oe_theory.specs.World.{newest, horizon};
 ghost use Rattle.oe_model.specs.System.{system};
-ghost use Rattle.oe_admission.specs.Programs.{HasProgram};
 ghost use Rattle.oe_core.specs.Core.{world_of};
 ghost use Rattle.oe_moments.specs.Rule.{at_start};
 ghost use Rattle.oe_moments.specs.Pins.{AreOfDesks};
@@ -103,8 +102,7 @@ impl<J: Naming> Hall<J> {
         terminal: Terminal,
         request: &Request,
     ) -> Result<(), Refusal>
-        requires part { 0 < told.old.parts }
-        requires program { HasProgram request.now }
+        requires { 0 < told.old.parts }
         ensures counted { IsTold told.old self.old × IsTold told.new self.new }
         ensures hall { IsHall self.old × IsHall self.new }
         ensures turn { BeginTurn self.old terminal request.now result self.new }

@@ -13,7 +13,6 @@ ghost use Rattle.oe_theory.specs.World.{newest, horizon};
 ghost use Rattle.oe_model.specs.Conditions.{IsPopulation};
 ghost use Rattle.oe_model.specs.System.{system};
 ghost use Rattle.oe_store.specs.Places.{rows};
-ghost use Rattle.oe_admission.specs.Programs.{HasProgram};
 ghost use Rattle.oe_core.specs.Core.{world_of};
 ghost use Rattle.oe_moments.specs.Rule.{saw, with_pin, at_start, pin_word};
 ghost use Rattle.oe_moments.specs.Pins.{AreOfDesks, with_notes, is_pinned, Holds};
@@ -469,7 +468,6 @@ impl<J: Naming> Desk<J> {
         front: &Front<J>,
         request: &Request,
     ) -> Result<Open, Refusal>
-        requires { HasProgram request.now }
         ensures turn { ABegin self.old request.now result }
         ensures told { self.new ≡ with_told (begin_told (begins result) self.old.told) self.old }
         ensures open { IfOk result (λ o. (o.shop ≡ self.old.seat.shop)

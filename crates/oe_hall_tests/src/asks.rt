@@ -1,5 +1,4 @@
 //! Requests and queries at a place.
-ghost use Rattle.oe_admission.specs.Programs.{HasProgram};
 
 use oe_requests::{
     CustomerChoice, DeliveriesRequest, DeliveryRequest, LevelQuery, NewOrderRequest,
@@ -93,9 +92,7 @@ fn stamp(rt: &impl Abort) -> Stamp {
 }
 
 /// Makes a request at a place.
-pub(crate) fn request(rt: &impl Abort, at: &Place, ask: Ask) -> Request
-    ensures { HasProgram result }
-{
+pub(crate) fn request(rt: &impl Abort, at: &Place, ask: Ask) -> Request {
     match ask {
         Ask::Order(further) => Request::NewOrder(order(rt, at, further, 5)),
         Ask::Unused => Request::NewOrder(order(rt, at, 0, 21)),

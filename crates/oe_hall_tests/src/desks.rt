@@ -1,5 +1,4 @@
 //! What a desk tells of a move.
-ghost use Rattle.oe_admission.specs.Programs.{HasProgram};
 
 use crate::asks::{Place, query, request};
 use crate::moves::{Act, Hand, Said, Told, alone, answered, answered_at, put, refused, taken};
@@ -57,9 +56,7 @@ fn begun<J: Naming, H: Wait + Abort>(
     desk: &mut Desk<J>,
     hand: &mut Hand,
     request: &Request,
-) -> Said
-    requires { HasProgram request.now }
-{
+) -> Said {
     match desk.begin(rt, front, request) {
         Ok(open) => {
             put(rt, &mut hand.open, open);

@@ -1,7 +1,4 @@
 //! Who plays a script: the desks of a shop, and a core.
-ghost use Rattle.std.specs.Prelude.{IfSome};
-ghost use Rattle.oe_admission.specs.Programs.{HasProgram};
-ghost use Rattle.oe_core.specs.Steps.{begins_with};
 
 use crate::asks::{Place, query, request};
 use crate::desks::{asked, moment};
@@ -15,9 +12,13 @@ use std::sync::Wait;
 
 // Says which step a terminal asks a core for; none where only desks can be asked. A query is read
 // at that moment, and that moment is purged up to.
-fn step_of(rt: &impl Abort, terminal: Terminal, at: &Place, act: Act, commits: u64) -> Option<Step>
-    ensures { IfSome result (λ s. IfSome (begins_with s) HasProgram) }
-{
+fn step_of(
+    rt: &impl Abort,
+    terminal: Terminal,
+    at: &Place,
+    act: Act,
+    commits: u64,
+) -> Option<Step> {
     match act {
         Act::Begin(ask) => Some(Step::Begin(terminal, request(rt, at, ask))),
         Act::Advance | Act::CarryOut => Some(Step::Advance(terminal)),
@@ -29,9 +30,7 @@ fn step_of(rt: &impl Abort, terminal: Terminal, at: &Place, act: Act, commits: u
 }
 
 // Tells whether a core answers a step as a desk did.
-fn is_alike(rt: &impl Abort, core: &mut Core, step: Step, said: &Said) -> bool
-    requires { IfSome (begins_with step) HasProgram }
-{
+fn is_alike(rt: &impl Abort, core: &mut Core, step: Step, said: &Said) -> bool {
     let Some(told) = &said.answer else {
         return false;
     };

@@ -14,6 +14,7 @@ use Rattle.oe_rows.specs.declared.before.StockBefore.{StockBefore}
 use Rattle.oe_image.specs.declared.parts.WarehousePart.{WarehousePart}
 use Rattle.oe_image.specs.declared.parts.DistrictPart.{DistrictPart}
 use Rattle.oe_image.specs.declared.parts.CustomerPart.{CustomerPart}
+use Rattle.oe_image.specs.declared.parts.CustomerNamePart.{CustomerNamePart}
 use Rattle.oe_image.specs.declared.parts.OrderPart.{OrderPart}
 use Rattle.oe_image.specs.declared.parts.OrderLinePart.{OrderLinePart}
 use Rattle.oe_image.specs.declared.parts.StockPart.{StockPart}
@@ -49,6 +50,32 @@ columns_of account text = record {
 
 abbrev pub customer_part : CustomerPart → CustomerBefore
 customer_part c = columns_of (account_before c.before.now c.after.now) (option_map (λ t. t.now) c.data)
+
+abbrev pub no_account : AccountBefore
+no_account = record {
+  credit_limit = None;
+  discount = None;
+  balance = None;
+  ytd_payment = None;
+  payment_count = None;
+  delivery_count = None;
+}
+
+-- of a customer C_FIRST and C_LAST
+abbrev pub customer_name_part : CustomerNamePart → CustomerBefore
+customer_name_part n = record {
+  name = record {
+    first = option_map (λ t. t.now) n.first;
+    middle = None;
+    last = option_map (λ t. t.now) n.last;
+  };
+  address = no_address;
+  phone = None;
+  since = None;
+  credit = None;
+  account = no_account;
+  «data» = None;
+}
 
 abbrev pub order_part : OrderPart → OrderBefore
 order_part o =

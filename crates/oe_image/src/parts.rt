@@ -10,8 +10,8 @@ ghost use Rattle.oe_image.specs.Before.{warehouse_before, district_before, custo
 ghost use Rattle.oe_image.specs.Before.{order_line_before, stock_before};
 ghost use Rattle.oe_image.specs.Before.{warehouse_bits, district_bits, customer_bits, order_bits};
 ghost use Rattle.oe_image.specs.Before.{order_line_bits, stock_bits};
-ghost use Rattle.oe_image.specs.Parts.{columns_of, warehouse_part, district_part, customer_part, order_part};
-ghost use Rattle.oe_image.specs.Parts.{order_line_part, stock_part};
+ghost use Rattle.oe_image.specs.Parts.{columns_of, warehouse_part, district_part, customer_part};
+ghost use Rattle.oe_image.specs.Parts.{customer_name_part, order_part, order_line_part, stock_part};
 
 use crate::columns::Imaged;
 use crate::masks::{bit, kept_length, ranged_length, write_kept, write_ranged};
@@ -41,6 +41,13 @@ pub struct CustomerPart<'a> {
     pub before: &'a Account,
     pub after: &'a Account,
     pub data: Option<&'a Text<0, 500>>,
+}
+
+/// Of a CUSTOMER row C_FIRST and C_LAST, lent from where they lie.
+#[derive(Drop)]
+pub struct CustomerNamePart<'a> {
+    pub first: Option<&'a Text<0, 16>>,
+    pub last: Option<&'a Text<0, 16>>,
 }
 
 /// Of an ORDER row O_CARRIER_ID.
@@ -185,7 +192,7 @@ impl<'a> Imaged for CustomerPart<'a> {
     #[tactic(auto, unfolding(crate::specs::Before::customer_columns, crate::specs::Before::name_columns, crate::specs::Before::address_columns))]
     fn length(&self) -> usize {
         let account = AccountBefore::of(self.before, self.after);
-        3 + account.length() + data_length(&self.data)
+        3 + account.length() + text_length(&self.data)
     }
 
     #[inline(always)]
@@ -194,15 +201,47 @@ impl<'a> Imaged for CustomerPart<'a> {
         let account = AccountBefore::of(self.before, self.after);
         let at = write_customer_mask(&account, &self.data, bytes, start);
         let at = account.write(bytes, at);
-        write_data(&self.data, bytes, at)
+        write_lent(&self.data, bytes, at)
     }
 }
 
-/// Tells how many bytes the image of C_DATA has, and 0 where it is not there.
+/// Writes which columns of a CUSTOMER row's names change, and answers the offset behind it.
 #[inline(always)]
-fn data_length(column: &Option<&Text<0, 500>>) -> usize
+fn write_name_mask(n: &CustomerNamePart<'_>, bytes: &mut [u8], start: usize) -> usize
+    requires { start + 3 ≤ length bytes.old }
+    ensures { Writes bytes.old start (mask 3 (customer_bits (customer_name_part n.now)))
+        bytes.new result }
+{
+    let bits = bit(&n.first, 8_388_608) + bit(&n.last, 2_097_152);
+    write_number(bytes, start, u64::from(bits), 3)
+}
+
+impl<'a> Imaged for CustomerNamePart<'a> {
+    ghost most = { 39 };
+
+    ghost image = { λ n. customer_before (customer_name_part n) };
+
+    #[inline]
+    #[tactic(auto, unfolding(crate::specs::Before::customer_columns, crate::specs::Before::name_columns, crate::specs::Before::address_columns, crate::specs::Before::account_columns))]
+    fn length(&self) -> usize {
+        3 + text_length(&self.first) + text_length(&self.last)
+    }
+
+    #[inline]
+    #[tactic(auto, unfolding(crate::specs::Before::customer_columns, crate::specs::Before::name_columns, crate::specs::Before::address_columns, crate::specs::Before::account_columns))]
+    fn write(&self, bytes: &mut [u8], start: usize) -> usize {
+        let at = write_name_mask(self, bytes, start);
+        let at = write_lent(&self.first, bytes, at);
+        write_lent(&self.last, bytes, at)
+    }
+}
+
+/// Tells how many bytes the image of a lent text has, and 0 where it is not there.
+#[inline(always)]
+fn text_length<const MOST: usize>(column: &Option<&Text<0, MOST>>) -> usize
+    requires { MOST ≤ 500 }
     ensures value { result ≡ length (kept_text (option_map (λ t. t.now) column.now)) }
-    ensures short { result ≤ 502 }
+    ensures short { result ≤ MOST + 2 }
 {
     match column {
         Some(text) => text.length(),
@@ -210,10 +249,15 @@ fn data_length(column: &Option<&Text<0, 500>>) -> usize
     }
 }
 
-/// Writes C_DATA, if it is there, from offset `start` on, and answers the offset behind it.
+/// Writes a lent text, if it is there, from offset `start` on, and answers the offset behind it.
 #[inline(always)]
-fn write_data(column: &Option<&Text<0, 500>>, bytes: &mut [u8], start: usize) -> usize
-    requires { start + length (kept_text (option_map (λ t. t.now) column.now))
+fn write_lent<const MOST: usize>(
+    column: &Option<&Text<0, MOST>>,
+    bytes: &mut [u8],
+    start: usize,
+) -> usize
+    requires short { MOST ≤ 500 }
+    requires room { start + length (kept_text (option_map (λ t. t.now) column.now))
         ≤ length bytes.old }
     ensures { Writes bytes.old start (kept_text (option_map (λ t. t.now) column.now)) bytes.new
         result }

@@ -1,8 +1,8 @@
 -- Lists of keys, of which one is given a key, or loses one.
 use Rattle.std.proofs.Common.{◌≡◌, refl, sym, ◌∙◌, ap, subst, Bool, true, false, cond, ℕ, suc, zero, ◌<◌, List, [], ◌∷◌}
-use Rattle.std.proofs.Common.{◌++◌, length, get_or, set, replicate, Option, Some, None, Result, Ok, Err}
+use Rattle.std.proofs.Common.{◌++◌, length, get_or, set, replicate, arith, Option, Some, None, Result, Ok, Err}
 use Rattle.std.specs.Prelude.{◌↔◌, ◌≤◌, IsSome}
-use Rattle.std.specs.Result.{OnOk, OnErr}
+use Rattle.std.specs.Result.{OnOk, OnErr, is_ok}
 use Rattle.std.specs.List.Sorted.{IsStrictlySortedBy}
 use Rattle.std.specs.Ordering.{is_eq}
 use Rattle.std.specs.declared.cmp.Ordering.{Ordering}
@@ -12,8 +12,8 @@ use Rattle.std.proofs.lemmas.List.{get_or-set_same, get_or-set_other, get_or_pas
 use borrow.Author.Tests.{eqb-true, eqb-false}
 use lib.Dec.{eqb}
 use Rattle.oe_table.specs.Table.{place}
-use Rattle.oe_table.specs.Shelf.{IsAscending, put_at, without}
-use Rattle.oe_table.proofs.ShelfFacts.{lookup-put, ascending-put}
+use Rattle.oe_table.specs.Shelf.{IsAscending, IsFound, put_at, without}
+use Rattle.oe_table.proofs.ShelfFacts.{lookup-put, ascending-put, place-at}
 use Rattle.oe_table.proofs.ShelvesFacts.{get_or-padded}
 use Rattle.oe_table.proofs.TableFacts.{tied}
 use Rattle.oe_table.proofs.TakenOutFacts.{lookup-without, ascending-without}
@@ -116,6 +116,14 @@ module _ {K : Type 0} (cmp : K → K → Ordering) where
 
 none-there : {P : Type 0} → false ≡ true → P
 none-there h = absurd (let no : ⊥ = cc in no)
+
+-- a search for a key finds it where it is listed
+pub is-found : {K : Type 0} (cmp : K → K → Ordering) → IsTotalOrder cmp → (s : Keys K) (key : K) (r : Result ℕ ℕ)
+    → IsAscending cmp s → IsFound cmp s key r → (is_ok r ≡ true) ↔ IsSome (place cmp s key)
+is-found cmp total [] key (Ok i) up at = absurd (omega (arith, at.0))
+is-found cmp total (e ∷ s) key (Ok i) up at =
+    ((λ t. subst IsSome (sym (place-at cmp total (e ∷ s) key i up at e)) refl), (λ h. refl))
+is-found cmp total s key (Err i) up at = ((λ t. none-there t), (λ h. none-there (subst IsSome at.2 h)))
 
 -- a key that has no place in the list under i was not listed there
 pub not-listed : {K A E : Type 0} (cmp : K → K → Ordering) (r : Result A E) (old ls : List (Keys K)) (s : Keys K)

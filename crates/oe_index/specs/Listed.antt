@@ -1,5 +1,5 @@
 -- Keys in lists under numbers, and the rows that are found by a list.
-use Rattle.std.specs.Prelude.{◌≡◌, ◌↔◌, ℕ, ⊤, Bool, true, false, List, [], ◌∷◌, Option, None, Some, IsSome}
+use Rattle.std.specs.Prelude.{◌≡◌, ◌≢◌, ◌↔◌, ℕ, ⊤, Bool, true, false, List, [], ◌∷◌, Option, None, Some, IsSome}
 use Rattle.std.specs.Prelude.{slice_index_or}
 use Rattle.std.specs.Ordering.{eq_by_cmp, nat_cmp}
 use Rattle.std.specs.Cmp.Lexicographic.{slice_cmp}
@@ -65,3 +65,7 @@ module _ {K : Type 0} (cmp : K → K → Ordering) where
 abbrev pub is_name : List ℕ → Option Customer → Bool
 is_name last None = false
 is_name last (Some x) = eq_by_cmp (slice_cmp nat_cmp) x.name.last last
+
+-- the row is there, and its C_LAST is another one
+abbrev pub HasOtherName : List ℕ → Option Customer → Type 0
+HasOtherName last o = (c : Customer) × (o ≡ Some c) × (last ≢ c.name.last)

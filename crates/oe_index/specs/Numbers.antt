@@ -1,5 +1,5 @@
 -- The numbers of lists: of the customers of a district and last name, and of a customer's orders.
-use Rattle.std.specs.Prelude.{ℕ, ◌+◌, ◌-◌, ◌*◌, ◌%◌, List, [], ◌∷◌}
+use Rattle.std.specs.Prelude.{ℕ, ◌+◌, ◌-◌, ◌*◌, ◌%◌, ◌==◌, Bool, false, List, [], ◌∷◌, Option, None, Some}
 use Rattle.oe_rows.specs.declared.keys.DistrictKey.{DistrictKey}
 use Rattle.oe_rows.specs.declared.keys.CustomerKey.{CustomerKey}
 use Rattle.oe_rows.specs.declared.keys.OrderKey.{OrderKey}
@@ -25,6 +25,11 @@ list_number h last = number_in h (name_number last)
 
 abbrev pub list_of_name : CustomerKey → Customer → ℕ
 list_of_name k x = list_number (district_of_customer k) x.name.last
+
+-- whether it is the number of the list of the customer's own C_LAST
+abbrev pub is_list_of : ℕ → CustomerKey → Option Customer → Bool
+is_list_of n k None = false
+is_list_of n k (Some x) = list_of_name k x == n
 
 -- the number of the list of a customer's orders
 abbrev pub owner_number : CustomerKey → ℕ

@@ -2,11 +2,14 @@
 //!
 //! Beside the rows each customer's key is listed under a number of district and last name, so that
 //! a walk over customers of one name meets few others. By the invariant each row's key is in the
-//! list of its last name, unless the lists were given up: they are where a row takes the place of
-//! one of another name, or a name is put back, since listing it could take memory. Walks then go
-//! over all rows that they are given. Only `put_new` takes memory; where that is refused the table
-//! is as before.
-ghost use Rattle.std.specs.Prelude.{◌≡◌, Some, None, OnOk, OnErr, IsSome, []};
+//! list of its last name, unless the lists were given up; walks then go over all rows that they are
+//! given. `set_names` and `replace` list a customer under another last name before they write it,
+//! and leave it in the list of the name before, until `forget_name` takes it off there: so `swap`
+//! and `put_back`, which may not take memory, find it listed where they put that name back. Where
+//! they put one under which it is not listed, they give the lists up. Only `put_new`, and
+//! `set_names` and `replace` for another last name, take memory; where that is refused the table is
+//! as before.
+ghost use Rattle.std.specs.Prelude.{◌≡◌, Some, None, OnOk, OnErr, IfOk, IsSome, []};
 ghost use Rattle.std.specs.Option.{option_copied};
 ghost use Rattle.std.specs.FinMap.{entries};
 ghost use Rattle.std.specs.FinMap as map;
@@ -17,14 +20,14 @@ ghost use Rattle.oe_rows.specs.Before.{with_customer};
 ghost use Rattle.oe_rows.specs.Credit.{with_entry};
 ghost use Rattle.oe_rows.specs.declared.customers.Customer.{Customer};
 ghost use Rattle.oe_model.specs.Choice.{namesakes};
+ghost use Rattle.oe_model.specs.Rename.{with_names};
 ghost use Rattle.oe_table.specs.Table.{rows_of, GivesUpBlanked, SetsPlace, RewritesRow};
-ghost use Rattle.oe_model.specs.Keys.{district_of_customer};
-ghost use Rattle.oe_index.specs.Listed.{IsListed, ListsMore, is_name};
-ghost use Rattle.oe_index.specs.Numbers.{list_number};
+ghost use Rattle.oe_index.specs.Listed.{HasOtherName};
 ghost use Rattle.oe_index.specs.Own.{named_of};
 
 use crate::flags::are_both;
 use crate::lists::Lists;
+use crate::names::{is_own_list, is_under, is_under_before, list, list_renamed};
 use crate::numbers::list_number;
 use crate::walks::Found;
 use oe_rows::{Account, Customer, CustomerBefore, CustomerKey, DistrictKey};
@@ -32,7 +35,6 @@ use oe_table::shelf_walks::{Candidates, Rows};
 use oe_table::shelves::Shelves;
 use oe_values::{NoMemory, Text};
 use std::alloc::Global;
-use std::cmp::Ordering;
 use std::marker::Model;
 
 /// The CUSTOMER rows by their keys, seen as a table of shelves: as the list of its places.
@@ -58,20 +60,6 @@ impl Model for Customers {
 
     ghost invariant = { λ t.
         AreListed customer_cmp list_of_name t.is_listed t.lists (rows_of customer_cmp t.rows) };
-}
-
-// Lists a customer under the district and C_LAST.
-fn list(
-    lists: &mut Lists<CustomerKey>,
-    key: &CustomerKey,
-    last: &Text<0, 16>,
-) -> Result<(), NoMemory>
-    ensures kept { ListsMore customer_cmp lists.old lists.new }
-    ensures listed { OnOk result (IsListed customer_cmp lists.new
-        (list_number (district_of_customer key.now) last.now) key.now) }
-{
-    let number = list_number(&key.district_key(), last);
-    lists.add(number, *key)
 }
 
 impl Customers {
@@ -109,8 +97,9 @@ impl Customers {
         self.rows.put_new(key, row)
     }
 
-    /// Puts another row in the place of the one at a key that has a row, and answers that one.
-    /// Where its C_LAST is another, all lists are given up.
+    /// Puts another row in the place of the one at a key that has a row, and answers that one. It
+    /// takes no memory: where the customer is not listed under the new C_LAST, all lists are given
+    /// up.
     pub fn swap(&mut self, key: &CustomerKey, row: Customer) -> Customer
         requires { IsSome (map.get (rows_of customer_cmp self.old) key.now) }
         ensures before { map.get (rows_of customer_cmp self.old) key.now ≡ Some result }
@@ -118,19 +107,67 @@ impl Customers {
         ensures rows { rows_of customer_cmp self.new
             ≡ map.insert (rows_of customer_cmp self.old) key.now row }
     {
-        let stays = self.has_name(key, &row.name.last);
+        let stays = is_under(&self.lists, &self.rows, key, &row.name.last);
         self.is_listed = are_both(self.is_listed, stays);
         self.rows.swap(key, row)
     }
 
-    // Whether the customer of a key has that C_LAST.
-    fn has_name(&self, key: &CustomerKey, last: &Text<0, 16>) -> bool
-        ensures { result ≡ is_name last.now (map.get (rows_of customer_cmp self.now) key.now) }
+    /// Puts another row in the place of the one at a key that has a row, and answers that one.
+    /// `NoMemory` comes only where its C_LAST is another and there was none for that one's list;
+    /// the table is then as before, and the row is dropped.
+    pub fn replace(&mut self, key: &CustomerKey, row: Customer) -> Result<Customer, NoMemory>
+        requires { IsSome (map.get (rows_of customer_cmp self.old) key.now) }
+        ensures before { IfOk result
+            (λ c. map.get (rows_of customer_cmp self.old) key.now ≡ Some c) }
+        ensures places { OnOk result (SetsPlace customer_cmp self.old self.new key.now (Some row)) }
+        ensures rows { OnOk result (rows_of customer_cmp self.new
+            ≡ map.insert (rows_of customer_cmp self.old) key.now row) }
+        ensures err { OnErr result (self.new ≡ self.old) }
+        ensures renamed { OnErr result
+            (HasOtherName row.name.last (map.get (rows_of customer_cmp self.old) key.now)) }
     {
-        match self.get(key) {
-            Some(row) => row.name.last.as_str().cmp(last.as_str()) == Ordering::Equal,
-            None => false,
+        if let Err(refusal) = list_renamed(&mut self.lists, &self.rows, key, &row.name.last) {
+            return Err(refusal);
         }
+        Ok(self.rows.swap(key, row))
+    }
+
+    /// Sets C_LAST and C_FIRST of the row at a key that has a row. `NoMemory` comes only where
+    /// C_LAST is another and there was none for its list; the table is then as before.
+    pub fn set_names(
+        &mut self,
+        key: &CustomerKey,
+        last: &Text<0, 16>,
+        first: &Text<0, 16>,
+    ) -> Result<(), NoMemory>
+        requires { IsSome (map.get (rows_of customer_cmp self.old) key.now) }
+        ensures ok { OnOk result
+            ((c : Customer) → map.get (rows_of customer_cmp self.old) key.now ≡ Some c
+            → RewritesRow customer_cmp self.old self.new key.now
+            (with_names last.now first.now c)) }
+        ensures err { OnErr result (self.new ≡ self.old) }
+        ensures renamed { OnErr result
+            (HasOtherName last.now (map.get (rows_of customer_cmp self.old) key.now)) }
+    {
+        if let Err(refusal) = list_renamed(&mut self.lists, &self.rows, key, last) {
+            return Err(refusal);
+        }
+        let customer = self.rows.row_mut(key).unwrap();
+        customer.name.last = last.copied();
+        customer.name.first = first.copied();
+        Ok(())
+    }
+
+    /// Takes a customer off the list of a C_LAST that nobody finds it by any more. Where its own
+    /// C_LAST has the same list, it stays listed there.
+    pub fn forget_name(&mut self, key: &CustomerKey, last: &Text<0, 16>)
+        ensures { self.new ≡ self.old }
+    {
+        let number = list_number(&key.district_key(), last);
+        if is_own_list(&self.rows, key, number) {
+            return;
+        }
+        self.lists.remove(number, key);
     }
 
     /// Sets the account of the row at a key that has a row.
@@ -157,15 +194,15 @@ impl Customers {
         debtor.data = entry.before(&debtor.data);
     }
 
-    /// Puts columns before an update back on the row at a key that has a row. Where C_LAST is among
-    /// them, all lists are given up.
+    /// Puts columns before an update back on the row at a key that has a row. It takes no memory:
+    /// where C_LAST is among them and the customer is not listed under it, all lists are given up.
     pub fn put_back(&mut self, key: &CustomerKey, columns: CustomerBefore)
         requires { IsSome (map.get (rows_of customer_cmp self.old) key.now) }
         ensures { (c : Customer) → map.get (rows_of customer_cmp self.old) key.now ≡ Some c
             → RewritesRow customer_cmp self.old self.new key.now (with_customer columns c) }
     {
-        let same_name = columns.name.last.is_none();
-        self.is_listed = are_both(self.is_listed, same_name);
+        let stays = is_under_before(&self.lists, key, &columns.name.last);
+        self.is_listed = are_both(self.is_listed, stays);
         let customer = self.rows.row_mut(key).unwrap();
         columns.put_on(customer);
     }

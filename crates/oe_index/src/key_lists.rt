@@ -1,7 +1,7 @@
 //! Keys in their order, of which a single one may take no memory of its own.
 //!
 //! Only `put` takes memory; where that is refused the list is as before.
-ghost use Rattle.std.specs.Prelude.{◌≡◌, Some, None, Option, [], ◌∷◌, OnOk, OnErr, IfOk, IfSome, IfNone};
+ghost use Rattle.std.specs.Prelude.{◌≡◌, ◌↔◌, Some, None, Option, [], ◌∷◌, OnOk, OnErr, IfOk, IfSome, IfNone, IsSome, IsTrue};
 ghost use Rattle.oe_table.specs.Table.{place};
 ghost use Rattle.oe_table.specs.Shelf.{IsAscending, put_at, without};
 ghost use Rattle.oe_index.specs.Listed.{alone};
@@ -9,6 +9,7 @@ ghost use Rattle.oe_index.specs.Listed.{alone};
 use oe_table::shelf::{Shelf, Slot};
 use oe_values::{NoMemory, ShelvedKey};
 use std::alloc::Global;
+use std::cmp::Ordering;
 use std::marker::Model;
 use std::slice::Iter;
 
@@ -47,6 +48,19 @@ fn pair<K: ShelvedKey + Copy + Drop>(
         return Err(refusal);
     }
     Ok(keys)
+}
+
+// Whether a key is among slots whose keys ascend.
+fn is_among<K: ShelvedKey>(slots: &[Slot<K, ()>], key: &K) -> bool
+    requires { IsAscending K.cmp slots.now }
+    ensures { IsTrue result ↔ IsSome (place K.cmp slots.now key.now) }
+{
+    let found = slots.binary_search_by(
+        |slot: &Slot<K, ()>| -> Ordering
+            ensures { result ≡ K.cmp slot.now.0 key.entry.now }
+        { slot.parts().0.cmp(key) },
+    );
+    found.is_ok()
 }
 
 impl<K> KeyList<K> {
@@ -102,6 +116,17 @@ impl<K: ShelvedKey + Copy + Drop> KeyList<K> {
             return Ok(());
         }
         self.several.put(key, ())
+    }
+
+    /// Tells whether a key is listed.
+    pub(crate) fn has(&self, key: &K) -> bool
+        requires { IsAscending K.cmp self.now }
+        ensures { IsTrue result ↔ IsSome (place K.cmp self.now key.now) }
+    {
+        let Some(single) = self.single else {
+            return is_among(self.several.slots(), key);
+        };
+        key.cmp(&single).is_eq()
     }
 
     /// Takes a key off. Where it is not listed, nothing changes.

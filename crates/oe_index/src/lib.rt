@@ -6,6 +6,7 @@ pub mod customers;
 mod flags;
 mod key_lists;
 mod lists;
+mod names;
 mod numbers;
 pub mod orders;
 pub mod walks;

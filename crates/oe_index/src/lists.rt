@@ -3,7 +3,7 @@
 //! By the invariant the keys of each list ascend. A key is listed once under a number, until it is
 //! taken off. Only `add` takes memory, for a key that is not listed; where that is refused each key
 //! is listed as before.
-ghost use Rattle.std.specs.Prelude.{◌≡◌, ◌<◌, ◌≤◌, ℕ, [], ◌++◌, replicate, vec_len, OnOk, OnErr, slice_index_or};
+ghost use Rattle.std.specs.Prelude.{◌≡◌, ◌↔◌, ◌<◌, ◌≤◌, ℕ, [], ◌++◌, replicate, vec_len, OnOk, OnErr, IsTrue, slice_index_or};
 ghost use Rattle.oe_table.specs.Shelf.{IsAscending};
 ghost use Rattle.oe_index.specs.Listed.{IsListed, ListsMore, Unlists};
 
@@ -69,6 +69,18 @@ impl<K: ShelvedKey> Lists<K> {
             return KeyWalk::none();
         };
         list.keys()
+    }
+
+    /// Tells whether a key is listed under a number.
+    pub(crate) fn has(&self, number: usize, key: &K) -> bool
+    where
+        K: Copy + Drop,
+        ensures { IsTrue result ↔ IsListed K.cmp self.now number key.now }
+    {
+        let Some(list) = self.lists.get(number) else {
+            return false;
+        };
+        list.has(key)
     }
 
     /// Lists a key under a number. `NoMemory` comes only for a key that is not listed there.

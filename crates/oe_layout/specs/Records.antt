@@ -9,7 +9,8 @@ use Rattle.oe_image.specs.Keys.{key_image, IsKey}
 use Rattle.oe_image.specs.Rows.{row_image, IsRow}
 use Rattle.oe_image.specs.Before.{warehouse_before, district_before, customer_before, order_before, order_line_before}
 use Rattle.oe_image.specs.Before.{stock_before}
-use Rattle.oe_image.specs.Parts.{warehouse_part, district_part, customer_part, order_part, order_line_part, stock_part}
+use Rattle.oe_image.specs.Parts.{warehouse_part, district_part, customer_part, customer_name_part, order_part}
+use Rattle.oe_image.specs.Parts.{order_line_part, stock_part}
 use Rattle.oe_fronts.specs.BeforeRanges.{IsWarehouseBefore, IsDistrictBefore, IsCustomerBefore, IsOrderBefore}
 use Rattle.oe_fronts.specs.BeforeRanges.{IsOrderLineBefore, IsStockBefore}
 use Rattle.oe_model.specs.Changes as model
@@ -105,6 +106,7 @@ record_of_lent (lent.DeletedNewOrder k) = model.DeletedNewOrder k (Some (record 
 record_of_lent (lent.ChangedWarehouse k p) = model.ChangedWarehouse k (Some (warehouse_part p))
 record_of_lent (lent.ChangedDistrict k p) = model.ChangedDistrict k (Some (district_part p))
 record_of_lent (lent.ChangedCustomer k p) = model.ChangedCustomer k (Some (customer_part p))
+record_of_lent (lent.RenamedCustomer k p) = model.ChangedCustomer k (Some (customer_name_part p))
 record_of_lent (lent.ChangedOrder k p) = model.ChangedOrder k (Some (order_part p))
 record_of_lent (lent.ChangedOrderLine k p) = model.ChangedOrderLine k (Some (order_line_part p))
 record_of_lent (lent.ChangedStock k p) = model.ChangedStock k (Some (stock_part p))

@@ -15,7 +15,8 @@ use crate::parts::OTHER_BYTES;
 use oe_extent::{LENGTH_BYTES, Written};
 use oe_image::Imaged;
 use oe_image::parts::{
-    CustomerPart, DistrictPart, OrderLinePart, OrderPart, StockPart, WarehousePart,
+    CustomerNamePart, CustomerPart, DistrictPart, OrderLinePart, OrderPart, StockPart,
+    WarehousePart,
 };
 use oe_rows::customers::Customer;
 use oe_rows::districts::District;
@@ -45,6 +46,7 @@ pub enum LentRecord<'a> {
     ChangedWarehouse(WarehouseKey, WarehousePart),
     ChangedDistrict(DistrictKey, DistrictPart),
     ChangedCustomer(CustomerKey, CustomerPart<'a>),
+    RenamedCustomer(CustomerKey, CustomerNamePart<'a>),
     ChangedOrder(OrderKey, OrderPart),
     ChangedOrderLine(OrderLineKey, OrderLinePart),
     ChangedStock(StockKey, StockPart),
@@ -70,6 +72,7 @@ impl<'a> LentRecord<'a> {
             LentRecord::ChangedWarehouse(_, _) => RecordKind::ChangedWarehouse,
             LentRecord::ChangedDistrict(_, _) => RecordKind::ChangedDistrict,
             LentRecord::ChangedCustomer(_, _) => RecordKind::ChangedCustomer,
+            LentRecord::RenamedCustomer(_, _) => RecordKind::ChangedCustomer,
             LentRecord::ChangedOrder(_, _) => RecordKind::ChangedOrder,
             LentRecord::ChangedOrderLine(_, _) => RecordKind::ChangedOrderLine,
             LentRecord::ChangedStock(_, _) => RecordKind::ChangedStock,
@@ -96,6 +99,7 @@ impl<'a> LentRecord<'a> {
             LentRecord::ChangedWarehouse(key, _) => Key::Warehouse(*key),
             LentRecord::ChangedDistrict(key, _) => Key::District(*key),
             LentRecord::ChangedCustomer(key, _) => Key::Customer(*key),
+            LentRecord::RenamedCustomer(key, _) => Key::Customer(*key),
             LentRecord::ChangedOrder(key, _) => Key::Order(*key),
             LentRecord::ChangedOrderLine(key, _) => Key::OrderLine(*key),
             LentRecord::ChangedStock(key, _) => Key::Stock(*key),
@@ -125,6 +129,7 @@ impl<'a> LentRecord<'a> {
             LentRecord::ChangedWarehouse(key, part) => key.length() + part.length(),
             LentRecord::ChangedDistrict(key, part) => key.length() + part.length(),
             LentRecord::ChangedCustomer(key, part) => key.length() + part.length(),
+            LentRecord::RenamedCustomer(key, part) => key.length() + part.length(),
             LentRecord::ChangedOrder(key, part) => key.length() + part.length(),
             LentRecord::ChangedOrderLine(key, part) => key.length() + part.length(),
             LentRecord::ChangedStock(key, part) => key.length() + part.length(),
@@ -171,6 +176,7 @@ impl<'a> Imaged for LentRecord<'a> {
             LentRecord::ChangedWarehouse(key, part) => (key, part).write(bytes, start),
             LentRecord::ChangedDistrict(key, part) => (key, part).write(bytes, start),
             LentRecord::ChangedCustomer(key, part) => (key, part).write(bytes, start),
+            LentRecord::RenamedCustomer(key, part) => (key, part).write(bytes, start),
             LentRecord::ChangedOrder(key, part) => (key, part).write(bytes, start),
             LentRecord::ChangedOrderLine(key, part) => (key, part).write(bytes, start),
             LentRecord::ChangedStock(key, part) => (key, part).write(bytes, start),

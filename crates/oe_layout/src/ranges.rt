@@ -12,8 +12,8 @@ ghost use Rattle.oe_rows.specs.Order.{IsOrder, IsOrderLine};
 ghost use Rattle.oe_rows.specs.Item.{IsStock};
 ghost use Rattle.oe_image.specs.Keys.{IsWarehouseKey, IsHistoryKey, IsNewOrderKey, IsOrderKey, IsOrderLineKey, IsStockKey};
 ghost use Rattle.oe_rows.specs.Key.{IsDistrictKey, IsCustomerKey};
-ghost use Rattle.oe_image.specs.Parts.{warehouse_part, district_part, customer_part, order_part};
-ghost use Rattle.oe_image.specs.Parts.{order_line_part, stock_part};
+ghost use Rattle.oe_image.specs.Parts.{warehouse_part, district_part, customer_part};
+ghost use Rattle.oe_image.specs.Parts.{customer_name_part, order_part, order_line_part, stock_part};
 ghost use Rattle.oe_fronts.specs.BeforeRanges.{IsAccountBefore};
 ghost use Rattle.oe_fronts.specs.BeforeRanges.{IsWarehouseBefore, IsDistrictBefore};
 ghost use Rattle.oe_fronts.specs.BeforeRanges.{IsCustomerBefore, IsOrderBefore, IsOrderLineBefore};
@@ -24,7 +24,8 @@ ghost use Rattle.oe_layout.specs.Records.{record_of_lent, IsInRanges};
 use crate::links::{Previous, RecordAddress};
 use crate::loans::{LentRecord, LinkedRecord};
 use oe_image::parts::{
-    CustomerPart, DistrictPart, OrderLinePart, OrderPart, StockPart, WarehousePart,
+    CustomerNamePart, CustomerPart, DistrictPart, OrderLinePart, OrderPart, StockPart,
+    WarehousePart,
 };
 use oe_rows::before::AccountBefore;
 use oe_rows::customers::Customer;
@@ -178,8 +179,8 @@ fn carrier(column: &Option<Option<Carrier>>)
     }
 }
 
-fn lent_text(column: &Option<&Text<0, 500>>)
-    ensures { IfSome (option_map (λ t. t.now) column.now) (IsText 0 500) }
+fn lent_text<const MOST: usize>(column: &Option<&Text<0, MOST>>)
+    ensures { IfSome (option_map (λ t. t.now) column.now) (IsText 0 MOST) }
 {
     if let Some(text) = column {
         let _text = text.as_str();
@@ -221,6 +222,15 @@ fn customer_part(key: &CustomerKey, part: &CustomerPart<'_>)
     let _columns = key.columns();
     account_columns(&AccountBefore::of(part.before, part.after));
     lent_text(&part.data);
+}
+
+fn customer_name_part(key: &CustomerKey, part: &CustomerNamePart<'_>)
+    ensures key { IsCustomerKey key.now }
+    ensures part { IsCustomerBefore (customer_name_part part.now) }
+{
+    let _columns = key.columns();
+    lent_text(&part.first);
+    lent_text(&part.last);
 }
 
 fn order_part(key: &OrderKey, part: &OrderPart)
@@ -294,6 +304,7 @@ impl<'a> LentRecord<'a> {
             LentRecord::ChangedWarehouse(key, part) => warehouse_part(key, part),
             LentRecord::ChangedDistrict(key, part) => district_part(key, part),
             LentRecord::ChangedCustomer(key, part) => customer_part(key, part),
+            LentRecord::RenamedCustomer(key, part) => customer_name_part(key, part),
             LentRecord::ChangedOrder(key, part) => order_part(key, part),
             LentRecord::ChangedOrderLine(key, part) => order_line_part(key, part),
             LentRecord::ChangedStock(key, part) => stock_part(key, part),

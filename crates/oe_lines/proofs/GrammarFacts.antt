@@ -20,6 +20,7 @@ use Rattle.oe_requests.specs.declared.requests.RequestLine.{RequestLine}
 use Rattle.oe_requests.specs.declared.requests.NewOrderRequest.{NewOrderRequest}
 use Rattle.oe_requests.specs.declared.requests.DeliveryRequest.{DeliveryRequest}
 use Rattle.oe_requests.specs.declared.requests.DeliveriesRequest.{DeliveriesRequest}
+use Rattle.oe_requests.specs.declared.requests.RenameRequest.{RenameRequest}
 use Rattle.oe_requests.specs.declared.requests.Request.{Request}
 use Rattle.oe_requests.specs.declared.requests.Request.TheVariants as request
 use Rattle.oe_requests.specs.declared.requests.StatusQuery.{StatusQuery}
@@ -39,10 +40,11 @@ use Rattle.oe_lines.specs.declared.commands.RingChoice.{RingChoice}
 use Rattle.oe_rows.specs.declared.layouts.Layout.{Layout}
 use Rattle.oe_rows.specs.declared.layouts.Layout.TheVariants.{WholeRows, ChangedColumns}
 use Rattle.oe_rows.specs.declared.scales.Scale.{Scale}
+use Rattle.oe_model.specs.Keys.{customer_in, district_of_customer}
 use Rattle.oe_model.specs.Population.{IsScale}
 use Rattle.oe_model.specs.Requests.{IsDistrict, IsChoice, IsPayment, IsRequestLine, IsNewOrder, IsDelivery}
-use Rattle.oe_model.specs.Requests.{IsDeliveries}
-use Rattle.oe_lines.specs.Grammar.{Says, HasForm, IsRequest, IsQuery, IsMoment, words_of, request_words, query_words}
+use Rattle.oe_model.specs.Requests.{IsDeliveries, IsRename, IsRequest}
+use Rattle.oe_lines.specs.Grammar.{Says, HasForm, IsQuery, IsMoment, words_of, request_words, query_words}
 use Rattle.oe_lines.specs.Grammar.{customer_word, line_word, moment_word}
 use Rattle.oe_lines.specs.Reading.{begun, number_or_name, last_number_or_name, table_of, moment_of, moment_before}
 use Rattle.oe_lines.specs.Rings.{layout_word}
@@ -50,14 +52,14 @@ use Rattle.oe_lines.specs.Reading.{layout_at, ring_of}
 use Rattle.oe_lines.specs.Reading.{condition_of, audit_of, opening_of, district_of, customer_of, last_customer_of}
 use Rattle.oe_lines.specs.Reading.{status_of, level_of, query_of, reading_of, payment_of, line_of, line_and}
 use Rattle.oe_lines.specs.Reading.{lines_within, lines_of, new_order_of, delivery_of, deliveries_of, all_or_one}
-use Rattle.oe_lines.specs.Reading.{request_of, beginning_of, terminal_of, rare_command_of, command_of, run_of}
-use Rattle.oe_lines.specs.Reading.{begun_payment_of, at_end}
+use Rattle.oe_lines.specs.Reading.{rename_of, request_of, beginning_of, terminal_of, rare_command_of, command_of}
+use Rattle.oe_lines.specs.Reading.{run_of, begun_payment_of, at_end}
 use Rattle.oe_lines.specs.Words.{is_word, within, number_of, number_then, number_before, last_number, amount_before}
-use Rattle.oe_lines.specs.Words.{stamp_of, stamp_before, last_name_of, name_before}
+use Rattle.oe_lines.specs.Words.{stamp_of, stamp_before, last_name_of, first_name_of, name_before}
 use Rattle.oe_lines.proofs.StampFacts.{stamp_found, stamp_only, stamp_of-longer, stamp_before_found, stamp_before_only}
 use Rattle.oe_lines.proofs.NameFacts.{last_name_found, last_name_only, name_found, name_only, name_no_number}
-use Rattle.oe_lines.proofs.NameFacts.{name_no_last}
-use Rattle.oe_values.specs.Text.{IsLastName}
+use Rattle.oe_lines.proofs.NameFacts.{name_no_last, first_name_found, first_name_only}
+use Rattle.oe_values.specs.Text.{IsLastName, IsFirstName}
 use Rattle.oe_values.specs.Front.{after_of, decimal_of, alone}
 use Rattle.oe_values.proofs.FrontFacts.{bind_some, some_same, chosen, guarded, ends, alone_found, after_found}
 use Rattle.oe_values.proofs.FrontFacts.{after_only, decimal_found, decimal_only}
@@ -757,6 +759,42 @@ no_deliveries q h =
     )
     refl
 
+-- renames
+
+abbrev rename_words : RenameRequest → List ℕ
+rename_words q = district_words (district_of_customer q.customer)
+    (decimal q.customer.customer ++ 32 ∷ (q.last ++ 32 ∷ q.first))
+
+rename_found : (s : List ℕ) (q : RenameRequest) → rename_of s ≡ Some q → (s ≡ rename_words q) × IsRename q
+unfolding rename_of
+rename_found s q e =
+    let a = bind_some (district_of s) _ q e in
+    let b = bind_some (number_before 1 3_000 a.0.1) _ q a.2 in
+    let c = bind_some (name_before b.0.1) _ q b.2 in
+    let d = bind_some (first_name_of c.0.1) _ q c.2 in
+    let f = district_found s a.0 a.1 in
+    let g = before_found 1 3_000 a.0.1 b.0.0 b.0.1 b.1 in
+    let h = name_found b.0.1 c.0.0 c.0.1 c.1 in
+    let i = first_name_found c.0.1 d.0 d.1 in
+    let last = g.0 ∙ ap (λ z. decimal b.0.0 ++ 32 ∷ z) (h.0 ∙ ap (λ z. c.0.0 ++ 32 ∷ z) i.0) in
+    let first : IsFirstName d.0 = rw (← i.0) i.1 in
+    let same = some_same (record { customer = customer_in a.0.0 b.0.0; last = c.0.0; first = d.0 }) q d.2 in
+    rw (← same) (
+      f.0 ∙ ap (district_words a.0.0) last,
+      record { district = f.1; customer = (g.1, g.2); last = h.1; first = first },
+    )
+
+rename_only : (q : RenameRequest) → IsRename q → rename_of (rename_words q) ≡ Some q
+unfolding rename_of
+rename_only q h =
+    rw (
+      district_only (district_of_customer q.customer) _ h.district,
+      before_only 1 3_000 q.customer.customer _ (omega arith) h.customer,
+      name_only q.last _ h.last,
+      first_name_only q.first h.first,
+    )
+    refl
+
 -- requests
 
 -- the words are spelled with a space between each two
@@ -802,9 +840,15 @@ request_found s r e = elim (begun_some (after_of (codes "payment ") s) _ _ r e) 
               ∙ sym (spelled_order q.0 (omega (arith, count.0))),
           f.1,
         )
-    | inr e ↦ elim (begun_some (after_of (codes "delivery ") s) _ None r e) [
+    | inr e ↦ elim (begun_some (after_of (codes "delivery ") s) _ _ r e) [
       | inl h ↦ carried s h.0 r (after_found (codes "delivery ") s h.0 h.1) (deliveries_of h.0) refl h.2
-      | inr e ↦ cc
+      | inr e ↦ elim (begun_some (after_of (codes "rename ") s) _ None r e) [
+        | inl h ↦
+            let q = map_some (λ q. request.Rename q) (rename_of h.0) r h.2 in
+            let f = rename_found h.0 q.0 q.1 in
+            rw (← q.2) (after_found (codes "rename ") s h.0 h.1 ∙ ap (λ z. codes "rename" ++ 32 ∷ z) f.0, f.1)
+        | inr e ↦ cc
+      ]
     ]
   ]
 ]
@@ -819,16 +863,16 @@ request_only (request.NewOrder q) h =
     ap request_of (spelled_order q (omega (arith, count.0))) ∙ rw (new_order_only q h) refl
 request_only (request.Delivery q) h = rw (no_deliveries q h, delivery_only q h) refl
 request_only (request.Deliveries q) h = rw (deliveries_only q h) refl
-request_only (request.Rename q) h = elim h [ ]
+request_only (request.Rename q) h = rw (rename_only q h) refl
 
 -- a request's words stand behind the terminal
-begun_words : (t : ℕ) (r : Request) → IsRequest r → join_with_byte 32 (words_of (command.Begin t r)) ≡ codes "begin"
+begun_words : (t : ℕ) (r : Request) → join_with_byte 32 (words_of (command.Begin t r)) ≡ codes "begin"
     ++ 32 ∷ (decimal t ++ 32 ∷ join_with_byte 32 (request_words r))
-begun_words t (request.Payment p) h = refl
-begun_words t (request.NewOrder q) h = refl
-begun_words t (request.Delivery q) h = refl
-begun_words t (request.Deliveries q) h = refl
-begun_words t (request.Rename q) h = elim h [ ]
+begun_words t (request.Payment p) = refl
+begun_words t (request.NewOrder q) = refl
+begun_words t (request.Delivery q) = refl
+begun_words t (request.Deliveries q) = refl
+begun_words t (request.Rename q) = refl
 
 beginning_found : (s : List ℕ) (c : Command) → beginning_of s ≡ Some c → Says (codes "begin" ++ 32 ∷ s) c
 unfolding beginning_of
@@ -839,7 +883,7 @@ beginning_found s c e =
     let g = request_found t.0.1 r.0 r.1 in
     let spelled = f.0 ∙ ap (λ z. decimal t.0.0 ++ 32 ∷ z) g.0 in
     says_at _ _ c (command.Begin t.0.0 r.0) (ap (λ z. codes "begin" ++ 32 ∷ z) spelled
-    ∙ sym (begun_words t.0.0 r.0 g.1)) (some_same _ c r.2)
+    ∙ sym (begun_words t.0.0 r.0)) (some_same _ c r.2)
     (record { form = ((f.1, f.2), g.1); spelled = refl })
 
 beginning_only : (t : ℕ) (r : Request) → IsInRange 1 64 t → IsRequest r
@@ -942,7 +986,7 @@ terminal t h = last_only 1 64 t (omega arith) h
 begin_only : (t : ℕ) (r : Request) → IsInRange 1 64 t → IsRequest r
     → command_of (join_with_byte 32 (words_of (command.Begin t r))) ≡ Some (command.Begin t r)
 unfolding command_of
-begin_only t r h k = ap command_of (begun_words t r k) ∙ rw (beginning_only t r h k) refl
+begin_only t r h k = ap command_of (begun_words t r) ∙ rw (beginning_only t r h k) refl
 
 read_only : (m : MomentChoice) (q : Query) → IsMoment m → IsQuery q
     → command_of (join_with_byte 32 (words_of (command.Read m q))) ≡ Some (command.Read m q)

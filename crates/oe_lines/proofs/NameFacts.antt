@@ -1,20 +1,21 @@
--- A last name before a space is read, and nothing else is read as one.
-use Rattle.std.proofs.Common.{◌≡◌, ◌↔◌, ℕ, ◌+◌, ◌≤◌, List, [], ◌∷◌, ◌++◌, length, take, drop, true, false, ◌&&◌, Option}
+-- A last name before a space and a first name are read, and nothing else is read as one.
+use Rattle.std.proofs.Common.{◌≡◌, ◌↔◌, ℕ, ◌+◌, ◌≤◌, ◌⊎◌, inl, inr, List, [], ◌∷◌, ◌++◌, length, take, drop, Bool, true}
+use Rattle.std.proofs.Common.{false, ◌&&◌, ◌||◌, Option}
 use Rattle.std.proofs.Common.{Some, None, IsSome, IfSome, codes, nat_le, eqb, sym, ap, ◌∙◌, refl, arith, le-leb, lt-ltb}
 use Rattle.std.proofs.Common.{length-append}
 use Rattle.std.specs.Prelude.{◌==◌, position}
 use Rattle.std.specs.Char.{is_ascii_digit}
 use Rattle.std.specs.List.{All, list_all, position_or_len}
 use Rattle.std.proofs.Math.Seq.{take-append_seam, drop-append_seam}
-use Rattle.std.proofs.lemmas.Bool.{leb-true}
+use Rattle.std.proofs.lemmas.Bool.{leb-true, or_left, or_right}
 use Rattle.std.proofs.lemmas.Bool.Decides.{nat_tests}
 use Rattle.std.proofs.lemmas.List.{take-append-drop}
 use Rattle.std.proofs.lemmas.List.Elements.{All-nil, All-cons, All-head, All-tail}
-use Rattle.oe_values.specs.Text.{IsCapital, IsPrintable, IsText, IsLastName}
+use Rattle.oe_values.specs.Text.{IsCapital, IsCapitalOrDigit, IsPrintable, IsText, IsLastName, IsFirstName}
 use Rattle.oe_values.specs.Front.{after_of, decimal_of}
 use Rattle.oe_values.proofs.FrontFacts.{bind_some, some_same, guarded, both, after_found}
 use Rattle.oe_lines.specs.Words.{number_of, number_then, number_before, last_number, is_capital, last_name_of}
-use Rattle.oe_lines.specs.Words.{name_before}
+use Rattle.oe_lines.specs.Words.{is_capital_or_digit, first_name_of, name_before}
 
 -- letters
 
@@ -83,6 +84,87 @@ pub last_name_of-read : (s : List ℕ) (o : Option (List ℕ)) → IsSome o ↔ 
 last_name_of-read s None variant value = sym
     (none_is (last_name_of s) (λ n e. no_some None refl (variant.1 (last_name_found s n e).1)))
 last_name_of-read s (Some n) variant value = ap Some value ∙ sym (last_name_only s (variant.0 refl))
+
+-- first names
+
+either : (a b : Bool) → (a || b) ≡ true → (a ≡ true) ⊎ (b ≡ true)
+either true b e = inl refl
+either false b e = inr e
+
+letter_or_digit : (b : ℕ) → is_capital_or_digit b ≡ true → IsCapitalOrDigit b
+letter_or_digit b e = elim (either _ _ e) [
+  | inl h ↦ inl (letter b h)
+  | inr h ↦ let r : (nat_le 48 b ≡ true) × (nat_le b 57 ≡ true) = both _ _ h in
+      inr (leb-true 48 b r.0, leb-true b 57 r.1)
+]
+
+is_letter_or_digit : (b : ℕ) → IsCapitalOrDigit b → is_capital_or_digit b ≡ true
+is_letter_or_digit b (inl h) = or_left _ _ (is_letter b h)
+is_letter_or_digit b (inr h) = or_right (is_capital b) _ (rw (le-leb 48 b h.0, le-leb b 57 h.1) refl)
+
+letters_or_digits : (s : List ℕ) → list_all is_capital_or_digit s ≡ true → All IsCapitalOrDigit s
+letters_or_digits [] e = All-nil IsCapitalOrDigit
+letters_or_digits (b ∷ s) e =
+    let r : (is_capital_or_digit b ≡ true) × (list_all is_capital_or_digit s ≡ true) = both _ _ e in
+    All-cons IsCapitalOrDigit b s (letter_or_digit b r.0) (letters_or_digits s r.1)
+
+are_letters_or_digits : (s : List ℕ) → All IsCapitalOrDigit s → list_all is_capital_or_digit s ≡ true
+are_letters_or_digits [] h = refl
+are_letters_or_digits (b ∷ s) h = rw (
+  is_letter_or_digit b (All-head IsCapitalOrDigit b s h),
+  are_letters_or_digits s (All-tail IsCapitalOrDigit b s h),
+) refl
+
+printable : (b : ℕ) → IsCapitalOrDigit b → IsPrintable b
+printable b (inl h) = (omega (arith, h.0), omega (arith, h.1))
+printable b (inr h) = (omega (arith, h.0), omega (arith, h.1))
+
+all_printable : (s : List ℕ) → All IsCapitalOrDigit s → All IsPrintable s
+all_printable [] h = All-nil IsPrintable
+all_printable (b ∷ s) h =
+    All-cons IsPrintable b s (printable b (All-head IsCapitalOrDigit b s h))
+    (all_printable s (All-tail IsCapitalOrDigit b s h))
+
+pub first_name_found : (s n : List ℕ) → first_name_of s ≡ Some n → (s ≡ n) × IsFirstName s
+unfolding first_name_of
+first_name_found s n e =
+    let g = guarded ((nat_le 1 (length s) && nat_le (length s) 16) && list_all is_capital_or_digit s) (Some s) n e in
+    let a : ((nat_le 1 (length s) && nat_le (length s) 16) ≡ true) × (list_all is_capital_or_digit s ≡ true) =
+    both _ _ g.0 in
+    let b : (nat_le 1 (length s) ≡ true) × (nat_le (length s) 16 ≡ true) = both _ _ a.0 in (
+      some_same s n g.1,
+      record {
+        at_least = leb-true 1 (length s) b.0;
+        at_most = leb-true (length s) 16 b.1;
+        capitals_or_digits = letters_or_digits s a.1;
+      },
+    )
+
+pub first_name_only : (s : List ℕ) → IsFirstName s → first_name_of s ≡ Some s
+unfolding first_name_of
+first_name_only s h = rw (
+  le-leb 1 (length s) h.at_least,
+  le-leb (length s) 16 h.at_most,
+  are_letters_or_digits s h.capitals_or_digits,
+) refl
+
+-- a first name's bytes are a text's
+pub first_name_is_text : (s : List ℕ) → IsFirstName s → IsText 1 16 s
+first_name_is_text s h =
+    record { at_least = h.at_least; at_most = h.at_most; printable = all_printable s h.capitals_or_digits }
+
+-- bytes of no text are no first name
+pub first_name_of-none : (s : List ℕ) → IsSome {T = List ℕ} None ↔ IsText 1 16 s → None ≡ first_name_of s
+first_name_of-none s variant =
+    sym (none_is (first_name_of s)
+    (λ n e. no_some None refl (variant.1 (first_name_is_text s (first_name_found s n e).1))))
+
+-- what a reading gives that finds each first name and nothing else
+pub first_name_of-read : (s : List ℕ) (o : Option (List ℕ)) → IsSome o ↔ IsFirstName s → IfSome o (λ n. n ≡ s)
+    → o ≡ first_name_of s
+first_name_of-read s None variant value = sym
+    (none_is (first_name_of s) (λ n e. no_some None refl (variant.1 (first_name_found s n e).1)))
+first_name_of-read s (Some n) variant value = ap Some value ∙ sym (first_name_only s (variant.0 refl))
 
 -- before a space
 

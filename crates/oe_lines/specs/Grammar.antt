@@ -39,7 +39,7 @@ moment_word (moment.At m) = decimal m
 abbrev pub line_word : RequestLine → List ℕ
 line_word l = join_with_byte 58 (decimal l.supply ∷ decimal l.item ∷ decimal l.quantity ∷ [])
 
--- the words of a request; renames have none yet
+-- the words of a request
 abbrev pub request_words : Request → List (List ℕ)
 request_words (request.Payment p) =
     codes "payment" ∷ decimal p.district.warehouse ∷ decimal p.district.district
@@ -53,7 +53,9 @@ request_words (request.Delivery q) =
     q.stamp ∷ []
 request_words (request.Deliveries q) =
     codes "delivery" ∷ decimal q.warehouse.warehouse ∷ decimal q.carrier ∷ stamp_text q.stamp ∷ []
-request_words (request.Rename r) = []
+request_words (request.Rename q) =
+    codes "rename" ∷ decimal q.customer.warehouse ∷ decimal q.customer.district ∷ decimal q.customer.customer
+    ∷ q.last ∷ q.first ∷ []
 
 -- the words of a query
 abbrev pub query_words : Query → List (List ℕ)
@@ -85,14 +87,6 @@ words_of (command.Read m q) = codes "read" ∷ moment_word m ∷ query_words q
 words_of (command.Purge m) = codes "purge" ∷ moment_word m ∷ []
 words_of (command.Rewind m) = codes "rewind" ∷ moment_word m ∷ []
 
--- payments, orders, and deliveries of one district or of all ten, in the model's ranges; renames have no form yet
-abbrev pub IsRequest : Request → Type 0
-IsRequest (request.Payment p) = model.IsPayment p
-IsRequest (request.NewOrder q) = model.IsNewOrder q
-IsRequest (request.Delivery q) = model.IsDelivery q
-IsRequest (request.Deliveries q) = model.IsDeliveries q
-IsRequest (request.Rename r) = ⊥
-
 -- clauses 2.6.1.2 and 2.8.1.2: a customer by number or by last name, and a threshold of 10 to 20
 abbrev pub IsQuery : Query → Type 0
 IsQuery (query.Status q) = model.IsDistrict q.district × model.IsChoice q.customer
@@ -105,7 +99,7 @@ IsMoment (moment.At m) = m ≤ 999_999_999_999
 -- a command that has a form, with its numbers in their ranges
 abbrev pub HasForm : Command → Type 0
 HasForm (command.Open s ring) = IsScale s × IsInRange 2 4_096 ring.extents
-HasForm (command.Begin terminal r) = IsInRange 1 TERMINALS terminal × IsRequest r
+HasForm (command.Begin terminal r) = IsInRange 1 TERMINALS terminal × model.IsRequest r
 HasForm (command.Next terminal) = IsInRange 1 TERMINALS terminal
 HasForm (command.Run terminal) = IsInRange 1 TERMINALS terminal
 HasForm (command.Save terminal) = IsInRange 1 TERMINALS terminal

@@ -14,6 +14,7 @@ use Rattle.oe_requests.specs.declared.requests.RequestLine.{RequestLine}
 use Rattle.oe_requests.specs.declared.requests.NewOrderRequest.{NewOrderRequest}
 use Rattle.oe_requests.specs.declared.requests.DeliveryRequest.{DeliveryRequest}
 use Rattle.oe_requests.specs.declared.requests.DeliveriesRequest.{DeliveriesRequest}
+use Rattle.oe_requests.specs.declared.requests.RenameRequest.{RenameRequest}
 use Rattle.oe_requests.specs.declared.requests.Request.{Request}
 use Rattle.oe_requests.specs.declared.requests.Request.TheVariants as request
 use Rattle.oe_requests.specs.declared.requests.StatusQuery.{StatusQuery}
@@ -31,7 +32,8 @@ use Rattle.oe_lines.specs.declared.commands.MomentChoice.TheVariants as moment
 use Rattle.oe_values.specs.Front.{◌>>=◌, after_of, decimal_of, alone}
 use Rattle.oe_values.specs.declared.numbers.TheConstants.{TERMINALS}
 use Rattle.oe_lines.specs.Words.{is_word, within, number_of, number_then, number_before, last_number, amount_before}
-use Rattle.oe_lines.specs.Words.{stamp_of, stamp_before, last_name_of, name_before}
+use Rattle.oe_lines.specs.Words.{stamp_of, stamp_before, last_name_of, first_name_of, name_before}
+use Rattle.oe_model.specs.Keys.{customer_in}
 
 unfoldable pub table_of : List ℕ → Option Table
 table_of s =
@@ -208,12 +210,21 @@ abbrev pub all_or_one : Option DeliveriesRequest → Option DeliveryRequest → 
 all_or_one (Some q) one = Some (request.Deliveries q)
 all_or_one None one = option_map (λ q. request.Delivery q) one
 
+unfoldable pub rename_of : List ℕ → Option RenameRequest
+rename_of s = do
+  at ← district_of s
+  c ← number_before 1 3_000 at.1
+  last ← name_before c.1
+  first ← first_name_of last.1
+  Some (record { customer = customer_in at.0 c.0; last = last.0; first = first })
+
 unfoldable pub request_of : List ℕ → Option Request
 request_of s =
     begun (after_of (codes "payment ") s) (λ r. option_map (λ p. request.Payment p) (payment_of r))
     (begun (after_of (codes "neworder ") s) (λ r. option_map (λ q. request.NewOrder q) (new_order_of r))
     (begun (after_of (codes "delivery ") s) (λ r. all_or_one (deliveries_of r) (delivery_of r))
-    None))
+    (begun (after_of (codes "rename ") s) (λ r. option_map (λ q. request.Rename q) (rename_of r))
+    None)))
 
 unfoldable pub status_of : List ℕ → Option StatusQuery
 status_of s = do

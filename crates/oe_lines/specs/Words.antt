@@ -1,6 +1,6 @@
 -- Reading a word from the front, as functions on lists: what the word says, and what follows it.
-use Rattle.std.specs.Prelude.{ℕ, ◌+◌, ◌-◌, ◌*◌, ◌==◌, ◌&&◌, Bool, nat_le, nat_lt, List, [], ◌∷◌, length, take, drop}
-use Rattle.std.specs.Prelude.{position, Option, Some, None, slice_index, codes, if◌then◌else◌, pos, ◌+ℤ◌, ◌*ℤ◌}
+use Rattle.std.specs.Prelude.{ℕ, ◌+◌, ◌-◌, ◌*◌, ◌==◌, ◌&&◌, ◌||◌, Bool, nat_le, nat_lt, List, [], ◌∷◌, length, take}
+use Rattle.std.specs.Prelude.{drop, position, Option, Some, None, slice_index, codes, if◌then◌else◌, pos, ◌+ℤ◌, ◌*ℤ◌}
 use Rattle.std.specs.Prelude.{unsigned_abs}
 use Rattle.std.specs.List.{list_all}
 use Rattle.std.specs.Str.{bytes_eq}
@@ -82,7 +82,16 @@ is_capital b = nat_le 65 b && nat_le b 90
 unfoldable pub last_name_of : List ℕ → Option (List ℕ)
 last_name_of s = if (nat_le 1 (length s) && nat_le (length s) 16) && list_all is_capital s then Some s else None
 
--- such letters before the first space, which is passed over
+-- a letter from A to Z or a digit
+abbrev pub is_capital_or_digit : ℕ → Bool
+is_capital_or_digit b = is_capital b || (nat_le 48 b && nat_le b 57)
+
+-- 1 to 16 letters from A to Z or digits
+unfoldable pub first_name_of : List ℕ → Option (List ℕ)
+first_name_of s =
+    if (nat_le 1 (length s) && nat_le (length s) 16) && list_all is_capital_or_digit s then Some s else None
+
+-- a last name before the first space, which is passed over
 unfoldable pub name_before : List ℕ → Option (List ℕ × List ℕ)
 name_before s = do
   n ← position (λ b. b == 32) s

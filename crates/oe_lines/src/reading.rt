@@ -7,18 +7,18 @@ ghost use Rattle.oe_requests.specs.declared.requests.Request.TheVariants as kind
 ghost use Rattle.oe_lines.specs.declared.commands.Command.{Command};
 ghost use Rattle.oe_lines.specs.declared.commands.Command.TheVariants as asks;
 ghost use Rattle.oe_lines.specs.Grammar.{Says};
-ghost use Rattle.oe_lines.specs.Reading.{command_of, run_of, begun_payment_of, rare_command_of, at_end, opening_of, layout_at, ring_of, beginning_of, request_of, district_of, customer_of, payment_of, new_order_of, delivery_of, deliveries_of, line_of, lines_of, table_of, moment_of, moment_before, condition_of, audit_of, last_customer_of, status_of, level_of, query_of, reading_of};
+ghost use Rattle.oe_lines.specs.Reading.{command_of, run_of, begun_payment_of, rare_command_of, at_end, opening_of, layout_at, ring_of, beginning_of, request_of, district_of, customer_of, payment_of, new_order_of, delivery_of, deliveries_of, rename_of, line_of, lines_of, table_of, moment_of, moment_before, condition_of, audit_of, last_customer_of, status_of, level_of, query_of, reading_of};
 
 use crate::commands::{Command, Display, MomentChoice, RingChoice};
 use crate::words::{
-    amount_before, is_word, last_name, last_number, name_before, number, number_before,
+    amount_before, first_name, is_word, last_name, last_number, name_before, number, number_before,
     number_then, stamp, stamp_before,
 };
 use oe_requests::{
     Condition, CustomerChoice, DeliveriesRequest, DeliveryRequest, LevelQuery, NewOrderRequest,
-    PaymentRequest, Query, Request, RequestLine, RequestLines, StatusQuery,
+    PaymentRequest, Query, RenameRequest, Request, RequestLine, RequestLines, StatusQuery,
 };
-use oe_rows::{DistrictKey, Layout, Scale, Table, WarehouseKey};
+use oe_rows::{CustomerKey, DistrictKey, Layout, Scale, Table, WarehouseKey};
 use oe_values::fronts::{after, decimal};
 use oe_values::{Lines, Moment, Number, Terminal};
 
@@ -205,7 +205,7 @@ fn beginning(text: &[u8]) -> Option<Command>
     Some(Command::Begin(terminal, request))
 }
 
-/// Reads `payment ..`, `neworder ..`, or `delivery ..` of all ten districts or of one.
+/// Reads `payment ..`, `neworder ..`, `delivery ..` of all ten districts or of one, or `rename ..`.
 #[inline]
 #[tactic(auto, unfolding(crate::specs::Reading::request_of))]
 fn request(text: &[u8]) -> Option<Request>
@@ -222,6 +222,9 @@ fn request(text: &[u8]) -> Option<Request>
             return Some(Request::Deliveries(deliveries));
         }
         return Some(Request::Delivery(delivery(rest)?));
+    }
+    if let Some(rest) = after(text, b"rename ") {
+        return Some(Request::Rename(rename(rest)?));
     }
     None
 }
@@ -345,6 +348,33 @@ fn deliveries(text: &[u8]) -> Option<DeliveriesRequest>
         warehouse: WarehouseKey { warehouse },
         carrier,
         stamp,
+    })
+}
+
+/// Reads `w d c LAST FIRST`.
+#[tactic(auto, unfolding(crate::specs::Reading::rename_of))]
+fn rename(text: &[u8]) -> Option<RenameRequest>
+    ensures { result ≡ rename_of text.now }
+{
+    let Some((district, rest)) = district(text) else {
+        return None;
+    };
+    let Some((customer, rest)) = number_before(rest) else {
+        return None;
+    };
+    let Some((last, rest)) = name_before(rest) else {
+        return None;
+    };
+    let first = first_name(rest)?;
+    let customer = CustomerKey {
+        warehouse: district.warehouse,
+        district: district.district,
+        customer,
+    };
+    Some(RenameRequest {
+        customer,
+        last,
+        first,
     })
 }
 

@@ -1,10 +1,10 @@
-//! Words of a line, each with what follows it: numbers, money, stamps and last names.
+//! Words of a line, each with what follows it: numbers, money, stamps and names.
 ghost use Rattle.std.specs.Prelude.{◌≡◌, ◌==◌, position};
 ghost use Rattle.std.specs.Option.{option_map};
-ghost use Rattle.oe_lines.specs.Words.{is_word, within, number_of, number_then, number_before, last_number, amount_before, stamp_of, stamp_before, last_name_of, name_before};
+ghost use Rattle.oe_lines.specs.Words.{is_word, within, number_of, number_then, number_before, last_number, amount_before, stamp_of, stamp_before, last_name_of, first_name_of, name_before};
 
 use oe_values::fronts::{after, decimal, pair};
-use oe_values::texts::LastName;
+use oe_values::texts::{FirstName, LastName};
 use oe_values::{Number, Stamp, Text};
 
 /// Tells whether two texts are one.
@@ -121,6 +121,16 @@ pub(crate) fn last_name(text: &[u8]) -> Option<LastName>
         return None;
     };
     LastName::read(word.as_str())
+}
+
+/// Reads a first name of 1 to 16 letters from A to Z or digits.
+pub(crate) fn first_name(text: &[u8]) -> Option<FirstName>
+    ensures { result ≡ first_name_of text.now }
+{
+    let Some(word) = Text::<1, 16>::read_bytes(text) else {
+        return None;
+    };
+    FirstName::read(word.as_str())
 }
 
 /// Tells where the first space stands.

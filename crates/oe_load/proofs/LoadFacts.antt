@@ -14,7 +14,8 @@ use Rattle.oe_requests.specs.declared.requests.Query.{Query}
 use Rattle.oe_requests.specs.declared.replies.Reply.{Reply}
 use Rattle.oe_requests.specs.declared.replies.QueryReply.{QueryReply}
 use Rattle.oe_model.specs.System.{system}
-use Rattle.oe_lines.specs.Grammar.{HasForm, IsRequest, IsQuery}
+use Rattle.oe_model.specs.Requests.{IsRequest}
+use Rattle.oe_lines.specs.Grammar.{HasForm, IsQuery}
 use Rattle.oe_lines.specs.declared.commands.Command.{Command}
 use Rattle.oe_lines.specs.declared.commands.Command.TheVariants as command
 use Rattle.oe_lines.specs.declared.commands.MomentChoice.TheVariants as moment

@@ -17,7 +17,8 @@ use Rattle.oe_model.specs.System.{system}
 use Rattle.oe_lines.specs.declared.commands.Command.{Command}
 use Rattle.oe_lines.specs.declared.commands.Command.TheVariants as command
 use Rattle.oe_lines.specs.declared.commands.MomentChoice.TheVariants as moment
-use Rattle.oe_lines.specs.Grammar.{HasForm, IsRequest, IsQuery}
+use Rattle.oe_model.specs.Requests.{IsRequest}
+use Rattle.oe_lines.specs.Grammar.{HasForm, IsQuery}
 use Rattle.oe_words.specs.Texts.{line_text}
 use Rattle.oe_plans.specs.declared.plans.Plan.{Plan}
 use Rattle.oe_plans.specs.declared.plans.Asked.{Asked}

@@ -9,7 +9,6 @@ ghost use Rattle.oe_requests.specs.declared.steps.Step.TheVariants as step;
 ghost use Rattle.oe_model.specs.System.{system};
 ghost use Rattle.oe_core.specs.Core.{world_of};
 ghost use Rattle.oe_core.specs.Steps.{refusal_in};
-ghost use Rattle.oe_admission.specs.Programs.{HasProgram};
 ghost use Rattle.oe_lines.specs.Grammar.{IsQuery};
 ghost use Rattle.oe_plans.specs.declared.plans.Asked.TheVariants as asked;
 ghost use Rattle.oe_load.specs.Loads.{IsNext};
@@ -71,7 +70,6 @@ fn begin(
     requires room { array_vec_len out.old + LONGEST ≤ SIZE }
     requires next { IsNext plan.now (counts_of served.now) terminal
         (asked.Transaction request.now) }
-    requires program { HasProgram request.now }
     ensures { Turned plan.now (world_of core.old) (counts_of served.now) out.old.items result
         (world_of core.new) (counts_of served.now) out.new.items }
 {

@@ -2,9 +2,12 @@
 use Rattle.std.proofs.Common.{◌≡◌, ℕ, ◌==◌, Bool, true, false, ◌&&◌, List, ◌↔◌, refl, sym, ap, ◌∙◌, eqb-true, eq-eqb}
 use Rattle.std.proofs.lemmas.Bool.{and_parts, and_from, false≢true}
 use Rattle.std.specs.Map.{lookup}
+use Rattle.std.specs.Str.{bytes_eq}
+use Rattle.std.proofs.lemmas.Slice.Eq.{bytes_eq-Decides}
 use mathlib.Core.Path.{fun_ext}
+use Rattle.oe_rows.specs.declared.keys.DistrictKey.{DistrictKey}
 use Rattle.oe_rows.specs.declared.locks.Name.{Name}
-use Rattle.oe_rows.specs.declared.locks.Name.TheVariants.{Warehouse, District, Customer, Order, Queue, Stock}
+use Rattle.oe_rows.specs.declared.locks.Name.TheVariants.{Warehouse, District, Customer, Order, Queue, Stock, Names}
 use Rattle.oe_rows.specs.contracts.locks.NamePartialEq.TheImpl.{ghosts}
 use Rattle.oe_locks.specs.Held.{is_name}
 
@@ -16,6 +19,7 @@ eq_is_name (Customer a) (Customer b) = refl
 eq_is_name (Order a) (Order b) = refl
 eq_is_name (Queue a) (Queue b) = refl
 eq_is_name (Stock a) (Stock b) = refl
+eq_is_name (Names a x) (Names b y) = refl
 eq_is_name _ _ = refl
 
 -- so a look-up by either finds the same
@@ -52,6 +56,11 @@ name_true (Queue a) (Queue b) h =
     (pair a.warehouse a.district b.warehouse b.district h)
 name_true (Stock a) (Stock b) h =
     ap (λ (p : ℕ × ℕ). Stock (record { warehouse = p.0; item = p.1 })) (pair a.warehouse a.item b.warehouse b.item h)
+name_true (Names a x) (Names b y) h =
+    let p = and_parts _ (bytes_eq x y) h in
+    let key : a ≡ b = ap (λ (p : ℕ × ℕ). let r : DistrictKey = record { warehouse = p.0; district = p.1 } in r)
+    (pair a.warehouse a.district b.warehouse b.district p.0) in
+    λ i. Names (key i) ((bytes_eq-Decides x y).0 p.1 i)
 name_true _ _ h = absurd (false≢true h)
 
 same : (n : ℕ) → (n == n) ≡ true
@@ -65,6 +74,8 @@ name_refl (Customer a) = and_from _ _ (same a.warehouse) (and_from _ _ (same a.d
 name_refl (Order a) = and_from _ _ (same a.warehouse) (and_from _ _ (same a.district) (same a.order))
 name_refl (Queue a) = and_from _ _ (same a.warehouse) (same a.district)
 name_refl (Stock a) = and_from _ _ (same a.warehouse) (same a.item)
+name_refl (Names a x) =
+    and_from _ _ (and_from _ _ (same a.warehouse) (same a.district)) ((bytes_eq-Decides x x).1 refl)
 
 -- the test is equality
 pub name_exact : (a b : Name) → (is_name a b ≡ true) ↔ (a ≡ b)

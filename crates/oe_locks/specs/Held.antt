@@ -1,9 +1,10 @@
 -- Names that are held by terminals, and the modes in which they are held.
 use Rattle.std.specs.Prelude.{◌≡◌, ◌≢◌, ℕ, ◌<◌, ◌==◌, ◌&&◌, Bool, true, false, Option, None, Some, List, if◌then◌else◌}
 use Rattle.std.specs.Map.{lookup}
+use Rattle.std.specs.Str.{bytes_eq}
 use Rattle.oe_rows.specs.contracts.locks.NamePartialEq.TheImpl.{ghosts}
 use Rattle.oe_rows.specs.declared.locks.Name.{Name}
-use Rattle.oe_rows.specs.declared.locks.Name.TheVariants.{Warehouse, District, Customer, Order, Queue, Stock}
+use Rattle.oe_rows.specs.declared.locks.Name.TheVariants.{Warehouse, District, Customer, Order, Queue, Stock, Names}
 use Rattle.oe_rows.specs.declared.locks.Mode.{Mode}
 use Rattle.oe_rows.specs.declared.locks.Mode.TheVariants.{Shared, Exclusive}
 use Rattle.oe_requests.specs.declared.refusals.Refusal.{Refusal}
@@ -11,7 +12,7 @@ use Rattle.oe_requests.specs.declared.refusals.Refusal.TheVariants.{Busy, NoMemo
 use Rattle.oe_locks.specs.declared.holders.Holders.{Holders}
 use Rattle.oe_locks.specs.Holders.{mode_by}
 
--- the two are one name: of one kind, with the same columns
+-- the two are one name: of one kind, with the same columns and letters
 abbrev pub is_name : Name → Name → Bool
 is_name (Warehouse a) (Warehouse b) = a.warehouse == b.warehouse
 is_name (District a) (District b) = (a.warehouse == b.warehouse) && (a.district == b.district)
@@ -20,6 +21,7 @@ is_name (Customer a) (Customer b) = (a.warehouse == b.warehouse) &&
 is_name (Order a) (Order b) = (a.warehouse == b.warehouse) && ((a.district == b.district) && (a.order == b.order))
 is_name (Queue a) (Queue b) = (a.warehouse == b.warehouse) && (a.district == b.district)
 is_name (Stock a) (Stock b) = (a.warehouse == b.warehouse) && (a.item == b.item)
+is_name (Names a x) (Names b y) = ((a.warehouse == b.warehouse) && (a.district == b.district)) && bytes_eq x y
 is_name _ _ = false
 
 -- two modes of one name may be held by two terminals

@@ -41,9 +41,6 @@ decided {R = R} o exact a b = go (key_cases o exact a b)
     go (inr n) = inr (λ e. let no : true ≡ false = sym (is_self o exact b) ∙ ap (λ z. eq_by_cmp R z b) (sym e) ∙ n in
         let z : ⊥ = cc in z)
 
-texts_decided : (a b : List ℕ) → (a ≡ b) ⊎ (a ≢ b)
-texts_decided = decided nat_list_cmp_total (slice_cmp-IsAntisymmetric nat_cmp-IsAntisymmetric)
-
 first_of : {A : Type 0} (x : A) (xs : List A) → Contains (x ∷ xs) x
 first_of x xs = (0, omega arith, refl)
 
@@ -161,14 +158,7 @@ judged (UpdateDistrict k x) r =
     (λ e. (refl, refl, not_there row.District (get r.districts k) e)) (λ y e. inl (ap is_some e))
 judged (UpdateCustomer k x) r =
     update_one (Accepts (UpdateCustomer k x) r) (UpdateCustomer k x) r (key.Customer k) (get r.customers k)
-    (λ e. (refl, refl, not_there row.Customer (get r.customers k) e))
-    (λ y e. pick y e (texts_decided x.name.last y.name.last) (texts_decided x.name.first y.name.first))
-  where
-    pick : (y : Customer) → get r.customers k ≡ Some y → (x.name.last ≡ y.name.last) ⊎ (x.name.last ≢ y.name.last)
-        → (x.name.first ≡ y.name.first) ⊎ (x.name.first ≢ y.name.first) → Judged (UpdateCustomer k x) r
-    pick y e (inr n) _ = inr (KeyColumn, (y, e, inl n))
-    pick y e (inl l) (inr n) = inr (KeyColumn, (y, e, inr n))
-    pick y e (inl l) (inl f) = inl (y, e, l, f)
+    (λ e. (refl, refl, not_there row.Customer (get r.customers k) e)) (λ y e. inl (ap is_some e))
 judged (UpdateOrder k x) r =
     update_one (Accepts (UpdateOrder k x) r) (UpdateOrder k x) r (key.Order k) (get r.orders k)
     (λ e. (refl, refl, not_there row.Order (get r.orders k) e))
@@ -205,7 +195,7 @@ found_there (InsertOrder k x) r a e = let no : ⊥ = cc in absurd no
 found_there (InsertOrderLine k x) r a e = let no : ⊥ = cc in absurd no
 found_there (UpdateWarehouse k x) r a e = there row.Warehouse (get r.warehouses k) a
 found_there (UpdateDistrict k x) r a e = there row.District (get r.districts k) a
-found_there (UpdateCustomer k x) r a e = there row.Customer (get r.customers k) (ap is_some a.1)
+found_there (UpdateCustomer k x) r a e = there row.Customer (get r.customers k) a
 found_there (UpdateOrder k x) r a e = there row.Order (get r.orders k) (ap is_some a.1)
 found_there (UpdateOrderLine k x) r a e = there row.OrderLine (get r.order_lines k) a.0
 found_there (UpdateStock k x) r a e = there row.Stock (get r.stocks k) a
@@ -251,18 +241,11 @@ listed_there r (j ∷ ks) k zero all h e = subst (λ (z : Key). IsSome (row_at r
 listed_there r (j ∷ ks) k (suc i) all h e = listed_there r ks k i all.1 (omega arith) e
 
 keeps_columns : (c : Change) (r : Rows) → Accepts c r → Cause c r KeyColumn → ⊥
-keeps_columns (UpdateCustomer k x) r a c = go c.2
-  where
-    same : a.0 ≡ c.0
-    same = let h : Some a.0 ≡ Some c.0 = sym a.1 ∙ c.1 in let z : a.0 ≡ c.0 = cc in z
-
-    go : (x.name.last ≢ c.0.name.last) ⊎ (x.name.first ≢ c.0.name.first) → ⊥
-    go (inl n) = n (a.2 ∙ ap (λ (y : Customer). y.name.last) same)
-    go (inr n) = n (a.3 ∙ ap (λ (y : Customer). y.name.first) same)
 keeps_columns (UpdateOrder k x) r a c =
     let h : Some a.0 ≡ Some c.0 = sym a.1 ∙ c.1 in
     let same : a.0 ≡ c.0 = cc in
     c.2 (a.2 ∙ ap (λ (y : Order). y.customer) same)
+keeps_columns (UpdateCustomer k x) r a c = c
 keeps_columns (InsertHistory k x) r a c = c
 keeps_columns (InsertNewOrder k x) r a c = c
 keeps_columns (InsertOrder k x) r a c = c
@@ -358,9 +341,9 @@ accepted_meets (UpdateDistrict k x) r a m =
       order_lines = m.order_lines;
       stocks = m.stocks;
     }
-accepted_meets (UpdateCustomer k x) r a m = record {
+accepted_meets (UpdateCustomer k x) r a m = let old = present_some (get r.customers k) a in record {
   customers = each_row customer_total exact_customer (λ j y. IsSome (get r.districts (district_of_customer j)))
-      r.customers k x (m.customers k a.0 a.1) m.customers;
+      r.customers k x (m.customers k old.0 old.1) m.customers;
   histories = λ j y e. let h = m.histories j y e in
       (present_insert customer_total exact_customer r.customers k x y.customer h.0, h.1);
   orders = λ j y e. present_insert customer_total exact_customer r.customers k x (customer_of_order j y)

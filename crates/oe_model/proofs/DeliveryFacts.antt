@@ -1,7 +1,7 @@
 -- A district's program, run alone, has the district's whole effect, and goes on to what follows.
 use Rattle.std.proofs.Common.{◌≡◌, ℕ, ◌+◌, refl, sym, ◌∙◌, ap, subst, Bool, true, false, cond, List, [], ◌∷◌, map}
 use Rattle.std.proofs.Common.{Option, Some, None, arith}
-use Rattle.std.specs.Prelude.{option_map, IsSome}
+use Rattle.std.specs.Prelude.{is_some, option_map, IsSome}
 use Rattle.std.specs.Ordering.{eq_by_cmp}
 use Rattle.std.specs.FinMap.{FinMap, get, insert, remove}
 use Rattle.oe_theory.specs.Machine.{Ask, Go, Tx}
@@ -228,7 +228,7 @@ module _ (x : Tx Request) (t : Setting) (q : DeliveryRequest) (s : IsSetting x t
         ends_within DeliveryMayRefuse x (t.here p3) r3 (asked x t q s p3 r3 tt) delivered_out y _ _ (of_customer y) a
         (λ ok b.
         goes_here (t.here p3) r3 (Some (UpdateCustomer (customer_in q.district c) y)) (t.next (delivered o c sum)) _
-        (asked x t q s p3 r3 tt) b (u, u_at, refl, refl)
+        (asked x t q s p3 r3 tt) b (ap is_some u_at)
         (follows (made order y).0 (delivered o c sum) (comes_to order u order_at u_at ok))))))
 
     pub order_ends : EndsSo DeliveryMayRefuse x p0 r (delivery_of q o r >>= g)

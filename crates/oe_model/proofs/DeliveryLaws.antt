@@ -37,7 +37,7 @@ use Rattle.oe_model.proofs.MapFacts.{is_same}
 use Rattle.oe_model.proofs.EntryFacts.{same_kept}
 use Rattle.oe_model.proofs.RowFacts.{un_customer, un_new_order, un_order, un_order_line}
 use Rattle.oe_model.proofs.LawFacts.{given_same, given_goes, within_goes, IsLawfulBy, lawful_as, changes_none}
-use Rattle.oe_model.proofs.LawFacts.{changes_one, keeps_delete, keeps_carrier, keeps_date, keeps_customer}
+use Rattle.oe_model.proofs.LawFacts.{changes_plain, Recalls, keeps_delete, keeps_carrier, keeps_date, keeps_customer}
 
 pub delivery_ask_same : (q : DeliveryRequest) (p : DeliveryPosition) (r s : Rows)
     → delivery_ask q p r ≡ delivery_ask q p s
@@ -107,14 +107,32 @@ pub record TakesNoMore (x : Tx Request) (t : Setting) (q : DeliveryRequest) : Ty
       → Holds system (delivery_taken q p) n m
   pub next : (d : DistrictDelivery) (n : Name) (m : Mode) → Holds system (taken x (t.next d)) n m
       → Holds system (delivery_taken q (end_of d)) n m
+  -- and neither has read what may change
+  pub here_recalls : (p : DeliveryPosition) (r : Rows) → Recalls (t.here p) r
+  pub next_recalls : (d : DistrictDelivery) (r : Rows) → Recalls (t.next d) r
 
 pub alone_takes : (x : Tx Request) (q : DeliveryRequest) → TakesNoMore x (alone q) q
-alone_takes x q = record { here = λ p n m h. h; next = λ d n m h. h }
+alone_takes x q = record {
+  here = λ p n m h. h;
+  next = λ d n m h. h;
+  here_recalls = λ p r. tt;
+  next_recalls = λ d r. tt;
+}
 
 pub among_takes : (x : Tx Request) (q : DeliveriesRequest) (done : List DistrictDelivery)
     → TakesNoMore x (among_ten q done) (at_hand q done)
-among_takes x q done = record { here = λ p n m h. h; next = λ d n m h. by_last d n m (length (done ++ d ∷ []) == 10) h }
+among_takes x q done = record {
+  here = λ p n m h. h;
+  next = λ d n m h. by_last d n m (length (done ++ d ∷ []) == 10) h;
+  here_recalls = λ p r. tt;
+  next_recalls = λ d r. recalls_last d r (length (done ++ d ∷ []) == 10);
+}
   where
+    recalls_last : (d : DistrictDelivery) (r : Rows) (b : Bool)
+        → Recalls (cond b (DeliveriesEnd (done ++ d ∷ [])) (InDeliveries q (done ++ d ∷ []) DeliveryQueue)) r
+    recalls_last d r true = tt
+    recalls_last d r false = tt
+
     by_last : (d : DistrictDelivery) (n : Name) (m : Mode) (b : Bool)
         → Holds system (taken x
         (cond b (DeliveriesEnd (done ++ d ∷ [])) (InDeliveries q (done ++ d ∷ []) DeliveryQueue))) n m
@@ -124,19 +142,21 @@ among_takes x q done = record { here = λ p n m h. h; next = λ d n m h. by_last
 
 module _ (x : Tx Request) (t : Setting) (q : DeliveryRequest) (more : TakesNoMore x t q) where
   first_lawful : (r : Rows) (c : Option Change) (z : Position) (v : Option ℕ) → first t q v ≡ Go c z
-      → IsLawfulBy x (district_held q DeliveryQueue r) r c z
+      → IsLawfulBy x (district_held q DeliveryQueue r) r (Unit {0}) c z
   unfolding first
-  first_lawful r c z None e = lawful_as x (district_held q DeliveryQueue r) r c None z (t.next Skipped) e
-      (changes_none x (district_held q DeliveryQueue r) r (t.next Skipped) (more.next Skipped))
+  first_lawful r c z None e = lawful_as x (district_held q DeliveryQueue r) r (Unit {0}) c None z (t.next Skipped) e
+      (changes_none x (district_held q DeliveryQueue r) r (Unit {0}) (t.next Skipped) (more.next Skipped)
+      (λ _. more.next_recalls Skipped r))
   first_lawful r c z (Some o) e =
       let d : Change = DeleteNewOrder (new_order_in q.district o) in
-      lawful_as x (district_held q DeliveryQueue r) r c (Some d) z (t.here (DeliveryOrder o)) e
-      (changes_one x (district_held q DeliveryQueue r) r d (t.here (DeliveryOrder o)) (more.here (DeliveryOrder o))
+      lawful_as x (district_held q DeliveryQueue r) r (Unit {0}) c (Some d) z (t.here (DeliveryOrder o)) e
+      (changes_plain x (district_held q DeliveryQueue r) r (Unit {0}) d (t.here (DeliveryOrder o))
+      (more.here (DeliveryOrder o))
       (inl (refl, tt)) tt (keeps_delete (row_at r (key.NewOrder (new_order_in q.district o)))
-      (new_order_in q.district o)))
+      (new_order_in q.district o)) (λ _. more.here_recalls (DeliveryOrder o) _))
 
   pub district_lawful : (p : DeliveryPosition) (r : Rows) (c : Option Change) (z : Position)
-      → district_act t q p r ≡ Go c z → IsLawfulBy x (district_held q p r) r c z
+      → district_act t q p r ≡ Go c z → IsLawfulBy x (district_held q p r) r (Unit {0}) c z
   unfolding first
   district_lawful DeliveryQueue r c z e = first_lawful r c z (oldest q.district r.new_orders) e
   district_lawful DeliveryNothing r c z e = let no : ⊥ = cc in absurd no
@@ -145,23 +165,26 @@ module _ (x : Tx Request) (t : Setting) (q : DeliveryRequest) (more : TakesNoMor
       let j : OrderKey = order_in q.district o in
       let (y, here, e1) = given_goes (NoSuchRow (key.Order j)) (get r.orders j) _ c z e in
       let p : DeliveryPosition = DeliveryLine o y.customer (map (λ e. e.0.number) (lines_of j r.order_lines)) 0 in
-      lawful_as x hs r c _ z _ e1
-      (changes_one x hs r (UpdateOrder j (carried q.carrier y)) (t.here p) (more.here p) (inl (refl, tt)) tt
-      (keeps_carrier (row_at r (key.Order j)) j (carried q.carrier y)))
+      lawful_as x hs r (Unit {0}) c _ z _ e1
+      (changes_plain x hs r (Unit {0}) (UpdateOrder j (carried q.carrier y)) (t.here p) (more.here p)
+      (inl (refl, tt)) tt
+      (keeps_carrier (row_at r (key.Order j)) j (carried q.carrier y)) (λ _. more.here_recalls p _))
   district_lawful (DeliveryLine o b [] sum) r c z e =
       let hs : List (Hold Name) = district_held q (DeliveryLine o b [] sum) r in
       let (y, here, e1) = given_goes (NoSuchRow (key.Customer (customer_in q.district b)))
       (get r.customers (customer_in q.district b)) _ c z e in
-      lawful_as x hs r c _ z _ (within_goes _ _ c z e1)
-      (changes_one x hs r (UpdateCustomer (customer_in q.district b) (delivered_to sum y)) (t.next (delivered o b sum))
-      (more.next (delivered o b sum)) (inl (refl, tt)) tt
-      (keeps_customer r (customer_in q.district b) y (delivered_to sum y) here refl refl))
+      lawful_as x hs r (Unit {0}) c _ z _ (within_goes _ _ c z e1)
+      (changes_plain x hs r (Unit {0}) (UpdateCustomer (customer_in q.district b) (delivered_to sum y))
+      (t.next (delivered o b sum)) (more.next (delivered o b sum)) (inl (refl, tt)) tt
+      (keeps_customer r (customer_in q.district b) y (delivered_to sum y) here refl refl)
+      (λ _. more.next_recalls (delivered o b sum) _))
   district_lawful (DeliveryLine o b (n ∷ ns) sum) r c z e =
       let hs : List (Hold Name) = district_held q (DeliveryLine o b (n ∷ ns) sum) r in
       let j : OrderLineKey = line_in (order_in q.district o) n in
       let (y, here, e1) = given_goes (NoSuchRow (key.OrderLine j)) (get r.order_lines j) _ c z e in
       let p : DeliveryPosition = DeliveryLine o b ns (sum + y.amount) in
-      lawful_as x hs r c _ z _ e1
-      (changes_one x hs r (UpdateOrderLine j (dated q.stamp y)) (t.here p) (more.here p) (inl (refl, tt)) tt
-      (keeps_date (row_at r (key.OrderLine j)) j (dated q.stamp y)))
+      lawful_as x hs r (Unit {0}) c _ z _ e1
+      (changes_plain x hs r (Unit {0}) (UpdateOrderLine j (dated q.stamp y)) (t.here p) (more.here p)
+      (inl (refl, tt)) tt
+      (keeps_date (row_at r (key.OrderLine j)) j (dated q.stamp y)) (λ _. more.here_recalls p _))
   district_lawful (DeliveryEnd o b sum) r c z e = let no : ⊥ = cc in absurd no

@@ -1,13 +1,13 @@
 -- What a program's stage may read and write: lemmas that serve each program.
 use Rattle.std.proofs.Common.{cond, ◌≡◌, ℕ, refl, sym, ◌∙◌, ap, subst, Bool, true, false, List, [], ◌∷◌, ◌++◌, Option}
 use Rattle.std.proofs.Common.{Some, None, inl, inr}
-use Rattle.std.specs.Prelude.{option_map, is_some, IsSome, option_and_then}
+use Rattle.std.specs.Prelude.{◌⊎◌, option_map, is_some, IsSome, option_and_then}
 use Rattle.std.specs.FinMap.{get}
 use Rattle.std.specs.Ordering.{eq_by_cmp, nat_cmp}
 use Rattle.std.specs.Cmp.Lexicographic.{slice_cmp}
 use Rattle.oe_theory.specs.Machine.{Mode, Shared, Exclusive, Guard, Free, Under, Own, Ask, Take, Go, Tx, Hold}
 use Rattle.oe_theory.specs.World.{IsEnough}
-use Rattle.oe_theory.specs.Laws.{IsAsked, all_held, Holds, with_asked, MayRead, MayWrite, Alike, IsSameEver}
+use Rattle.oe_theory.specs.Laws.{IsAsked, all_held, Holds, with_asked, MayRead, MayWrite, Alike, IsSameEver, after}
 use Rattle.oe_rows.specs.declared.keys.WarehouseKey.{WarehouseKey}
 use Rattle.oe_rows.specs.declared.keys.DistrictKey.{DistrictKey}
 use Rattle.oe_rows.specs.declared.keys.CustomerKey.{CustomerKey}
@@ -36,15 +36,17 @@ use Rattle.oe_requests.specs.declared.requests.Query.TheVariants.{Status, Level}
 use Rattle.oe_requests.specs.declared.refusals.Column.{Column}
 use Rattle.oe_requests.specs.declared.refusals.Refusal.{Refusal}
 use Rattle.oe_requests.specs.declared.refusals.Refusal.TheVariants.{NoSuchRow}
-use Rattle.oe_model.specs.Keys.{customer_in, customer_of_order, order_of_new_order, order_of_line, supply_of_line}
+use Rattle.oe_model.specs.Keys.{customer_in, district_of_customer, customer_of_order, order_of_new_order, order_of_line}
+use Rattle.oe_model.specs.Keys.{supply_of_line}
 use Rattle.oe_model.specs.Rows.{Rows, row_at, as_customer}
 use Rattle.oe_model.specs.Changes.{Change, InsertHistory, InsertNewOrder, InsertOrder, InsertOrderLine, UpdateWarehouse}
 use Rattle.oe_model.specs.Changes.{UpdateDistrict, UpdateCustomer, UpdateOrder, UpdateOrderLine, UpdateStock}
 use Rattle.oe_model.specs.Changes.{DeleteNewOrder, key_of, row_of}
 use Rattle.oe_model.specs.Meets.{Accepts}
-use Rattle.oe_model.specs.Locks.{governs, Facet, WarehouseThere, DistrictThere, CustomerThere, CustomerNamed}
+use Rattle.oe_model.specs.Locks.{governs, governs_part, Facet, WarehouseThere, DistrictThere, CustomerThere}
+use Rattle.oe_model.specs.Locks.{CustomerNamed}
 use Rattle.oe_model.specs.Locks.{StockThere, WholeItem, There, First, Whole, facet_key, part, first_if_named}
-use Rattle.oe_model.specs.Positions.{Position}
+use Rattle.oe_model.specs.Positions.{Position, InRename, RenameOld, RenameNew}
 use Rattle.oe_model.specs.Effects.{Doing, given, within}
 use Rattle.oe_model.specs.Choice.{middle, chosen}
 use Rattle.oe_model.specs.NewOrder.{item_at}
@@ -124,62 +126,92 @@ abbrev pub Knows : (Name → Mode → Type 0) → Change → Type 0
 Knows P (InsertNewOrder k x) = P (name.Order (order_of_new_order k)) Shared
 Knows P _ = Unit {0}
 
--- what a row may do that holds these names: it holds what comes next, writes where it may, and only what may change
-pub record IsLawfulBy (x : Tx Request) (hs : List (Hold Name)) (r : Rows) (c : Option Change) (q : Position) : Type
-    0 where
+-- what a position has read of a row that its program holds, and that still stands there
+abbrev pub HasLast : CustomerKey → List ℕ → Rows → Type 0
+HasLast k last r = (x : Customer) × (get r.customers k ≡ Some x) × (x.name.last ≡ last)
+
+abbrev pub Recalls : Position → Rows → Type 0
+Recalls (InRename q (RenameOld last)) r = HasLast q.customer last r
+Recalls (InRename q (RenameNew last)) r = HasLast q.customer last r
+Recalls _ r = Unit {0}
+
+-- a facet stands, or who holds these names may write it
+abbrev pub MayTurn : Tx Request → List (Hold Name) → Change → Option Row → Type 0
+MayTurn x hs d before = (f : Facet) → facet_key f ≡ key_of d
+    → (part f (row_of d) ≡ part f before) ⊎ MayWrite system (Holds system hs) x (governs_part f)
+
+-- what a row may do that holds these names: it holds what comes next, writes where it may, and changes only what may
+-- change, where what it has read still stands; and what the next position has read stands then
+pub record IsLawfulBy (x : Tx Request) (hs : List (Hold Name)) (r : Rows) (Before : Type 0) (c : Option Change)
+    (q : Position) : Type 0 where
   pub takes : (n : Name) (m : Mode) → Holds system (taken x q) n m → Holds system hs n m
   pub writes : (d : Change) → c ≡ Some d → MayWrite system (Holds system hs) x (governs (key_of d))
   pub knows : (d : Change) → c ≡ Some d → Knows (Holds system hs) d
-  pub keeps : (d : Change) → c ≡ Some d → Keeps d (row_at r (key_of d))
+  pub turns : (d : Change) → c ≡ Some d → Before → MayTurn x hs d (row_at r (key_of d))
+  pub recalls : Before → Recalls q (after system c r)
 
 abbrev pub IsLawful : Tx Request → Position → Rows → Option Change → Position → Type 0
-IsLawful x p r c q = IsLawfulBy x (held_then x p r) r c q
+IsLawful x p r c q = IsLawfulBy x (held_then x p r) r (Recalls p r) c q
 
-module _ (x : Tx Request) (hs : List (Hold Name)) (r : Rows) where
+module _ (x : Tx Request) (hs : List (Hold Name)) (r : Rows) (Before : Type 0) where
   pub lawful_as : (c d : Option Change) (q z : Position) → (let a : Doing = Go d z in a) ≡ Go c q
-      → IsLawfulBy x hs r d z → IsLawfulBy x hs r c q
+      → IsLawfulBy x hs r Before d z → IsLawfulBy x hs r Before c q
   lawful_as c d q z e h =
       let one : d ≡ c = cc in
       let two : z ≡ q = cc in
-      subst (λ (v : Option Change). IsLawfulBy x hs r v q) one (subst (λ (v : Position). IsLawfulBy x hs r d v) two h)
+      subst (λ (v : Option Change). IsLawfulBy x hs r Before v q) one
+      (subst (λ (v : Position). IsLawfulBy x hs r Before d v) two h)
 
   -- a row that makes no change
   pub changes_none : (q : Position) → ((n : Name) (m : Mode) → Holds system (taken x q) n m → Holds system hs n m)
-      → IsLawfulBy x hs r None q
-  changes_none q h = record {
+      → (Before → Recalls q r) → IsLawfulBy x hs r Before None q
+  changes_none q h j = record {
     takes = h;
     writes = λ d e. let no : ⊥ = cc in absurd no;
     knows = λ d e. let no : ⊥ = cc in absurd no;
-    keeps = λ d e. let no : ⊥ = cc in absurd no;
+    turns = λ d e. let no : ⊥ = cc in absurd no;
+    recalls = j;
   }
 
   -- a row that makes one change
   pub changes_one : (d : Change) (q : Position)
       → ((n : Name) (m : Mode) → Holds system (taken x q) n m → Holds system hs n m)
       → MayWrite system (Holds system hs) x (governs (key_of d)) → Knows (Holds system hs) d
-      → Keeps d (row_at r (key_of d)) → IsLawfulBy x hs r (Some d) q
-  changes_one d q h w j k = record {
+      → (Before → MayTurn x hs d (row_at r (key_of d))) → (Before → Recalls q (after system (Some d) r))
+      → IsLawfulBy x hs r Before (Some d) q
+  changes_one d q h w j k m = record {
     takes = h;
     writes = λ c e. let one : d ≡ c = cc in
         subst (λ (v : Change). MayWrite system (Holds system hs) x (governs (key_of v))) one w;
     knows = λ c e. let one : d ≡ c = cc in subst (λ (v : Change). Knows (Holds system hs) v) one j;
-    keeps = λ c e. let one : d ≡ c = cc in subst (λ (v : Change). Keeps v (row_at r (key_of v))) one k;
+    turns = λ c e b. let one : d ≡ c = cc in
+        subst (λ (v : Change). MayTurn x hs v (row_at r (key_of v))) one (k b);
+    recalls = m;
   }
+
+  -- one that leaves each facet as it was
+  pub changes_plain : (d : Change) (q : Position)
+      → ((n : Name) (m : Mode) → Holds system (taken x q) n m → Holds system hs n m)
+      → MayWrite system (Holds system hs) x (governs (key_of d)) → Knows (Holds system hs) d
+      → Keeps d (row_at r (key_of d)) → (Before → Recalls q (after system (Some d) r))
+      → IsLawfulBy x hs r Before (Some d) q
+  changes_plain d q h w j k m = changes_one d q h w j (λ b f e. inl (k f e)) m
 
 -- the same, by the position
 pub lawful_at : (x : Tx Request) (p : Position) (r : Rows) (c d : Option Change) (q z : Position)
     → (let a : Doing = Go d z in a) ≡ Go c q → IsLawful x p r d z → IsLawful x p r c q
-lawful_at x p r c d q z e h = lawful_as x (held_then x p r) r c d q z e h
+lawful_at x p r c d q z e h = lawful_as x (held_then x p r) r (Recalls p r) c d q z e h
 
 pub lawful_none : (x : Tx Request) (p : Position) (r : Rows) (q : Position)
-    → ((n : Name) (m : Mode) → Holds system (taken x q) n m → HeldThen x p r n m) → IsLawful x p r None q
-lawful_none x p r q h = changes_none x (held_then x p r) r q h
+    → ((n : Name) (m : Mode) → Holds system (taken x q) n m → HeldThen x p r n m) → (Recalls p r → Recalls q r)
+    → IsLawful x p r None q
+lawful_none x p r q h j = changes_none x (held_then x p r) r (Recalls p r) q h j
 
 pub lawful_one : (x : Tx Request) (p : Position) (r : Rows) (d : Change) (q : Position)
     → ((n : Name) (m : Mode) → Holds system (taken x q) n m → HeldThen x p r n m)
     → MayWrite system (HeldThen x p r) x (governs (key_of d)) → Knows (HeldThen x p r) d → Keeps d (row_at r (key_of d))
-    → IsLawful x p r (Some d) q
-lawful_one x p r d q h w j k = changes_one x (held_then x p r) r d q h w j k
+    → (Recalls p r → Recalls q (after system (Some d) r)) → IsLawful x p r (Some d) q
+lawful_one x p r d q h w j k m = changes_plain x (held_then x p r) r (Recalls p r) d q h w j k m
 
 -- keys with a facet
 is_faceted : Key → Bool
@@ -280,6 +312,11 @@ keeps_customer r k x y e a b (CustomerNamed j last) h =
 keeps_customer r k x y e a b (StockThere j) h = let no : ⊥ = cc in absurd no
 keeps_customer r k x y e a b (WholeItem j) h = let no : ⊥ = cc in absurd no
 
+-- who looks a customer up by name holds the name
+abbrev pub HoldsNames : (Name → Mode → Type 0) → DistrictKey → CustomerChoice → Type 0
+HoldsNames P h (Number c) = Unit {0}
+HoldsNames P h (LastName last) = P (name.Names h last) Shared
+
 -- what maps tell that are alike
 module _ (P : Name → Mode → Type 0) (x : Tx Request) (r s : Rows) (alike : Alike system P x r s) where
   same_there : {A : Type 0} (c : A → Row) (f : Facet) (a b : Option A)
@@ -299,12 +336,12 @@ module _ (P : Name → Mode → Type 0) (x : Tx Request) (r s : Rows) (alike : A
   pub alike_stock : (k : StockKey) → is_some (get r.stocks k) ≡ is_some (get s.stocks k)
   alike_stock k = same_there row.Stock (StockThere k) (get r.stocks k) (get s.stocks k) (alike.parts (StockThere k) tt)
 
-  alike_named : (k : CustomerKey) (last : List ℕ)
+  alike_named : (k : CustomerKey) (last : List ℕ) → P (name.Names (district_of_customer k) last) Shared
       → first_if_named last (get r.customers k) ≡ first_if_named last (get s.customers k)
-  alike_named k last =
+  alike_named k last held =
       let u : Option (List ℕ) = first_if_named last (option_and_then as_customer (row_at r (key.Customer k))) in
       let v : Option (List ℕ) = first_if_named last (option_and_then as_customer (row_at s (key.Customer k))) in
-      let h : First u ≡ First v = alike.parts (CustomerNamed k last) tt in
+      let h : First u ≡ First v = alike.parts (CustomerNamed k last) held in
       let e : u ≡ v = cc in
       ap (first_if_named last) (sym (out-map row.Customer as_customer (λ _. refl) (get r.customers k))) ∙ e
       ∙ ap (first_if_named last) (out-map row.Customer as_customer (λ _. refl) (get s.customers k))
@@ -322,12 +359,14 @@ module _ (P : Name → Mode → Type 0) (x : Tx Request) (r s : Rows) (alike : A
   number_if c None = refl
   number_if c (Some x) = refl
 
-  pub alike_chosen : (h : DistrictKey) (who : CustomerChoice) → chosen h who r.customers ≡ chosen h who s.customers
-  alike_chosen h (Number c) =
+  pub alike_chosen : (h : DistrictKey) (who : CustomerChoice) → HoldsNames P h who
+      → chosen h who r.customers ≡ chosen h who s.customers
+  alike_chosen h (Number c) held =
       number_if c (get r.customers (customer_in h c)) ∙ ap (λ (b : Bool). cond b (Some c) None)
       (alike_customer (customer_in h c)) ∙ sym (number_if c (get s.customers (customer_in h c)))
-  alike_chosen h (LastName last) = ap middle
-      (same_namesakes h last r.customers s.customers alike_customer (λ k. alike_named k last))
+  alike_chosen h (LastName last) held = ap middle
+      (same_namesakes h last r.customers s.customers alike_customer
+      (λ k e. alike_named k last (subst (λ (d : DistrictKey). P (name.Names d last) Shared) (sym e) held)))
 
 -- the tables accept a change of a row that may be written on both, or on neither
 module _ (hs : List (Hold Name)) (x : Tx Request) (r s : Rows) (alike : Alike system (Holds system hs) x r s) where
@@ -370,7 +409,7 @@ module _ (hs : List (Hold Name)) (x : Tx Request) (r s : Rows) (alike : Alike sy
   accepts_alike (UpdateDistrict k y) w j a =
       subst (λ v. IsSome v) (un_district (get r.districts k) (get s.districts k) (own_row (UpdateDistrict k y) w)) a
   accepts_alike (UpdateCustomer k y) w j a =
-      (a.0, sym (un_customer (get r.customers k) (get s.customers k) (own_row (UpdateCustomer k y) w)) ∙ a.1, a.2, a.3)
+      subst (λ v. IsSome v) (un_customer (get r.customers k) (get s.customers k) (own_row (UpdateCustomer k y) w)) a
   accepts_alike (UpdateOrder k y) w j a =
       (a.0, sym (un_order (get r.orders k) (get s.orders k) (own_row (UpdateOrder k y) w)) ∙ a.1, a.2)
   accepts_alike (UpdateOrderLine k y) w j a = (

@@ -7,6 +7,8 @@ pub mod PopulationTestFacts
 pub mod PopulationTextFacts
 pub mod PopulationRangeFacts
 pub mod PopulationTables
+pub mod RenameFacts
+pub mod RenameLaws
 pub mod RowFacts
 pub mod PresenceFacts
 pub mod ChangeFacts

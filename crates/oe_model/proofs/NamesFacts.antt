@@ -1,4 +1,4 @@
--- Who has a last name in a district is told by which customers there are, and by C_FIRST of those with that name.
+-- Who has a last name in a district is told by which customers there are, and by C_FIRST of those there with that name.
 use Rattle.std.proofs.Common.{◌≡◌, ℕ, refl, sym, ◌∙◌, ap, Bool, true, false, cond, List, [], ◌∷◌, Option, Some, None}
 use Rattle.std.proofs.Common.{inl, inr}
 use Rattle.std.specs.Prelude.{◌⊎◌, ◌&&◌, is_some, option_map}
@@ -38,7 +38,7 @@ module _ (h : DistrictKey) (last : List ℕ) where
       (Some (x.name.first, k.customer)) None) e
 
   by_rows : (k : CustomerKey) (u v : Option Customer) → is_some u ≡ is_some v
-      → first_if_named last u ≡ first_if_named last v
+      → (district_of_customer k ≡ h → first_if_named last u ≡ first_if_named last v)
       → (district_of_customer k ≡ h) ⊎ (eq_by_cmp district_cmp (district_of_customer k) h ≡ false)
       → option_map (named h last k) u ≡ option_map (named h last k) v
   by_rows k None None p n c = refl
@@ -47,7 +47,7 @@ module _ (h : DistrictKey) (last : List ℕ) where
   by_rows k (Some x) (Some y) p n (inl s) =
       let e : eq_by_cmp district_cmp (district_of_customer k) h ≡ true =
       ap (λ (d : DistrictKey). eq_by_cmp district_cmp d h) s ∙ is_self district_total exact_district h in
-      ap Some (in_district k x e ∙ ap (option_map (λ first. (first, k.customer))) n ∙ sym (in_district k y e))
+      ap Some (in_district k x e ∙ ap (option_map (λ first. (first, k.customer))) (n s) ∙ sym (in_district k y e))
   by_rows k (Some x) (Some y) p n (inr t) = ap Some (elsewhere k x t ∙ sym (elsewhere k y t))
 
   taken_from : (es : List (CustomerKey × Customer))
@@ -57,7 +57,8 @@ module _ (h : DistrictKey) (last : List ℕ) where
 
   pub same_namesakes : (a b : FinMap customer_cmp Customer)
       → ((k : CustomerKey) → is_some (get a k) ≡ is_some (get b k))
-      → ((k : CustomerKey) → first_if_named last (get a k) ≡ first_if_named last (get b k))
+      → ((k : CustomerKey) → district_of_customer k ≡ h
+      → first_if_named last (get a k) ≡ first_if_named last (get b k))
       → namesakes h last a ≡ namesakes h last b
   same_namesakes a b p n =
       taken_from (entries a)

@@ -120,32 +120,33 @@ new_order_lawful x q NewOrderWarehouse r c z k e =
     let (y, here, e1) = given_goes (NoSuchRow (key.Warehouse (warehouse_of_district q.district)))
     (get r.warehouses (warehouse_of_district q.district)) _ c z e in
     lawful_at x (InNewOrder q NewOrderWarehouse) r c _ z _ e1
-    (lawful_none x (InNewOrder q NewOrderWarehouse) r _ (λ n m h. h))
+    (lawful_none x (InNewOrder q NewOrderWarehouse) r _ (λ n m h. h) (λ _. tt))
 new_order_lawful x q (NewOrderDistrict w) r c z k e =
     let p : Position = InNewOrder q (NewOrderDistrict w) in
     let (y, here, e1) = given_goes (NoSuchRow (key.District q.district)) (get r.districts q.district) _ c z e in
     lawful_at x p r c _ z _ (within_goes _ _ c z e1)
     (lawful_one x p r (UpdateDistrict q.district (with_next y)) _ (λ n m h. h) (inl (refl, tt)) tt
-    (keeps_district r q.district y (with_next y) here))
+    (keeps_district r q.district y (with_next y) here) (λ _. tt))
 new_order_lawful x q (NewOrderCustomer o w d) r c z k e =
     let p : Position = InNewOrder q (NewOrderCustomer o w d) in
     let (y, here, e1) = given_goes NoCustomer (get r.customers (customer_in q.district q.customer)) _ c z e in
     let a = asks_customer x q o w d r (get r.customers (customer_in q.district q.customer)) refl k in
     lawful_at x p r c _ z _ e1
     (lawful_none x p r _ (λ n m h. subst
-    (λ (v : Ask Name Refusal). Holds system (with_asked system v (taken x p)) n m) (sym a) h))
+    (λ (v : Ask Name Refusal). Holds system (with_asked system v (taken x p)) n m) (sym a) h) (λ _. tt))
 new_order_lawful x q (NewOrderOrder t) r c z k e =
     let p : Position = InNewOrder q (NewOrderOrder t) in
     lawful_at x p r c _ z _ e
     (lawful_one x p r (InsertOrder (order_in q.district t.order) (order_row q)) _ (λ n m h. h) (inl (refl, tt)) tt
-    (keeps_order (row_at r (key.Order (order_in q.district t.order))) (order_in q.district t.order) (order_row q)))
+    (keeps_order (row_at r (key.Order (order_in q.district t.order))) (order_in q.district t.order) (order_row q))
+    (λ _. tt))
 new_order_lawful x q (NewOrderQueue t) r c z k e =
     let p : Position = InNewOrder q (NewOrderQueue t) in
     lawful_at x p r c _ z _ e
     (lawful_one x p r (InsertNewOrder (new_order_in q.district t.order) new_order_row) _ (λ n m h. h) (inl (refl, tt))
     (inr (inl (refl, tt)))
     (keeps_new_order (row_at r (key.NewOrder (new_order_in q.district t.order))) (new_order_in q.district t.order)
-    new_order_row))
+    new_order_row) (λ _. tt))
 new_order_lawful x q (NewOrderStock t before done []) r c z k e = let no : ⊥ = cc in absurd no
 new_order_lawful x q (NewOrderStock t before done (l ∷ ls)) r c z k e =
     let p : Position = InNewOrder q (NewOrderStock t before done (l ∷ ls)) in
@@ -156,7 +157,7 @@ new_order_lawful x q (NewOrderStock t before done (l ∷ ls)) r c z k e =
     (lawful_one x p r (UpdateStock (stock_of l) (supplied q.district.warehouse (stock_of l) y l.quantity)) _
     (λ n m h. subst (λ (v : Ask Name Refusal). Holds system (with_asked system v (taken x p)) n m) (sym a) h)
     (holds_asked (ask x p r) (taken x p) (name.Stock (stock_of l)) Exclusive Exclusive a tt) tt
-    (keeps_stock r (stock_of l) y (supplied q.district.warehouse (stock_of l) y l.quantity) here))
+    (keeps_stock r (stock_of l) y (supplied q.district.warehouse (stock_of l) y l.quantity) here) (λ _. tt))
 new_order_lawful x q (NewOrderLine t before done l f ls) r c z k e =
     let p : Position = InNewOrder q (NewOrderLine t before done l f ls) in
     let base : List (Hold Name) = hold (name.Queue q.district) Exclusive ∷ hold
@@ -173,4 +174,4 @@ new_order_lawful x q (NewOrderLine t before done l f ls) r c z k e =
     (inr (holds_more (stock_holds before) base (name.Order (order_in q.district t.order)) Exclusive
     (inr (inl (refl, tt))))) tt
     (keeps_line (row_at r (key.OrderLine (line_in (order_in q.district t.order) f.number)))
-    (line_in (order_in q.district t.order) f.number) f.row))
+    (line_in (order_in q.district t.order) f.number) f.row) (λ _. tt))

@@ -226,7 +226,7 @@ made (InsertOrder k x) r a = out-map row.Order as_order (λ _. refl) (get r.orde
 made (InsertOrderLine k x) r a = out-map row.OrderLine as_order_line (λ _. refl) (get r.order_lines k) ∙ a.0
 made (UpdateWarehouse k x) r a = ap is_some (out-map row.Warehouse as_warehouse (λ _. refl) (get r.warehouses k)) ∙ a
 made (UpdateDistrict k x) r a = ap is_some (out-map row.District as_district (λ _. refl) (get r.districts k)) ∙ a
-made (UpdateCustomer k x) r a = ap is_some (out-map row.Customer as_customer (λ _. refl) (get r.customers k) ∙ a.1)
+made (UpdateCustomer k x) r a = ap is_some (out-map row.Customer as_customer (λ _. refl) (get r.customers k)) ∙ a
 made (UpdateOrder k x) r a = ap is_some (out-map row.Order as_order (λ _. refl) (get r.orders k) ∙ a.1)
 made (UpdateOrderLine k x) r a = ap is_some (out-map row.OrderLine as_order_line (λ _. refl) (get r.order_lines k))
     ∙ a.0

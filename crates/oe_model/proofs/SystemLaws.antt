@@ -1,11 +1,15 @@
 -- The machine's laws, put together.
-use Rattle.std.proofs.Common.{◌≡◌, ℕ, suc, ◌<◌, ◌≤◌, arith, refl, ap, Bool, true, false, cond, List, [], ◌∷◌, map}
+use Rattle.std.proofs.Common.{◌≡◌, ℕ, suc, ◌<◌, ◌≤◌, arith, refl, ap, subst, Bool, true, false, cond, List, []}
+use Rattle.std.proofs.Common.{◌∷◌, map}
 use Rattle.std.proofs.Common.{Option, Some, None, inl}
 use Rattle.std.specs.Prelude.{IsSome, is_some, nat_le}
-use Rattle.std.specs.FinMap.{FinMap, get}
+use Rattle.std.specs.Ordering.{nat_cmp}
+use Rattle.std.specs.Cmp.Lexicographic.{slice_cmp, nat_list_cmp_total}
+use Rattle.std.specs.FinMap.{FinMap, IsAntisymmetric, get, nat_cmp-IsAntisymmetric, slice_cmp-IsAntisymmetric}
+use Rattle.std.proofs.lemmas.Bool.{and_parts, and_from}
 use Rattle.oe_theory.specs.Machine.{Go, Tx}
-use Rattle.oe_theory.specs.World.{bump, overlay}
-use Rattle.oe_theory.specs.Laws.{Laws, Holds, with_asked, Alike, IsGood}
+use Rattle.oe_theory.specs.World.{State, bump, overlay, add}
+use Rattle.oe_theory.specs.Laws.{Laws, Holds, with_asked, Alike, IsGood, Alone, at_start, one_more, after}
 use Rattle.oe_rows.specs.Key.{item_cmp}
 use Rattle.oe_rows.specs.declared.keys.DistrictKey.{DistrictKey}
 use Rattle.oe_rows.specs.declared.keys.HistoryKey.{HistoryKey}
@@ -24,7 +28,7 @@ use Rattle.oe_model.specs.Changes.{Change}
 use Rattle.oe_model.specs.Meets.{Meets}
 use Rattle.oe_model.specs.Locks.{is_name}
 use Rattle.oe_model.specs.Positions.{Position, InPayment, InNewOrder, InDelivery, InDeliveries, DeliveriesEnd}
-use Rattle.oe_model.specs.Positions.{NoProgram}
+use Rattle.oe_model.specs.Positions.{InRename}
 use Rattle.oe_model.specs.Payment.{history_key}
 use Rattle.oe_model.specs.NewOrder.{stock_of, item_at}
 use Rattle.oe_model.specs.Delivery.{alone}
@@ -40,7 +44,9 @@ use Rattle.oe_model.proofs.RowFacts.{at_put_back, in_layout_redoes, same_rows}
 use Rattle.oe_model.proofs.ChangeFacts.{accepted_meets}
 use Rattle.oe_model.proofs.StepFacts.{EndsSo}
 use Rattle.oe_model.proofs.LawFacts.{IsAskedNow, HeldThen, IsLawful, accepts_alike, rejection_same}
-use Rattle.oe_model.proofs.LawFacts.{query_rejection_same, all_there}
+use Rattle.oe_model.proofs.LawFacts.{Recalls, query_rejection_same, all_there}
+use Rattle.oe_model.proofs.RenameFacts.{rename_ends, rename_good}
+use Rattle.oe_model.proofs.RenameLaws.{rename_ask_same, rename_act_same, rename_lawful}
 use Rattle.oe_model.proofs.PaymentFacts.{payment_ends}
 use Rattle.oe_model.proofs.PaymentLaws.{payment_ask_same, payment_act_same, payment_lawful}
 use Rattle.oe_model.proofs.PaymentGood.{payment_good}
@@ -54,6 +60,9 @@ use Rattle.oe_model.proofs.DeliveryGood.{delivery_good}
 use Rattle.oe_model.proofs.DeliveriesFacts.{deliveries_end, deliveries_good}
 use Rattle.oe_model.proofs.KeptFacts.{ends_kept, accepted_stocked}
 
+exact_text : IsAntisymmetric (slice_cmp nat_cmp)
+exact_text = slice_cmp-IsAntisymmetric nat_cmp-IsAntisymmetric
+
 pub name_refl : (a : Name) → is_name a a ≡ true
 name_refl (name.Warehouse a) = is_self warehouse_total exact_warehouse a
 name_refl (name.District a) = is_self district_total exact_district a
@@ -61,6 +70,8 @@ name_refl (name.Customer a) = is_self customer_total exact_customer a
 name_refl (name.Order a) = is_self order_total exact_order a
 name_refl (name.Queue a) = is_self district_total exact_district a
 name_refl (name.Stock a) = is_self stock_total exact_stock a
+name_refl (name.Names a x) =
+    and_from _ _ (is_self district_total exact_district a) (is_self nat_list_cmp_total exact_text x)
 
 pub name_true : (a b : Name) → is_name a b ≡ true → a ≡ b
 name_true (name.Warehouse a) (name.Warehouse b) e = ap name.Warehouse (is_same warehouse_total exact_warehouse a b e)
@@ -69,6 +80,9 @@ name_true (name.Customer a) (name.Customer b) e = ap name.Customer (is_same cust
 name_true (name.Order a) (name.Order b) e = ap name.Order (is_same order_total exact_order a b e)
 name_true (name.Queue a) (name.Queue b) e = ap name.Queue (is_same district_total exact_district a b e)
 name_true (name.Stock a) (name.Stock b) e = ap name.Stock (is_same stock_total exact_stock a b e)
+name_true (name.Names a x) (name.Names b y) e =
+    let p = and_parts _ _ e in
+    λ i. name.Names (is_same district_total exact_district a b p.0 i) (is_same nat_list_cmp_total exact_text x y p.1 i)
 name_true _ _ e = cc
 
 -- an item that is found is there
@@ -108,7 +122,8 @@ ends_by t k (request.Delivery q) r g valid known =
     delivery_ends (record { terminal = t; number = k; request = request.Delivery q }) q r g.meets
 ends_by t k (request.Deliveries q) r g valid known = deliveries_end
     (record { terminal = t; number = k; request = request.Deliveries q }) q r g.meets
-ends_by t k (request.Rename q) r g valid known = absurd valid
+ends_by t k (request.Rename q) r g valid known =
+    rename_ends (record { terminal = t; number = k; request = request.Rename q }) q r
 
 pub programs_end : Programs_end
 programs_end x r g valid known = ends_by x.terminal x.number x.request r g valid known
@@ -142,7 +157,7 @@ good_by f t k (request.Payment q) r after y g n m s e = payment_good f t k q r a
 good_by f t k (request.NewOrder q) r after y g n m s e = new_order_good f t q r after y g m s e
 good_by f t k (request.Delivery q) r after y g n m s e = delivery_good f t q r after y g m s e
 good_by f t k (request.Deliveries q) r after y g n m s e = deliveries_good f t q r after y g e
-good_by f t k (request.Rename q) r after y g n m s e = let no : ⊥ = cc in absurd no
+good_by f t k (request.Rename q) r after y g n m s e = rename_good f t q r after y g m s e
 
 pub stays : (f : ℕ → ℕ) (x : Tx Request) (r after : Rows) (y : Reply) → IsGood system f x r
     → effect_of x.terminal x.number x.request r ≡ Some (after, y) → Good (bump x.terminal f) after
@@ -168,7 +183,7 @@ ask_same x (InNewOrder q p) r s h = new_order_ask_same x q p r s h
 ask_same x (InDelivery q p) r s h = delivery_ask_same q p r s
 ask_same x (InDeliveries q done p) r s h = delivery_ask_same (at_hand q done) p r s
 ask_same x (DeliveriesEnd done) r s h = refl
-ask_same x NoProgram r s h = refl
+ask_same x (InRename q p) r s h = rename_ask_same x q p r s h
 
 act_same : (x : Tx Request) (p : Position) (r s : Rows) → IsAskedNow x p r → Alike system (HeldThen x p r) x r s
     → act x p r ≡ act x p s
@@ -177,7 +192,7 @@ act_same x (InNewOrder q p) r s k h = new_order_act_same x q p r s k h
 act_same x (InDelivery q p) r s k h = district_act_same x (alone q) q p r s h
 act_same x (InDeliveries q done p) r s k h = district_act_same x (among_ten q done) (at_hand q done) p r s h
 act_same x (DeliveriesEnd done) r s k h = refl
-act_same x NoProgram r s k h = refl
+act_same x (InRename q p) r s k h = rename_act_same x q p r s k h
 
 lawful : (x : Tx Request) (p : Position) (r : Rows) → (c : Option Change) (z : Position) → IsAskedNow x p r
     → act x p r ≡ Go c z → IsLawful x p r c z
@@ -187,7 +202,27 @@ lawful x (InDelivery q p) r c z k e = district_lawful x (alone q) q (alone_takes
 lawful x (InDeliveries q done p) r c z k e = district_lawful x (among_ten q done) (at_hand q done)
     (among_takes x q done) p r c z e
 lawful x (DeliveriesEnd done) r c z k e = let no : ⊥ = cc in absurd no
-lawful x NoProgram r c z k e = absurd k
+lawful x (InRename q p) r c z k e = rename_lawful x q p r c z k e
+
+-- what a program that runs alone has read still stands
+recalls_first : (x : Tx Request) (q : Request) (r : Rows) → Recalls (start_of q) r
+recalls_first x (request.Payment q) r = tt
+recalls_first x (request.NewOrder q) r = tt
+recalls_first x (request.Delivery q) r = tt
+recalls_first x (request.Deliveries q) r = tt
+recalls_first x (request.Rename q) r = tt
+
+overlay-add : (c : Option Change) (cs : List Change) (r : Rows)
+    → after system c (overlay system cs r) ≡ overlay system (add system c cs) r
+overlay-add None cs r = refl
+overlay-add (Some c) cs r = refl
+
+recalls_alone : (x : Tx Request) (r : Rows) (s : State system) → Alone system x r s
+    → Recalls s.position (overlay system s.changes r)
+recalls_alone x r _ at_start = recalls_first x x.request r
+recalls_alone x r _ (one_more s c p before i e) =
+    subst (λ t. Recalls p t) (overlay-add c s.changes r)
+    ((lawful x s.position (overlay system s.changes r) c p i e).recalls (recalls_alone x r s before))
 
 pub laws : Laws system
 laws = record {
@@ -206,8 +241,8 @@ laws = record {
   act_same = act_same;
   next_takes = λ x p r c q k e. (lawful x p r c q k e).takes;
   may_write = λ x p r c q k e. (lawful x p r (Some c) q k e).writes c refl;
-  keeps_part = λ x r s c q h k e f own. inl
-      ((lawful x s.position (overlay system s.changes r) (Some c) q k e).keeps c refl f own);
+  keeps_part = λ x r s c q h k e.
+      (lawful x s.position (overlay system s.changes r) (Some c) q k e).turns c refl (recalls_alone x r s h);
   accepts_same = λ x p r s c q k h e a.
       accepts_alike (with_asked system (ask x p r) (taken x p)) x r s h c ((lawful x p r (Some c) q k e).writes c refl)
       ((lawful x p r (Some c) q k e).knows c refl) a;

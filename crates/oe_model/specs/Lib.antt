@@ -23,6 +23,7 @@ pub mod Conditions
 pub mod FurtherConditions
 pub mod Queries
 pub mod Audits
+pub mod Rename
 pub mod Requests
 pub mod System
 pub mod Headline

@@ -1,5 +1,5 @@
 -- The names of locks, what each governs, and what may be read of a row without its lock.
-use Rattle.std.specs.Prelude.{ℕ, Bool, true, false, cond, is_some, List, Option, None, Some, option_and_then}
+use Rattle.std.specs.Prelude.{ℕ, Bool, true, false, ◌&&◌, cond, is_some, List, Option, None, Some, option_and_then}
 use Rattle.std.specs.Ordering.{eq_by_cmp, nat_cmp}
 use Rattle.std.specs.Cmp.Lexicographic.{slice_cmp}
 use Rattle.oe_theory.specs.Machine.{Guard, Free, Under, Own, Hold}
@@ -18,7 +18,7 @@ use Rattle.oe_rows.specs.declared.locks.Name.{Name}
 use Rattle.oe_rows.specs.declared.locks.Name.TheVariants as name
 use Rattle.oe_rows.specs.declared.locks.Mode.{Mode}
 use Rattle.oe_rows.specs.declared.locks.Mode.TheVariants.{Shared, Exclusive}
-use Rattle.oe_model.specs.Keys.{district_of_new_order, order_of_line}
+use Rattle.oe_model.specs.Keys.{district_of_customer, district_of_new_order, order_of_line}
 use Rattle.oe_model.specs.Rows.{as_customer}
 
 abbrev pub is_name : Name → Name → Bool
@@ -28,6 +28,7 @@ is_name (name.Customer a) (name.Customer b) = eq_by_cmp customer_cmp a b
 is_name (name.Order a) (name.Order b) = eq_by_cmp order_cmp a b
 is_name (name.Queue a) (name.Queue b) = eq_by_cmp district_cmp a b
 is_name (name.Stock a) (name.Stock b) = eq_by_cmp stock_cmp a b
+is_name (name.Names a x) (name.Names b y) = eq_by_cmp district_cmp a b && eq_by_cmp (slice_cmp nat_cmp) x y
 is_name _ _ = false
 
 -- a mode, as the theory of transactions has it
@@ -93,6 +94,8 @@ part (CustomerNamed k last) v = First (first_if_named last (option_and_then as_c
 part (StockThere k) v = There (is_some v)
 part (WholeItem k) v = Whole v
 
--- no program of today changes a facet
+-- the name that a facet lies under: who of a district has a last name lies under this name's lock. The others never
+-- change
 abbrev pub governs_part : Facet → Guard Name
-governs_part f = Free
+governs_part (CustomerNamed k last) = Under (name.Names (district_of_customer k) last)
+governs_part _ = Free

@@ -46,7 +46,7 @@ pub record Meets (r : Rows) : Type 0 where
       → 1 ≤ k.district → k.district ≤ 10 → IsSome (get r.districts k)
 
 -- a change is accepted: an insert where its key is absent and what it refers to is there, an update where its key is
--- there, O_C_ID, C_LAST and C_FIRST stay and what it refers to is there, a delete where its key is there
+-- there, O_C_ID stays and what it refers to is there, a delete where its key is there
 abbrev pub Accepts : Change → Rows → Type 0
 Accepts (InsertHistory k x) r = (get r.histories k ≡ None) × IsSome (get r.customers x.customer)
     × IsSome (get r.districts x.district)
@@ -56,8 +56,7 @@ Accepts (InsertOrderLine k x) r = (get r.order_lines k ≡ None) × IsSome (get 
     × IsSome (get r.stocks (supply_of_line x))
 Accepts (UpdateWarehouse k x) r = IsSome (get r.warehouses k)
 Accepts (UpdateDistrict k x) r = IsSome (get r.districts k)
-Accepts (UpdateCustomer k x) r = (y : Customer) × (get r.customers k ≡ Some y) × (x.name.last ≡ y.name.last)
-    × (x.name.first ≡ y.name.first)
+Accepts (UpdateCustomer k x) r = IsSome (get r.customers k)
 Accepts (UpdateOrder k x) r = (y : Order) × (get r.orders k ≡ Some y) × (x.customer ≡ y.customer)
 Accepts (UpdateOrderLine k x) r = IsSome (get r.order_lines k) × IsSome (get r.stocks (supply_of_line x))
 Accepts (UpdateStock k x) r = IsSome (get r.stocks k)
@@ -80,10 +79,8 @@ referred (InsertOrderLine k x) = key.Order (order_of_line k) ∷ key.Stock (supp
 referred (UpdateOrderLine k x) = key.Stock (supply_of_line x) ∷ []
 referred _ = []
 
--- an update changes a column that is part of an index's key: O_C_ID, C_LAST or C_FIRST
+-- an update changes a column that is part of an index's key: O_C_ID
 abbrev pub ChangesKeyColumn : Change → Rows → Type 0
-ChangesKeyColumn (UpdateCustomer k x) r = (y : Customer) × (get r.customers k ≡ Some y)
-    × ((x.name.last ≢ y.name.last) ⊎ (x.name.first ≢ y.name.first))
 ChangesKeyColumn (UpdateOrder k x) r = (y : Order) × (get r.orders k ≡ Some y) × (x.customer ≢ y.customer)
 ChangesKeyColumn _ r = ⊥
 

@@ -2,8 +2,9 @@
 use Rattle.std.specs.Prelude.{ℕ, ◌+◌, pos, neg_ℤ, ◌-ℤ◌, ℤ, Bool, ◌&&◌, List, [], ◌∷◌, ◌++◌, Option, None, Some, nat_le}
 use Rattle.std.specs.Prelude.{int_le, codes}
 use Rattle.std.specs.FinMap.{get, insert}
-use Rattle.oe_theory.specs.Machine.{Exclusive, Ask, Stop, Plain, Take, Go, Ready, Hold}
+use Rattle.oe_theory.specs.Machine.{Shared, Exclusive, Ask, Stop, Plain, Take, Go, Ready, Hold}
 use Rattle.oe_rows.specs.Credit.{bad_credit_data}
+use Rattle.oe_rows.specs.declared.keys.DistrictKey.{DistrictKey}
 use Rattle.oe_rows.specs.declared.keys.HistoryKey.{HistoryKey}
 use Rattle.oe_rows.specs.declared.keys.Key.TheVariants as key
 use Rattle.oe_rows.specs.declared.warehouses.Warehouse.{Warehouse}
@@ -14,6 +15,8 @@ use Rattle.oe_rows.specs.declared.customers.Customer.{Customer}
 use Rattle.oe_rows.specs.declared.histories.History.{History}
 use Rattle.oe_rows.specs.declared.locks.Name.{Name}
 use Rattle.oe_rows.specs.declared.locks.Name.TheVariants as name
+use Rattle.oe_requests.specs.declared.requests.CustomerChoice.{CustomerChoice}
+use Rattle.oe_requests.specs.declared.requests.CustomerChoice.TheVariants.{Number, LastName}
 use Rattle.oe_requests.specs.declared.requests.PaymentRequest.{PaymentRequest}
 use Rattle.oe_requests.specs.declared.replies.PaymentReply.{PaymentReply}
 use Rattle.oe_requests.specs.declared.replies.Reply.{Reply}
@@ -26,8 +29,8 @@ use Rattle.oe_model.specs.Keys.{warehouse_of_district, customer_in}
 use Rattle.oe_model.specs.Rows.{Rows}
 use Rattle.oe_model.specs.Changes.{InsertHistory, UpdateWarehouse, UpdateDistrict, UpdateCustomer}
 use Rattle.oe_model.specs.Locks.{hold}
-use Rattle.oe_model.specs.Positions.{PaymentPosition, PaymentWarehouse, PaymentDistrict, PaymentCustomer}
-use Rattle.oe_model.specs.Positions.{PaymentHistory, PaymentEnd, InPayment}
+use Rattle.oe_model.specs.Positions.{PaymentPosition, PaymentWarehouse, PaymentDistrict, PaymentNames}
+use Rattle.oe_model.specs.Positions.{PaymentCustomer, PaymentHistory, PaymentEnd, InPayment}
 use Rattle.oe_model.specs.Effects.{◌>>=◌, first_out, in_range, Doing, given, within}
 use Rattle.oe_model.specs.Choice.{chosen}
 
@@ -117,14 +120,29 @@ payment_effect t k q r = do
     reply.Payment (paid_reply c customer'),
   )
 
+-- who has a last name lies under its lock, which a payment by name holds until it ends; one by number has no such stage
+abbrev pub names_lock : DistrictKey → CustomerChoice → Ask Name Refusal
+names_lock h (Number c) = Stop NoCustomer
+names_lock h (LastName last) = Take (name.Names h last) Shared
+
+abbrev pub names_hold : DistrictKey → CustomerChoice → List (Hold Name)
+names_hold h (Number c) = []
+names_hold h (LastName last) = hold (name.Names h last) Shared ∷ []
+
+-- a payment by name looks the customer up, and one by number has its C_ID
+abbrev pub behind_district : CustomerChoice → List ℕ → List ℕ → PaymentPosition
+behind_district (Number c) w d = PaymentCustomer w d c
+behind_district (LastName last) w d = PaymentNames w d
+
 -- the program: the lock of each stage
 abbrev pub payment_ask : PaymentRequest → PaymentPosition → Rows → Ask Name Refusal
 payment_ask q PaymentWarehouse r = Take (name.Warehouse (warehouse_of_district q.district)) Exclusive
 payment_ask q (PaymentDistrict w) r = Take (name.District q.district) Exclusive
-payment_ask q (PaymentCustomer w d) r =
-    elim (chosen q.customer_district q.customer r.customers) [
+payment_ask q (PaymentNames w d) r = names_lock q.customer_district q.customer
+payment_ask q (PaymentCustomer w d c) r =
+    elim (get r.customers (customer_in q.customer_district c)) [
       | None ↦ Stop NoCustomer
-      | Some c ↦ Take (name.Customer (customer_in q.customer_district c)) Exclusive
+      | Some x ↦ Take (name.Customer (customer_in q.customer_district c)) Exclusive
     ]
 payment_ask q (PaymentHistory d y) r = Plain
 payment_ask q (PaymentEnd y) r = Plain
@@ -140,13 +158,15 @@ payment_act t k q PaymentWarehouse r =
 payment_act t k q (PaymentDistrict w) r =
     given (NoSuchRow (key.District q.district)) (get r.districts q.district) (λ x.
     within (paid_district_out (paid_district q x))
-    (Go (Some (UpdateDistrict q.district (paid_district q x))) (InPayment q (PaymentCustomer w x.name))))
-payment_act t k q (PaymentCustomer w d) r =
+    (Go (Some (UpdateDistrict q.district (paid_district q x))) (InPayment q (behind_district q.customer w x.name))))
+payment_act t k q (PaymentNames w d) r =
     given NoCustomer (chosen q.customer_district q.customer r.customers) (λ c.
+    Go None (InPayment q (PaymentCustomer w d c)))
+payment_act t k q (PaymentCustomer w d c) r =
     given NoCustomer (get r.customers (customer_in q.customer_district c)) (λ x.
     within (paid_customer_out (paid_customer c q x))
     (Go (Some (UpdateCustomer (customer_in q.customer_district c) (paid_customer c q x)))
-    (InPayment q (PaymentHistory (history_data w d) (paid_reply c (paid_customer c q x)))))))
+    (InPayment q (PaymentHistory (history_data w d) (paid_reply c (paid_customer c q x))))))
 payment_act t k q (PaymentHistory d y) r = Go (Some (InsertHistory (history_key t k) (history_row q y.customer d)))
     (InPayment q (PaymentEnd y))
 payment_act t k q (PaymentEnd y) r = Ready (reply.Payment y)
@@ -156,11 +176,13 @@ abbrev pub payment_taken : PaymentRequest → PaymentPosition → List (Hold Nam
 payment_taken q position =
     let one = hold (name.Warehouse (warehouse_of_district q.district)) Exclusive ∷ [] in
     let two = hold (name.District q.district) Exclusive ∷ one in
-    let three = λ (c : ℕ). hold (name.Customer (customer_in q.customer_district c)) Exclusive ∷ two in
+    let names = names_hold q.customer_district q.customer ++ two in
+    let three = λ (c : ℕ). hold (name.Customer (customer_in q.customer_district c)) Exclusive ∷ names in
     elim position [
       | PaymentWarehouse ↦ []
       | PaymentDistrict w ↦ one
-      | PaymentCustomer w d ↦ two
+      | PaymentNames w d ↦ two
+      | PaymentCustomer w d c ↦ names
       | PaymentHistory d y ↦ three y.customer
       | PaymentEnd y ↦ three y.customer
     ]

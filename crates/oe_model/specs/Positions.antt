@@ -7,6 +7,7 @@ use Rattle.oe_requests.specs.declared.requests.RequestLine.{RequestLine}
 use Rattle.oe_requests.specs.declared.requests.NewOrderRequest.{NewOrderRequest}
 use Rattle.oe_requests.specs.declared.requests.DeliveryRequest.{DeliveryRequest}
 use Rattle.oe_requests.specs.declared.requests.DeliveriesRequest.{DeliveriesRequest}
+use Rattle.oe_requests.specs.declared.requests.RenameRequest.{RenameRequest}
 use Rattle.oe_requests.specs.declared.replies.PaymentReply.{PaymentReply}
 use Rattle.oe_requests.specs.declared.replies.LineReply.{LineReply}
 use Rattle.oe_requests.specs.declared.replies.DistrictDelivery.{DistrictDelivery}
@@ -15,8 +16,10 @@ pub data PaymentPosition : Type 0 where
   PaymentWarehouse : PaymentPosition
   -- W_NAME
   PaymentDistrict : List ℕ → PaymentPosition
-  -- W_NAME, D_NAME
-  PaymentCustomer : List ℕ → List ℕ → PaymentPosition
+  -- W_NAME, D_NAME; of a payment by name alone
+  PaymentNames : List ℕ → List ℕ → PaymentPosition
+  -- W_NAME, D_NAME, C_ID
+  PaymentCustomer : List ℕ → List ℕ → ℕ → PaymentPosition
   -- H_DATA, the reply
   PaymentHistory : List ℕ → PaymentReply → PaymentPosition
   PaymentEnd : PaymentReply → PaymentPosition
@@ -59,6 +62,13 @@ pub data DeliveryPosition : Type 0 where
   -- O_ID, O_C_ID, the sum of the OL_AMOUNTs
   DeliveryEnd : ℕ → ℕ → ℕ → DeliveryPosition
 
+pub data RenamePosition : Type 0 where
+  RenameCustomer : RenamePosition
+  -- C_LAST before
+  RenameOld : List ℕ → RenamePosition
+  RenameNew : List ℕ → RenamePosition
+  RenameEnd : List ℕ → RenamePosition
+
 pub data Position : Type 0 where
   InPayment : PaymentRequest → PaymentPosition → Position
   InNewOrder : NewOrderRequest → NewOrderPosition → Position
@@ -67,5 +77,4 @@ pub data Position : Type 0 where
   InDeliveries : DeliveriesRequest → List DistrictDelivery → DeliveryPosition → Position
   -- each of the ten districts is done
   DeliveriesEnd : List DistrictDelivery → Position
-  -- of a request that has no program yet
-  NoProgram : Position
+  InRename : RenameRequest → RenamePosition → Position

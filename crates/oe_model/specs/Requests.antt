@@ -2,7 +2,7 @@
 use Rattle.std.specs.Prelude.{ℕ, ◌<◌, cond, is_some, nat_le, List, [], ◌∷◌, map, length, Option, None, Some}
 use Rattle.std.specs.List.{All}
 use Rattle.std.specs.Int.{IsInRange}
-use Rattle.oe_values.specs.Text.{IsLastName}
+use Rattle.oe_values.specs.Text.{IsLastName, IsFirstName}
 use Rattle.oe_values.specs.declared.stamps.TheConstants.{SECONDS}
 use Rattle.oe_rows.specs.declared.keys.WarehouseKey.{WarehouseKey}
 use Rattle.oe_rows.specs.declared.keys.DistrictKey.{DistrictKey}
@@ -14,6 +14,7 @@ use Rattle.oe_requests.specs.declared.requests.RequestLine.{RequestLine}
 use Rattle.oe_requests.specs.declared.requests.NewOrderRequest.{NewOrderRequest}
 use Rattle.oe_requests.specs.declared.requests.DeliveryRequest.{DeliveryRequest}
 use Rattle.oe_requests.specs.declared.requests.DeliveriesRequest.{DeliveriesRequest}
+use Rattle.oe_requests.specs.declared.requests.RenameRequest.{RenameRequest}
 use Rattle.oe_requests.specs.declared.requests.Request.{Request}
 use Rattle.oe_requests.specs.declared.requests.Request.TheVariants as request
 use Rattle.oe_requests.specs.declared.requests.Query.{Query}
@@ -22,6 +23,7 @@ use Rattle.oe_requests.specs.declared.refusals.Column.{Column}
 use Rattle.oe_requests.specs.declared.refusals.Column.TheVariants as column
 use Rattle.oe_requests.specs.declared.refusals.Refusal.{Refusal}
 use Rattle.oe_requests.specs.declared.refusals.Refusal.TheVariants.{NoSuchRow, Overflow, InvalidItem, NoCustomer}
+use Rattle.oe_model.specs.Keys.{district_of_customer}
 use Rattle.oe_model.specs.Rows.{Rows, row_at}
 
 abbrev pub IsDistrict : DistrictKey → Type 0
@@ -68,13 +70,18 @@ pub record IsDeliveries (q : DeliveriesRequest) : Type 0 where
   pub carrier : IsInRange 1 10 q.carrier
   pub stamp : IsStamp q.stamp
 
--- the renames have no program yet, so no run has one
+pub record IsRename (q : RenameRequest) : Type 0 where
+  pub district : IsDistrict (district_of_customer q.customer)
+  pub customer : IsInRange 1 3000 q.customer.customer
+  pub last : IsLastName q.last
+  pub first : IsFirstName q.first
+
 abbrev pub IsRequest : Request → Type 0
 IsRequest (request.Payment q) = IsPayment q
 IsRequest (request.NewOrder q) = IsNewOrder q
 IsRequest (request.Delivery q) = IsDelivery q
 IsRequest (request.Deliveries q) = IsDeliveries q
-IsRequest (request.Rename q) = ⊥
+IsRequest (request.Rename q) = IsRename q
 
 -- the warehouses that a request names, from the left
 abbrev pub warehouses_of : Request → List ℕ
@@ -141,9 +148,13 @@ abbrev pub DeliveryMayRefuse : Refusal → Type 0
 DeliveryMayRefuse (Overflow c) = OfDelivery c
 DeliveryMayRefuse _ = ⊥
 
+abbrev pub RenameMayRefuse : Refusal → Type 0
+RenameMayRefuse NoCustomer = Unit {0}
+RenameMayRefuse _ = ⊥
+
 abbrev pub MayRefuse : Request → Refusal → Type 0
 MayRefuse (request.Payment q) e = PaymentMayRefuse e
 MayRefuse (request.NewOrder q) e = NewOrderMayRefuse e
 MayRefuse (request.Delivery q) e = DeliveryMayRefuse e
 MayRefuse (request.Deliveries q) e = DeliveryMayRefuse e
-MayRefuse (request.Rename q) e = ⊥
+MayRefuse (request.Rename q) e = RenameMayRefuse e

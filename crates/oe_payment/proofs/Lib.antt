@@ -1,3 +1,2 @@
-pub mod ChoiceFacts
 pub mod StepFacts
 pub mod StageFacts

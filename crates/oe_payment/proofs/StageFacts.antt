@@ -2,7 +2,7 @@
 use Rattle.std.proofs.Common.{◌≡◌, ℕ, refl, sym, ap, ◌∙◌, suc, List, Option, None, Some, Result, Ok, Err}
 use Rattle.std.specs.Prelude.{option_map}
 use Rattle.std.specs.FinMap.{get}
-use Rattle.oe_theory.specs.Machine.{Ask, Stop, Take, Fail, Go, Exclusive}
+use Rattle.oe_theory.specs.Machine.{Ask, Stop, Take, Fail, Go, Shared, Exclusive}
 use Rattle.oe_rows.specs.declared.keys.Key.TheVariants as key
 use Rattle.oe_rows.specs.declared.locks.Name.{Name}
 use Rattle.oe_rows.specs.declared.locks.Name.TheVariants as name
@@ -13,6 +13,8 @@ use Rattle.oe_rows.specs.declared.customers.Account.{Account}
 use Rattle.oe_rows.specs.declared.customers.Credit.TheVariants.{Good, Bad}
 use Rattle.oe_rows.specs.declared.customers.Customer.{Customer}
 use Rattle.oe_rows.specs.declared.histories.History.{History}
+use Rattle.oe_requests.specs.declared.requests.CustomerChoice.{CustomerChoice}
+use Rattle.oe_requests.specs.declared.requests.CustomerChoice.TheVariants.{Number, LastName}
 use Rattle.oe_requests.specs.declared.requests.PaymentRequest.{PaymentRequest}
 use Rattle.oe_requests.specs.declared.requests.Request.TheVariants as request
 use Rattle.oe_requests.specs.declared.replies.PaymentReply.{PaymentReply}
@@ -21,19 +23,18 @@ use Rattle.oe_requests.specs.declared.refusals.Refusal.{Refusal}
 use Rattle.oe_requests.specs.declared.refusals.Refusal.TheVariants.{NoSuchRow, NoCustomer, Overflow}
 use Rattle.oe_model.specs.Keys.{warehouse_of_district, customer_in}
 use Rattle.oe_model.specs.Changes.{InsertHistory, UpdateWarehouse, UpdateDistrict, UpdateCustomer}
-use Rattle.oe_model.specs.Choice.{chosen}
+use Rattle.oe_model.specs.Choice.{chosen, middle, namesakes}
 use Rattle.oe_model.specs.Effects.{Doing, given, within}
-use Rattle.oe_model.specs.Positions.{PaymentWarehouse, PaymentDistrict, PaymentCustomer, PaymentHistory, PaymentEnd}
-use Rattle.oe_model.specs.Positions.{InPayment}
+use Rattle.oe_model.specs.Positions.{PaymentWarehouse, PaymentDistrict, PaymentNames, PaymentCustomer, PaymentHistory}
+use Rattle.oe_model.specs.Positions.{PaymentEnd, InPayment}
 use Rattle.oe_model.specs.Payment.{paid_warehouse, paid_warehouse_out, paid_district, paid_district_out, paid_customer}
-use Rattle.oe_model.specs.Payment.{paid_customer_out, history_data, history_row, history_key, paid_reply}
+use Rattle.oe_model.specs.Payment.{paid_customer_out, history_data, history_row, history_key, paid_reply, names_lock}
+use Rattle.oe_model.specs.Payment.{behind_district}
 use Rattle.oe_change.specs.declared.writes.Write.TheVariants as write
 use Rattle.oe_formulas.specs.Checks.{checked, paid_with}
 use Rattle.oe_engine.specs.View.{EngineState, view_of, Handle}
 use Rattle.oe_engine.specs.Programs.{ask_here, act_here}
 use Rattle.oe_payment.specs.Stages.{IsStage}
-use Rattle.oe_payment.specs.Choice.{meant}
-use Rattle.oe_payment.proofs.ChoiceFacts.{IsChosen, nobody, absent}
 
 -- a row whose columns are in their ranges goes on with the stage after it, and another fails
 module _ {A : Type 0} (out : A → Option Column) (x : A) (d : A → Doing) where
@@ -91,7 +92,8 @@ module _ (q : PaymentRequest) (x : Handle) (s : EngineState) where
   -- DISTRICT
   module _ (name_of : List ℕ) where
     abbrev on_district : District → District → Doing
-    on_district d after = Go (Some (UpdateDistrict q.district after)) (InPayment q (PaymentCustomer name_of d.name))
+    on_district d after = Go (Some (UpdateDistrict q.district after))
+        (InPayment q (behind_district q.customer name_of d.name))
 
     abbrev do_district : District → Doing
     do_district d = within (paid_district_out (paid_district q d)) (on_district d (paid_district q d))
@@ -111,7 +113,7 @@ module _ (q : PaymentRequest) (x : Handle) (s : EngineState) where
     pub district_stage : (d : District) (y : ℕ) → get (view_of s).rows.districts q.district ≡ Some d
         → Ok (record d { ytd = y }) ≡ checked paid_district_out (paid_district q d)
         → IsStage q x s (PaymentDistrict name_of) (write.DistrictYtd q.district y)
-        (UpdateDistrict q.district (record d { ytd = y })) (PaymentCustomer name_of d.name)
+        (UpdateDistrict q.district (record d { ytd = y })) (behind_district q.customer name_of d.name)
     district_stage d y e within_range = record {
       asks = refl;
       does = ap (λ o. given (NoSuchRow (key.District q.district)) o do_district) e
@@ -119,68 +121,74 @@ module _ (q : PaymentRequest) (x : Handle) (s : EngineState) where
       written = ap (option_map (λ z. UpdateDistrict q.district (record z { ytd = y }))) e;
     }
 
+  -- who has a last name
+  module _ (w d : List ℕ) (last : List ℕ) (by_name : q.customer ≡ LastName last) where
+    abbrev go_named : ℕ → Doing
+    go_named c = Go None (InPayment q (PaymentCustomer w d c))
+
+    pub names_asks : ask_here s x (request.Payment q) (InPayment q (PaymentNames w d)) ≡ Take
+        (name.Names q.customer_district last) Shared
+    names_asks = ap (names_lock q.customer_district) by_name
+
+    pub names_find : (o : Option ℕ) → middle (namesakes q.customer_district last (view_of s).rows.customers) ≡ o
+        → act_here s x (request.Payment q) (InPayment q (PaymentNames w d)) ≡ given NoCustomer o go_named
+    names_find o e =
+        ap (λ (who : CustomerChoice). given NoCustomer (chosen q.customer_district who (view_of s).rows.customers)
+        go_named) by_name ∙ ap (λ z. given NoCustomer z go_named) e
+
+  -- a payment by number has no such stage
+  pub number_stops : (w d : List ℕ) (c : ℕ) → q.customer ≡ Number c
+      → ask_here s x (request.Payment q) (InPayment q (PaymentNames w d)) ≡ Stop NoCustomer
+  number_stops w d c e = ap (names_lock q.customer_district) e
+
   -- CUSTOMER
-  module _ (w d : List ℕ) where
-    abbrev lock_of : Option ℕ → Ask Name Refusal
+  module _ (w d : List ℕ) (n : ℕ) where
+    abbrev on_customer : Customer → Doing
+    on_customer after = Go (Some (UpdateCustomer (customer_in q.customer_district n) after))
+        (InPayment q (PaymentHistory (history_data w d) (paid_reply n after)))
+
+    abbrev do_customer : Customer → Doing
+    do_customer z = within (paid_customer_out (paid_customer n q z)) (on_customer (paid_customer n q z))
+
+    abbrev lock_of : Option Customer → Ask Name Refusal
     lock_of o = elim o [
       | None ↦ Stop NoCustomer
-      | Some c ↦ Take (name.Customer (customer_in q.customer_district c))
-          Exclusive
+      | Some z ↦ Take (name.Customer (customer_in q.customer_district n)) Exclusive
     ]
 
-    abbrev on_customer : ℕ → Customer → Doing
-    on_customer c after = Go (Some (UpdateCustomer (customer_in q.customer_district c) after))
-        (InPayment q (PaymentHistory (history_data w d) (paid_reply c after)))
+    pub absent_stops : get (view_of s).rows.customers (customer_in q.customer_district n) ≡ None
+        → ask_here s x (request.Payment q) (InPayment q (PaymentCustomer w d n)) ≡ Stop NoCustomer
+    absent_stops e = ap lock_of e
 
-    abbrev do_customer : ℕ → Customer → Doing
-    do_customer c z = within (paid_customer_out (paid_customer c q z)) (on_customer c (paid_customer c q z))
-
-    abbrev do_chosen : ℕ → Doing
-    do_chosen c = given NoCustomer (get (view_of s).rows.customers (customer_in q.customer_district c)) (do_customer c)
-
-    customer_stops : chosen q.customer_district q.customer (view_of s).rows.customers ≡ None
-        → ask_here s x (request.Payment q) (InPayment q (PaymentCustomer w d)) ≡ Stop NoCustomer
-    customer_stops e = ap lock_of e
-
-    pub nobody_stops : meant q.customer_district q.customer (view_of s).rows.customers ≡ None
-        → ask_here s x (request.Payment q) (InPayment q (PaymentCustomer w d)) ≡ Stop NoCustomer
-    nobody_stops e = customer_stops (nobody q (view_of s).rows.customers e)
-
-    pub absent_stops : (n : ℕ) → meant q.customer_district q.customer (view_of s).rows.customers ≡ Some n
-        → get (view_of s).rows.customers (customer_in q.customer_district n) ≡ None
-        → ask_here s x (request.Payment q) (InPayment q (PaymentCustomer w d)) ≡ Stop NoCustomer
-    absent_stops n e row = customer_stops (absent q (view_of s).rows.customers n e row)
-
-    module _ (n : ℕ) (z : Customer) (h : IsChosen q (view_of s).rows.customers n z) where
-      pub customer_asks : ask_here s x (request.Payment q) (InPayment q (PaymentCustomer w d)) ≡ Take
+    module _ (z : Customer) (row : get (view_of s).rows.customers (customer_in q.customer_district n) ≡ Some z) where
+      pub customer_asks : ask_here s x (request.Payment q) (InPayment q (PaymentCustomer w d n)) ≡ Take
           (name.Customer (customer_in q.customer_district n)) Exclusive
-      customer_asks = ap lock_of h.number
+      customer_asks = ap lock_of row
 
-      does_customer : act_here s x (request.Payment q) (InPayment q (PaymentCustomer w d)) ≡ do_customer n z
-      does_customer = ap (λ o. given NoCustomer o do_chosen) h.number
-          ∙ ap (λ o. given NoCustomer o (do_customer n)) h.row
+      does_customer : act_here s x (request.Payment q) (InPayment q (PaymentCustomer w d n)) ≡ do_customer z
+      does_customer = ap (λ o. given NoCustomer o do_customer) row
 
       pub customer_fails : (c : Column) → Err c ≡ checked paid_customer_out (paid_customer n q z)
-          → act_here s x (request.Payment q) (InPayment q (PaymentCustomer w d)) ≡ Fail (Overflow c)
-      customer_fails c out = does_customer ∙ fails_within paid_customer_out (paid_customer n q z) (on_customer n) c out
+          → act_here s x (request.Payment q) (InPayment q (PaymentCustomer w d n)) ≡ Fail (Overflow c)
+      customer_fails c out = does_customer ∙ fails_within paid_customer_out (paid_customer n q z) on_customer c out
 
       module _ (a : Account)
           (within_range : Ok (paid_with n q z a) ≡ checked paid_customer_out (paid_customer n q z)) where
-        goes_customer : act_here s x (request.Payment q) (InPayment q (PaymentCustomer w d)) ≡ on_customer n
+        goes_customer : act_here s x (request.Payment q) (InPayment q (PaymentCustomer w d n)) ≡ on_customer
             (paid_with n q z a)
-        goes_customer = does_customer ∙ goes_within paid_customer_out (paid_customer n q z) (on_customer n)
+        goes_customer = does_customer ∙ goes_within paid_customer_out (paid_customer n q z) on_customer
             (paid_with n q z a) within_range
 
         -- of good credit, whose data stay
         pub good_stage : z.credit ≡ Good
-            → IsStage q x s (PaymentCustomer w d) (write.CustomerAccount (customer_in q.customer_district n) a)
+            → IsStage q x s (PaymentCustomer w d n) (write.CustomerAccount (customer_in q.customer_district n) a)
             (UpdateCustomer (customer_in q.customer_district n) (paid_with n q z a))
             (PaymentHistory (history_data w d) (paid_reply n (paid_with n q z a)))
         good_stage good = record {
           asks = customer_asks;
           does = goes_customer;
           written = ap (option_map (λ y. UpdateCustomer (customer_in q.customer_district n) (record y { account = a })))
-              h.row ∙ ap (λ y. Some (UpdateCustomer (customer_in q.customer_district n) y)) (good_data good);
+              row ∙ ap (λ y. Some (UpdateCustomer (customer_in q.customer_district n) y)) (good_data good);
         }
           where
             good_data : z.credit ≡ Good → record z { account = a } ≡ paid_with n q z a
@@ -190,14 +198,14 @@ module _ (q : PaymentRequest) (x : Handle) (s : EngineState) where
         pub bad_stage : (entry : List ℕ) → z.credit ≡ Bad
             → entry ≡ credit_entry (record { customer = customer_in q.customer_district n; district = q.district })
             q.amount
-            → IsStage q x s (PaymentCustomer w d) (write.BadCredit (customer_in q.customer_district n) a entry)
+            → IsStage q x s (PaymentCustomer w d n) (write.BadCredit (customer_in q.customer_district n) a entry)
             (UpdateCustomer (customer_in q.customer_district n) (paid_with n q z a))
             (PaymentHistory (history_data w d) (paid_reply n (paid_with n q z a)))
         bad_stage entry bad is = record {
           asks = customer_asks;
           does = goes_customer;
           written = ap (option_map (λ y. UpdateCustomer (customer_in q.customer_district n) (with_entry a entry y)))
-              h.row ∙ ap (λ y. Some (UpdateCustomer (customer_in q.customer_district n) y)) (bad_data bad is);
+              row ∙ ap (λ y. Some (UpdateCustomer (customer_in q.customer_district n) y)) (bad_data bad is);
         }
           where
             bad_data : z.credit ≡ Bad

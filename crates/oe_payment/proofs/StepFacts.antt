@@ -1,15 +1,18 @@
 -- A stage that was done, or refused, by the engine is a step of the program.
-use Rattle.std.proofs.Common.{◌≡◌, Some, refl, sym, ap, subst, ◌∙◌}
+use Rattle.std.proofs.Common.{◌≡◌, ℕ, List, Some, refl, sym, ap, subst, ◌∙◌}
 use Rattle.std.specs.Prelude.{IsSome}
 use Rattle.oe_requests.specs.declared.replies.Reply.{Reply}
 use Rattle.oe_requests.specs.declared.replies.Reply.TheVariants as reply
 use Rattle.oe_requests.specs.declared.refusals.Refusal.{Refusal}
 use Rattle.oe_model.specs.Changes.{Change}
+use Rattle.oe_requests.specs.declared.requests.CustomerChoice.{CustomerChoice}
+use Rattle.oe_requests.specs.declared.requests.CustomerChoice.TheVariants.{Number, LastName}
 use Rattle.oe_requests.specs.declared.requests.PaymentRequest.{PaymentRequest}
 use Rattle.oe_requests.specs.declared.requests.Request.TheVariants as request
 use Rattle.oe_model.specs.Meets.{Accepts}
-use Rattle.oe_model.specs.Positions.{PaymentPosition, PaymentWarehouse, PaymentDistrict, PaymentCustomer}
-use Rattle.oe_model.specs.Positions.{PaymentHistory, PaymentEnd, InPayment}
+use Rattle.oe_model.specs.Payment.{behind_district}
+use Rattle.oe_model.specs.Positions.{PaymentPosition, PaymentWarehouse, PaymentDistrict, PaymentNames}
+use Rattle.oe_model.specs.Positions.{PaymentCustomer, PaymentHistory, PaymentEnd, InPayment}
 use Rattle.oe_change.specs.declared.writes.Write.{Write}
 use Rattle.oe_engine.specs.View.{EngineState, view_of, Handle, IsOpen}
 use Rattle.oe_engine.specs.Calls.{IsFree, IsFullFor, stage_done, StageRefused}
@@ -21,7 +24,7 @@ use Rattle.oe_engine.specs.declared.programs.Progress.TheVariants as progress
 use Rattle.oe_payment.specs.declared.positions.Position.{Position}
 use Rattle.oe_payment.specs.declared.positions.Stage.{Stage}
 use Rattle.oe_payment.specs.declared.positions.Stage.TheVariants as stage
-use Rattle.oe_payment.specs.Program.{position_at, position_in}
+use Rattle.oe_payment.specs.Program.{position_at, position_in, stage_behind, number_given}
 use Rattle.oe_payment.specs.Stages.{IsStage, Does, stage_after}
 
 -- a payment at its end is ready
@@ -31,7 +34,8 @@ pub is_ready : (s : EngineState) (x : Handle) (q : PaymentRequest) (p : PaymentP
 is_ready s x q (PaymentEnd y) o h = (reply.Payment y, record { is_open = o; free = tt; does = refl })
 is_ready s x q PaymentWarehouse o h = let no : ⊥ = cc in absurd no
 is_ready s x q (PaymentDistrict w) o h = let no : ⊥ = cc in absurd no
-is_ready s x q (PaymentCustomer w d) o h = let no : ⊥ = cc in absurd no
+is_ready s x q (PaymentNames w d) o h = let no : ⊥ = cc in absurd no
+is_ready s x q (PaymentCustomer w d c) o h = let no : ⊥ = cc in absurd no
 is_ready s x q (PaymentHistory d y) o h = let no : ⊥ = cc in absurd no
 
 -- a stage that was done, and one that was refused
@@ -70,6 +74,16 @@ carried q x s s' p p' old next at (progress.Refused why) e f g h = (
   h.2,
   ap (InPayment q) (f ∙ sym e),
 )
+
+-- behind its district it stands at the stage that its request chooses, with the number that this gives
+pub stands_behind : (who : CustomerChoice) (p : Position) (d : List ℕ)
+    → position_at (stage_behind who) (record p {
+      stage = stage_behind who;
+      district = d;
+      reply = record p.reply { customer = number_given who p.reply.customer };
+    }) ≡ behind_district who p.warehouse d
+stands_behind (Number c) p d = refl
+stands_behind (LastName last) p d = refl
 
 pub ready_at_end : (q : PaymentRequest) (x : Handle) (s : EngineState) (p : Position) → IsOpen s x → p.stage ≡ stage.End
     → Progresses (request.Payment q) x s (InPayment q (position_in p)) progress.Ready s (InPayment q (position_in p))

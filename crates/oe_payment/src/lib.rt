@@ -2,7 +2,6 @@
 //! 5.11's.
 #![tactic(auto)]
 
-pub mod choices;
 pub mod positions;
 pub mod programs;
 pub mod stages;

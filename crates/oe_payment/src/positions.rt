@@ -13,6 +13,8 @@ use oe_values::{Balance, CustomerNumber, Text};
 pub enum Stage {
     Warehouse,
     District,
+    /// Of a payment by last name alone.
+    Names,
     Customer,
     History,
     End,
@@ -27,7 +29,7 @@ pub struct Position {
     pub warehouse: Text<0, 10>,
     /// D_NAME, once its stage is done.
     pub district: Text<0, 10>,
-    /// What is answered, once the customer's stage is done.
+    /// What is answered, once the customer's stage is done; the customer's number before that.
     pub reply: PaymentReply,
 }
 

@@ -5,17 +5,17 @@ ghost use Rattle.std.specs.Option.{option_copied};
 ghost use Rattle.oe_requests.specs.declared.requests.Request.{Request};
 ghost use Rattle.oe_requests.specs.declared.replies.Reply.{Reply};
 ghost use Rattle.oe_model.specs.Positions.{InPayment, PaymentCustomer, PaymentWarehouse};
-ghost use Rattle.oe_model.specs.Payment.{payment_ask};
+ghost use Rattle.oe_model.specs.Payment.{names_lock, payment_ask};
 ghost use Rattle.oe_store.specs.Places.{rows};
 ghost use Rattle.oe_engine.specs.Programs.{Progresses, hold_of, payment_reply, wanted};
 
-use crate::choices::chosen_customer;
 use crate::positions::{Position, Stage};
 use crate::stages::carry_out;
 use oe_engine::{Engine, Lock, Progress, Tx};
-use oe_requests::{PaymentReply, PaymentRequest, Refusal};
+use oe_requests::{CustomerChoice, PaymentReply, PaymentRequest, Refusal};
 use oe_rows::Name;
 use oe_store::Tables;
+use oe_values::{CustomerNumber, ShortText};
 use std::marker::Model;
 
 /// Where a payment stands: the stage that it comes to next, with what the stages before have read.
@@ -34,14 +34,28 @@ impl Model for Program {
     ghost view = { λ p. position_in p.position };
 }
 
-/// Gives the lock of the customer who pays; none where there is none.
-fn customer_lock(request: &PaymentRequest, tables: &Tables) -> Option<Lock>
-    ensures { (w d : List ℕ) → option_map hold_of result
-        ≡ wanted (payment_ask request.now (PaymentCustomer w d) (rows tables.now)) }
+/// Gives the lock of who has the last name that a request gives; none where it gives a number.
+fn names_lock(request: &PaymentRequest) -> Option<Lock>
+    ensures { option_map hold_of result
+        ≡ wanted (names_lock request.now.customer_district request.now.customer) }
 {
-    let district = &request.customer_district;
-    match chosen_customer(district, &request.customer, tables) {
-        Some(number) => Some(Lock::exclusive(Name::Customer(district.customer(number)))),
+    match &request.customer {
+        CustomerChoice::Number(_) => None,
+        CustomerChoice::LastName(last) => Some(Lock::shared(Name::Names(
+            request.customer_district,
+            ShortText::of(&last.as_text()),
+        ))),
+    }
+}
+
+/// Gives the lock of the customer who pays; none where there is none.
+fn customer_lock(request: &PaymentRequest, number: CustomerNumber, tables: &Tables) -> Option<Lock>
+    ensures { (w d : List ℕ) → option_map hold_of result
+        ≡ wanted (payment_ask request.now (PaymentCustomer w d number) (rows tables.now)) }
+{
+    let key = &request.customer_district.customer(number);
+    match tables.customer(*key) {
+        Some(_) => Some(Lock::exclusive(Name::Customer(*key))),
         None => None,
     }
 }
@@ -94,14 +108,16 @@ impl Program {
         match self.position.stage {
             Stage::Warehouse => Some(Lock::exclusive(Name::Warehouse(district.warehouse_key()))),
             Stage::District => Some(Lock::exclusive(Name::District(*district))),
-            Stage::Customer => customer_lock(request, tables),
+            Stage::Names => names_lock(request),
+            Stage::Customer => customer_lock(request, self.position.reply.customer, tables),
             Stage::History | Stage::End => None,
         }
     }
 
     /// Carries out one stage of the payment: its lock and its one change. The order of refusals is
     /// `NoCustomer`, `Busy`, `Overflow`, `UndoFull` where the change's record has no room, and
-    /// `NoMemory` where memory was refused for a new name or the inserted row. A refused stage
+    /// `NoMemory` where memory was refused for a new name or the inserted row; where the customer
+    /// is looked up by name, `NoCustomer` comes behind `Busy`. A refused stage
     /// leaves the program, the tables and the locks as they were. Each stage of a payment takes the
     /// same request.
     #[inline(always)]

@@ -5,27 +5,27 @@ ghost use Rattle.oe_theory.specs.Machine.{Take, Fail, Exclusive};
 ghost use Rattle.oe_requests.specs.declared.requests.Request.{Request};
 ghost use Rattle.oe_model.specs.Changes.{Change};
 ghost use Rattle.oe_model.specs.Locks.{governs};
-ghost use Rattle.oe_model.specs.Payment.{history_data, paid_reply};
-ghost use Rattle.oe_model.specs.Positions.{PaymentPosition, PaymentWarehouse, PaymentDistrict, PaymentCustomer, PaymentHistory, PaymentEnd, InPayment};
+ghost use Rattle.oe_model.specs.Payment.{behind_district, history_data, paid_reply};
+ghost use Rattle.oe_model.specs.Positions.{PaymentPosition, PaymentWarehouse, PaymentDistrict, PaymentNames, PaymentCustomer, PaymentHistory, PaymentEnd, InPayment};
 ghost use Rattle.oe_change.specs.Writes.{key_written};
 ghost use Rattle.oe_engine.specs.View.{view_of, IsOpen};
 ghost use Rattle.oe_engine.specs.Covered.{IsOwn};
-ghost use Rattle.oe_engine.specs.Writes.{WriteHoldsOrder};
+ghost use Rattle.oe_engine.specs.Writes.{HoldsBeside};
 ghost use Rattle.oe_engine.specs.Programs.{ask_here, act_here, Progresses};
-ghost use Rattle.oe_payment.specs.Program.{position_in};
+ghost use Rattle.oe_payment.specs.Program.{position_in, stage_behind, number_given};
 ghost use Rattle.oe_payment.specs.Stages.{is_failure, IsRefusedHere, Does, stage_after, IsStage};
 
-use crate::choices::selected_customer;
 use crate::positions::{Position, Stage};
 use oe_change::Write;
+use oe_engine::stages::{failed, hold};
 use oe_engine::{Engine, Lock, Progress, Tx};
 use oe_formulas::payments::{
     account_after, bad_credit_entry, district_ytd_after, history_data, history_key, history_row,
     warehouse_ytd_after,
 };
-use oe_requests::{PaymentReply, PaymentRequest, Refusal};
+use oe_requests::{CustomerChoice, PaymentReply, PaymentRequest, Refusal};
 use oe_rows::{Account, Credit, Customer, Key, Mode, Name};
-use oe_values::{CustomerNumber, Text};
+use oe_values::{CustomerNumber, ShortText, Text};
 
 // Why a stage fails: for its own reason, or since another holds the name that it asks for.
 #[inline(never)]
@@ -53,7 +53,7 @@ fn go(engine: &mut Engine, tx: &Tx, write: &Write, stage: &mut Stage, next: Stag
     requires open { IsOpen engine.old tx.now }
     requires own { IsOwn tx.now.terminal (suc ((view_of engine.old).counts tx.now.terminal))
         (governs (key_written write.now)) }
-    requires order { WriteHoldsOrder ((view_of engine.old).held tx.now.terminal) write.now }
+    requires beside { HoldsBeside ((view_of engine.old).held tx.now.terminal) write.now }
     ensures does { (q : PaymentRequest) (p p' : PaymentPosition) (c : Change)
         → IsStage q tx.now engine.old p write.now c p'
         → Does q tx.now engine.old p result engine.new p' }
@@ -99,6 +99,28 @@ fn pay_warehouse(
     go(engine, tx, &write, stage, Stage::District)
 }
 
+// The stage behind the district's: a payment by number goes on with its customer.
+#[inline(always)]
+fn stage_behind(choice: &CustomerChoice) -> Stage
+    ensures { result ≡ stage_behind choice.now }
+{
+    match choice {
+        CustomerChoice::Number(_) => Stage::Customer,
+        CustomerChoice::LastName(_) => Stage::Names,
+    }
+}
+
+// The C_ID that is given; where a last name is, the one before.
+#[inline(always)]
+fn number_given(choice: &CustomerChoice, before: CustomerNumber) -> CustomerNumber
+    ensures { result ≡ number_given choice.now before }
+{
+    match choice {
+        CustomerChoice::Number(number) => *number,
+        CustomerChoice::LastName(_) => before,
+    }
+}
+
 // D_YTD rises by the amount, and D_NAME is kept.
 #[inline(always)]
 fn pay_district(
@@ -111,8 +133,9 @@ fn pay_district(
     requires { IsOpen engine.old tx.now }
     ensures does { (w : List ℕ)
         → Does request.now tx.now engine.old (PaymentDistrict w)
-        result engine.new (PaymentCustomer w district.new) }
-    ensures stage { stage.new ≡ stage_after Stage.Customer result stage.old }
+        result engine.new (behind_district request.now.customer w district.new) }
+    ensures stage { stage.new
+        ≡ stage_after (stage_behind request.now.customer) result stage.old }
 {
     let key = &request.district;
     let Some(row) = engine.tables().district(*key) else {
@@ -128,7 +151,42 @@ fn pay_district(
     };
     *district = row.name.copied();
     let write = Write::DistrictYtd(*key, ytd);
-    go(engine, tx, &write, stage, Stage::Customer)
+    go(engine, tx, &write, stage, stage_behind(&request.customer))
+}
+
+// Who has the last name is held beside others from here on, and the customer in the middle is
+// found, so that `Busy` comes before `NoCustomer`.
+#[inline(always)]
+fn find_customer(
+    request: &PaymentRequest,
+    stage: &mut Stage,
+    number: &mut CustomerNumber,
+    engine: &mut Engine,
+    tx: &Tx,
+) -> Progress
+    requires { IsOpen engine.old tx.now }
+    ensures does { (warehouse district : List ℕ)
+        → Does request.now tx.now engine.old (PaymentNames warehouse district)
+        result engine.new (PaymentCustomer warehouse district number.new) }
+    ensures stage { stage.new ≡ stage_after Stage.Customer result stage.old }
+{
+    let last = match &request.customer {
+        CustomerChoice::Number(_) => return Progress::Refused(Refusal::NoCustomer),
+        CustomerChoice::LastName(last) => last.as_text(),
+    };
+    let district = &request.customer_district;
+    let lock = Lock::shared(Name::Names(*district, ShortText::of(&last)));
+    let Some(found) = engine.tables().middle(district, &last) else {
+        return Progress::Refused(failed(engine, tx, lock, Refusal::NoCustomer));
+    };
+    match hold(engine, tx, lock) {
+        Ok(()) => {
+            *number = found;
+            *stage = Stage::Customer;
+            Progress::More
+        }
+        Err(why) => Progress::Refused(why),
+    }
 }
 
 // What is answered of the customer with that number before the payment, and the account after it.
@@ -143,8 +201,8 @@ fn keep_reply(reply: &mut PaymentReply, number: CustomerNumber, row: &Customer, 
 }
 
 // C_BALANCE falls and C_YTD_PAYMENT rises by the amount, C_PAYMENT_CNT rises by 1, and a bad
-// credit's C_DATA begins with the payment. The customer is chosen before its name is taken, so that
-// `NoCustomer` comes before `Busy`.
+// credit's C_DATA begins with the payment. The customer is looked up before its name is taken, so
+// that `NoCustomer` comes before `Busy`.
 #[inline(always)]
 fn pay_customer(
     request: &PaymentRequest,
@@ -155,17 +213,15 @@ fn pay_customer(
 ) -> Progress
     requires { IsOpen engine.old tx.now }
     ensures does { (warehouse district : List ℕ)
-        → Does request.now tx.now engine.old (PaymentCustomer warehouse district)
+        → Does request.now tx.now engine.old
+        (PaymentCustomer warehouse district reply.old.customer)
         result engine.new (PaymentHistory (history_data warehouse district) reply.new) }
     ensures stage { stage.new ≡ stage_after Stage.History result stage.old }
+    ensures customer { reply.new.customer ≡ reply.old.customer }
 {
-    let stored = engine.tables();
-    let district_key = &request.customer_district;
-    let Some(number) = selected_customer(district_key, &request.customer, stored) else {
-        return Progress::Refused(Refusal::NoCustomer);
-    };
-    let key = &district_key.customer(number);
-    let Some(row) = stored.customer(*key) else {
+    let number = reply.customer;
+    let key = &request.customer_district.customer(number);
+    let Some(row) = engine.tables().customer(*key) else {
         return Progress::Refused(Refusal::NoCustomer);
     };
     let account = match account_after(row, request) {
@@ -227,8 +283,14 @@ pub fn carry_out(
             pay_warehouse(request, &mut position.stage, name, engine, tx)
         }
         Stage::District => {
+            let customer = number_given(&request.customer, position.reply.customer);
+            position.reply.customer = customer;
             let name = &mut position.district;
             pay_district(request, &mut position.stage, name, engine, tx)
+        }
+        Stage::Names => {
+            let number = &mut position.reply.customer;
+            find_customer(request, &mut position.stage, number, engine, tx)
         }
         Stage::Customer => {
             let reply = &mut position.reply;

@@ -16,6 +16,7 @@ use Rattle.oe_rows.specs.declared.keys.Table.TheVariants as table
 use Rattle.oe_rows.specs.Key.{table_name}
 use Rattle.oe_rows.specs.Credit.{money_text}
 use Rattle.oe_values.specs.Stamp.{two_digits}
+use Rattle.oe_values.specs.Text.{IsLastName, IsFirstName}
 use Rattle.oe_values.specs.Front as front
 use Rattle.oe_values.proofs.FrontFacts.{decimal_only, pair_only}
 use Rattle.oe_requests.specs.declared.requests.CustomerChoice.{CustomerChoice}
@@ -35,7 +36,7 @@ use Rattle.oe_lines.specs.declared.commands.MomentChoice.TheVariants as moment
 use Rattle.oe_lines.specs.Rings.{layout_word, layout_words}
 use Rattle.oe_lines.specs.Grammar.{IsMoment, customer_word, line_word}
 use Rattle.oe_lines.specs.Grammar.{moment_word}
-use Rattle.oe_lines.proofs.NameFacts.{last_name_only}
+use Rattle.oe_lines.proofs.NameFacts.{last_name_only, first_name_only}
 use Rattle.oe_lines.proofs.StampFacts.{stamp_only}
 use Rattle.oe_lines.specs.Words.{last_name_of}
 use Rattle.oe_reasons.specs.declared.forms.Column.{Column}
@@ -76,6 +77,12 @@ amount_right a h = rw (amount_read a (omega (arith, h.1))) (in_range column.Amou
 
 stamp_right : (n : ℕ) → model.IsStamp n → fault_of column.Stamp (stamp_text n) ≡ None
 stamp_right n h = rw (stamp_only n h) refl
+
+last_name_right : (s : List ℕ) → IsLastName s → fault_of column.LastName s ≡ None
+last_name_right s h = rw (last_name_only s h) refl
+
+first_name_right : (s : List ℕ) → IsFirstName s → fault_of column.FirstName s ≡ None
+first_name_right s h = rw (first_name_only s h) refl
 
 either : (b : Bool) (x : Wrong) → x ≡ None → (if b then None else x) ≡ None
 either true x e = refl
@@ -153,6 +160,9 @@ warehouse_right w h = right column.Warehouse w (omega (arith, h.1)) h.0 h.1
 
 district_right : (d : ℕ) → IsInRange 1 10 d → fault_of column.District (decimal d) ≡ None
 district_right d h = right column.District d (omega (arith, h.1)) h.0 h.1
+
+customer_right : (c : ℕ) → IsInRange 1 3_000 c → fault_of column.Customer (decimal c) ≡ None
+customer_right c h = right column.Customer c (omega (arith, h.1)) h.0 h.1
 
 customer_warehouse_right : (w : ℕ) → IsInRange 1 16 w → fault_of column.CustomerWarehouse (decimal w) ≡ None
 customer_warehouse_right w h = right column.CustomerWarehouse w (omega (arith, h.1)) h.0 h.1
@@ -256,7 +266,7 @@ words_are_right (command.Begin t (request.NewOrder q)) h = record {
           (
             district_right q.district.district h.1.district.1,
             (
-              right column.Customer q.customer (omega (arith, h.1.customer.1)) h.1.customer.0 h.1.customer.1,
+              customer_right q.customer h.1.customer,
               (stamp_right q.stamp h.1.stamp, lines_fit 15 q.lines h.1.count.1 h.1.lines),
             ),
           ),
@@ -304,7 +314,29 @@ words_are_right (command.Begin t (request.Deliveries q)) h = record {
   enough = omega arith;
   few = omega arith;
 }
-words_are_right (command.Begin t (request.Rename q)) h = tt
+words_are_right (command.Begin t (request.Rename q)) h = record {
+  fit = (
+    refl,
+    (
+      terminal_right t h.0,
+      (
+        refl,
+        (
+          warehouse_right q.customer.warehouse h.1.district.0,
+          (
+            district_right q.customer.district h.1.district.1,
+            (
+              customer_right q.customer.customer h.1.customer,
+              (last_name_right q.last h.1.last, (first_name_right q.first h.1.first, tt)),
+            ),
+          ),
+        ),
+      ),
+    ),
+  );
+  enough = omega arith;
+  few = omega arith;
+}
 words_are_right (command.Next t) h = record {
   fit = (refl, (terminal_right t h, tt));
   enough = omega arith;

@@ -36,6 +36,7 @@ unfolding kind_of is_word
 kind_read kind.Payment = refl
 kind_read kind.NewOrder = refl
 kind_read kind.Delivery = refl
+kind_read kind.Rename = refl
 kind_read kind.Status = refl
 kind_read kind.Level = refl
 
@@ -48,19 +49,20 @@ listed form.Payment = (1, omega arith, refl)
 listed form.NewOrder = (2, omega arith, refl)
 listed form.Delivery = (3, omega arith, refl)
 listed form.Deliveries = (4, omega arith, refl)
-listed form.Next = (5, omega arith, refl)
-listed form.Run = (6, omega arith, refl)
-listed form.Save = (7, omega arith, refl)
-listed form.Back = (8, omega arith, refl)
-listed form.Rollback = (9, omega arith, refl)
-listed form.Status = (10, omega arith, refl)
-listed form.Level = (11, omega arith, refl)
-listed form.Audit = (12, omega arith, refl)
-listed form.Purge = (13, omega arith, refl)
-listed form.Rewind = (14, omega arith, refl)
-listed form.Dump = (15, omega arith, refl)
-listed form.Waits = (16, omega arith, refl)
-listed form.Locks = (17, omega arith, refl)
+listed form.Rename = (5, omega arith, refl)
+listed form.Next = (6, omega arith, refl)
+listed form.Run = (7, omega arith, refl)
+listed form.Save = (8, omega arith, refl)
+listed form.Back = (9, omega arith, refl)
+listed form.Rollback = (10, omega arith, refl)
+listed form.Status = (11, omega arith, refl)
+listed form.Level = (12, omega arith, refl)
+listed form.Audit = (13, omega arith, refl)
+listed form.Purge = (14, omega arith, refl)
+listed form.Rewind = (15, omega arith, refl)
+listed form.Dump = (16, omega arith, refl)
+listed form.Waits = (17, omega arith, refl)
+listed form.Locks = (18, omega arith, refl)
 
 alone : (v : Verb) (f : Form) → BeginsWith v f → All (BeginsWith v) (f ∷ [])
 alone v f h = All-cons (BeginsWith v) f [] h (All-nil (BeginsWith v))
@@ -68,10 +70,12 @@ alone v f h = All-cons (BeginsWith v) f [] h (All-nil (BeginsWith v))
 first : (v : Verb) → All (BeginsWith v) (forms_of v)
 first verb.Open = alone verb.Open form.Opening refl
 first verb.Begin =
-    All-cons (BeginsWith verb.Begin) form.Payment (form.NewOrder ∷ form.Delivery ∷ form.Deliveries ∷ []) refl
-    (All-cons (BeginsWith verb.Begin) form.NewOrder (form.Delivery ∷ form.Deliveries ∷ []) refl
-    (All-cons (BeginsWith verb.Begin) form.Delivery (form.Deliveries ∷ []) refl
-    (alone verb.Begin form.Deliveries refl)))
+    All-cons (BeginsWith verb.Begin) form.Payment (form.NewOrder ∷ form.Delivery ∷ form.Deliveries ∷ form.Rename ∷ [])
+    refl
+    (All-cons (BeginsWith verb.Begin) form.NewOrder (form.Delivery ∷ form.Deliveries ∷ form.Rename ∷ []) refl
+    (All-cons (BeginsWith verb.Begin) form.Delivery (form.Deliveries ∷ form.Rename ∷ []) refl
+    (All-cons (BeginsWith verb.Begin) form.Deliveries (form.Rename ∷ []) refl
+    (alone verb.Begin form.Rename refl))))
 first verb.Next = alone verb.Next form.Next refl
 first verb.Run = alone verb.Run form.Run refl
 first verb.Save = alone verb.Save form.Save refl
@@ -106,13 +110,15 @@ told column.Item = (16, omega arith, refl)
 told column.Quantity = (17, omega arith, refl)
 told column.Amount = (11, omega arith, refl)
 told column.Carrier = (18, omega arith, refl)
-told column.Threshold = (20, omega arith, refl)
-told column.Condition = (21, omega arith, refl)
-told column.Moment = (19, omega arith, refl)
+told column.Threshold = (22, omega arith, refl)
+told column.Condition = (23, omega arith, refl)
+told column.Moment = (21, omega arith, refl)
 told column.Buyer = (10, omega arith, refl)
+told column.LastName = (19, omega arith, refl)
+told column.FirstName = (20, omega arith, refl)
 told column.Stamp = (12, omega arith, refl)
 told column.OrderLine = (14, omega arith, refl)
-told column.Table = (22, omega arith, refl)
+told column.Table = (24, omega arith, refl)
 
 pub lists_are_whole : Lists_are_whole
 lists_are_whole = record { each_form = listed; verb_first = first; each_column = told }

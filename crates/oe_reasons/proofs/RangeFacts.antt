@@ -39,6 +39,10 @@ ranges_are_the_grammars = record {
     λ h. (h.warehouse, h.carrier, h.stamp),
     λ h. record { warehouse = h.0; carrier = h.1; stamp = h.2 },
   );
+  rename = λ q. (
+    λ h. (h.district, h.customer, h.last, h.first),
+    λ h. record { district = h.0; customer = h.1; last = h.2; first = h.3 },
+  );
   level = λ q. (λ h. h, λ h. h);
   at_moment = λ m. (λ h. (omega arith, h), λ h. h.1);
 }

@@ -8,7 +8,7 @@ use Rattle.oe_values.specs.Front.{◌>>=◌, after_of, pair_of, decimal_of, alon
 use Rattle.oe_rows.specs.declared.keys.Table.{Table}
 use Rattle.oe_rows.specs.declared.keys.Table.TheVariants as table
 use Rattle.oe_rows.specs.Key.{table_name}
-use Rattle.oe_lines.specs.Words.{stamp_of, last_name_of}
+use Rattle.oe_lines.specs.Words.{stamp_of, last_name_of, first_name_of}
 use Rattle.oe_reasons.specs.declared.verbs.Verb.{Verb}
 use Rattle.oe_reasons.specs.declared.verbs.Verb.TheVariants as verb
 use Rattle.oe_reasons.specs.declared.verbs.Kind.{Kind}
@@ -27,7 +27,7 @@ use Rattle.oe_reasons.specs.Verbs.{is_word, kind_of, verbs}
 -- the forms that begin with a verb, and all forms
 abbrev pub forms_of : Verb → List Form
 forms_of verb.Open = form.Opening ∷ []
-forms_of verb.Begin = form.Payment ∷ form.NewOrder ∷ form.Delivery ∷ form.Deliveries ∷ []
+forms_of verb.Begin = form.Payment ∷ form.NewOrder ∷ form.Delivery ∷ form.Deliveries ∷ form.Rename ∷ []
 forms_of verb.Next = form.Next ∷ []
 forms_of verb.Run = form.Run ∷ []
 forms_of verb.Save = form.Save ∷ []
@@ -64,6 +64,9 @@ columns_of form.Delivery =
 columns_of form.Deliveries =
     column.Verb verb.Begin ∷ column.Terminal ∷ column.Kind kind.Delivery ∷ column.Warehouse ∷ column.Carrier ∷
     column.Stamp ∷ []
+columns_of form.Rename =
+    column.Verb verb.Begin ∷ column.Terminal ∷ column.Kind kind.Rename ∷ column.Warehouse ∷ column.District ∷
+    column.Customer ∷ column.LastName ∷ column.FirstName ∷ []
 columns_of form.Next = column.Verb verb.Next ∷ column.Terminal ∷ []
 columns_of form.Run = column.Verb verb.Run ∷ column.Terminal ∷ []
 columns_of form.Save = column.Verb verb.Save ∷ column.Terminal ∷ []
@@ -216,12 +219,14 @@ tables =
 unfoldable pub is_table : List ℕ → Bool
 is_table s = list_any (λ t. is_word s (table_name t)) tables
 
--- a form's own words are right, since they chose it; a stamp and a last name are what the grammar reads as one
+-- a form's own words are right, since they chose it; a stamp and a name are what the grammar reads as one
 abbrev pub fault_of : Column → List ℕ → Wrong
 fault_of (column.Verb v) s = None
 fault_of (column.Kind k) s = None
 fault_of column.Table s = if is_table s then None else Some (column.Table, fault.Misspelt)
 fault_of column.Stamp s = if is_some (stamp_of s) then None else Some (column.Stamp, fault.Misspelt)
+fault_of column.LastName s = if is_some (last_name_of s) then None else Some (column.LastName, fault.Misspelt)
+fault_of column.FirstName s = if is_some (first_name_of s) then None else Some (column.FirstName, fault.Misspelt)
 fault_of column.OrderLine s = line_fault (line_in s)
 fault_of column.Buyer s =
     if is_some (last_name_of s) then None
@@ -239,6 +244,7 @@ abbrev pub begun_of : Kind → Bool → Option Form
 begun_of kind.Payment is_long = Some form.Payment
 begun_of kind.NewOrder is_long = Some form.NewOrder
 begun_of kind.Delivery is_long = if is_long then Some form.Delivery else Some form.Deliveries
+begun_of kind.Rename is_long = Some form.Rename
 begun_of k is_long = None
 
 abbrev pub query_of : Kind → Option Form

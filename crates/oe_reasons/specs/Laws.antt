@@ -1,5 +1,5 @@
 -- The table's ranges are the grammar's: a line's form asks for exactly these numbers.
-use Rattle.std.specs.Prelude.{◌≡◌, ℕ, ◌+◌, ◌≤◌, ◌↔◌, List, [], ◌∷◌, length, Option, None, Some, IfSome, slice_get}
+use Rattle.std.specs.Prelude.{◌≡◌, ℕ, ◌+◌, ◌≤◌, ◌↔◌, List, [], ◌∷◌, length, None, Some, slice_get}
 use Rattle.std.specs.List.{All, Contains}
 use Rattle.oe_rows.specs.declared.scales.Scale.{Scale}
 use Rattle.oe_rows.specs.declared.keys.DistrictKey.{DistrictKey}
@@ -9,11 +9,14 @@ use Rattle.oe_requests.specs.declared.requests.RequestLine.{RequestLine}
 use Rattle.oe_requests.specs.declared.requests.NewOrderRequest.{NewOrderRequest}
 use Rattle.oe_requests.specs.declared.requests.DeliveryRequest.{DeliveryRequest}
 use Rattle.oe_requests.specs.declared.requests.DeliveriesRequest.{DeliveriesRequest}
+use Rattle.oe_requests.specs.declared.requests.RenameRequest.{RenameRequest}
 use Rattle.oe_requests.specs.declared.requests.Request.{Request}
 use Rattle.oe_requests.specs.declared.requests.Request.TheVariants as request
 use Rattle.oe_requests.specs.declared.requests.LevelQuery.{LevelQuery}
 use Rattle.oe_requests.specs.declared.requests.Query.{Query}
 use Rattle.oe_requests.specs.declared.requests.Query.TheVariants as query
+use Rattle.oe_values.specs.Text.{IsLastName, IsFirstName}
+use Rattle.oe_model.specs.Keys.{district_of_customer}
 use Rattle.oe_model.specs.Requests as model
 use Rattle.oe_lines.specs.declared.commands.Command.{Command}
 use Rattle.oe_lines.specs.declared.commands.Command.TheVariants as command
@@ -21,7 +24,7 @@ use Rattle.oe_lines.specs.declared.commands.Display.{Display}
 use Rattle.oe_lines.specs.declared.commands.Display.TheVariants as display
 use Rattle.oe_lines.specs.declared.commands.MomentChoice.TheVariants as moment
 use Rattle.oe_lines.specs.declared.commands.RingChoice.{RingChoice}
-use Rattle.oe_lines.specs.Grammar.{HasForm, IsMoment, IsQuery, IsRequest, words_of}
+use Rattle.oe_lines.specs.Grammar.{HasForm, IsMoment, IsQuery, words_of}
 use Rattle.oe_reasons.specs.declared.forms.Column.{Column}
 use Rattle.oe_reasons.specs.declared.forms.Column.TheVariants as column
 use Rattle.oe_reasons.specs.declared.forms.Form.{Form}
@@ -49,18 +52,21 @@ pub record Ranges_are_the_grammars : Type 0 where
       ↔ (InColumn column.Warehouses s.warehouses × InColumn column.Customers s.customers
       × InColumn column.Items s.items × InColumn column.Extents ring.extents)
   pub terminal : (t : ℕ) → HasForm (command.Next t) ↔ InColumn column.Terminal t
-  pub payment : (q : PaymentRequest) → IsRequest (request.Payment q)
+  pub payment : (q : PaymentRequest) → model.IsRequest (request.Payment q)
       ↔ (InDistrict q.district × InCustomerDistrict q.customer_district × model.IsChoice q.customer
       × InColumn column.Amount q.amount × model.IsStamp q.stamp)
   pub customer : (n : ℕ) → model.IsChoice (choice.Number n) ↔ InColumn column.Customer n
-  pub order : (q : NewOrderRequest) → IsRequest (request.NewOrder q)
+  pub order : (q : NewOrderRequest) → model.IsRequest (request.NewOrder q)
       ↔ (InDistrict q.district × InColumn column.Customer q.customer × model.IsStamp q.stamp
       × (least_words form.NewOrder ≤ 7 + length q.lines) × (7 + length q.lines ≤ most_words form.NewOrder)
       × All InLine q.lines)
-  pub delivery : (q : DeliveryRequest) → IsRequest (request.Delivery q)
+  pub delivery : (q : DeliveryRequest) → model.IsRequest (request.Delivery q)
       ↔ (InDistrict q.district × InColumn column.Carrier q.carrier × model.IsStamp q.stamp)
-  pub deliveries : (q : DeliveriesRequest) → IsRequest (request.Deliveries q)
+  pub deliveries : (q : DeliveriesRequest) → model.IsRequest (request.Deliveries q)
       ↔ (InColumn column.Warehouse q.warehouse.warehouse × InColumn column.Carrier q.carrier × model.IsStamp q.stamp)
+  pub rename : (q : RenameRequest) → model.IsRequest (request.Rename q)
+      ↔ (InDistrict (district_of_customer q.customer) × InColumn column.Customer q.customer.customer
+      × IsLastName q.last × IsFirstName q.first)
   pub level : (q : LevelQuery) → IsQuery (query.Level q)
       ↔ (InDistrict q.district × InColumn column.Threshold q.threshold)
   pub at_moment : (m : ℕ) → IsMoment (moment.At m) ↔ InColumn column.Moment m
@@ -80,12 +86,12 @@ Fits [] (w ∷ ws) = ⊥
 Fits (c ∷ cs) (w ∷ ws) = Suits c w × Fits cs ws
 
 -- the form that a command's line has
-abbrev pub request_form : Request → Option Form
-request_form (request.Payment q) = Some form.Payment
-request_form (request.NewOrder q) = Some form.NewOrder
-request_form (request.Delivery q) = Some form.Delivery
-request_form (request.Deliveries q) = Some form.Deliveries
-request_form (request.Rename q) = None
+abbrev pub request_form : Request → Form
+request_form (request.Payment q) = form.Payment
+request_form (request.NewOrder q) = form.NewOrder
+request_form (request.Delivery q) = form.Delivery
+request_form (request.Deliveries q) = form.Deliveries
+request_form (request.Rename q) = form.Rename
 
 abbrev pub query_form : Query → Form
 query_form (query.Status q) = form.Status
@@ -96,19 +102,19 @@ display_form (display.Rows t) = form.Dump
 display_form display.Waits = form.Waits
 display_form display.Locks = form.Locks
 
-abbrev pub command_form : Command → Option Form
-command_form (command.Open s e) = Some form.Opening
+abbrev pub command_form : Command → Form
+command_form (command.Open s e) = form.Opening
 command_form (command.Begin t q) = request_form q
-command_form (command.Next t) = Some form.Next
-command_form (command.Run t) = Some form.Run
-command_form (command.Save t) = Some form.Save
-command_form (command.Back t) = Some form.Back
-command_form (command.Rollback t) = Some form.Rollback
-command_form (command.Show d) = Some (display_form d)
-command_form (command.Audit c m) = Some form.Audit
-command_form (command.Read m q) = Some (query_form q)
-command_form (command.Purge m) = Some form.Purge
-command_form (command.Rewind m) = Some form.Rewind
+command_form (command.Next t) = form.Next
+command_form (command.Run t) = form.Run
+command_form (command.Save t) = form.Save
+command_form (command.Back t) = form.Back
+command_form (command.Rollback t) = form.Rollback
+command_form (command.Show d) = display_form d
+command_form (command.Audit c m) = form.Audit
+command_form (command.Read m q) = query_form q
+command_form (command.Purge m) = form.Purge
+command_form (command.Rewind m) = form.Rewind
 
 -- the words are right for a form: each suits its column, and they are neither too few nor too many
 pub record IsRight (f : Form) (ws : List (List ℕ)) : Type 0 where
@@ -117,7 +123,7 @@ pub record IsRight (f : Form) (ws : List (List ℕ)) : Type 0 where
   pub few : length ws ≤ most_words f
 
 abbrev pub Words_are_right : Type 0
-Words_are_right = (c : Command) → HasForm c → IfSome (command_form c) (λ f. IsRight f (words_of c))
+Words_are_right = (c : Command) → HasForm c → IsRight (command_form c) (words_of c)
 
 -- THE LISTS ARE WHOLE
 

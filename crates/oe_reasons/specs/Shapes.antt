@@ -35,6 +35,8 @@ shown_word column.Threshold = codes "THRESHOLD"
 shown_word column.Condition = codes "CONDITION"
 shown_word column.Moment = codes "MOMENT"
 shown_word column.Buyer = codes "CUSTOMER"
+shown_word column.LastName = codes "LAST_NAME"
+shown_word column.FirstName = codes "FIRST_NAME"
 shown_word column.Stamp = codes "STAMP"
 shown_word column.OrderLine = codes "SUPPLY:ITEM:QUANTITY"
 shown_word column.Table = codes "TABLE"
@@ -83,6 +85,8 @@ lines_text = decimal (least_words form.NewOrder - 7) ++ codes " to " ++ decimal 
 -- what a word of a column may be
 abbrev pub range_text : Column → List ℕ
 range_text column.Buyer = bounds_text column.Customer ++ codes ", or a last name of 1 to 16 letters A to Z"
+range_text column.LastName = codes "1 to 16 letters A to Z"
+range_text column.FirstName = codes "1 to 16 letters A to Z and digits"
 range_text column.Stamp = codes "YYYY-MM-DDTHH:MM:SS of the years 1900 to 2100"
 range_text column.OrderLine = lines_text ++ codes " of these"
 range_text column.Moment = codes "now, or " ++ bounds_text column.Moment
@@ -99,7 +103,8 @@ ranged =
     column.Warehouses ∷ column.Customers ∷ column.Items ∷ column.Extents ∷ column.Layout ∷ column.Terminal ∷
     column.Warehouse ∷ column.District ∷ column.CustomerWarehouse ∷ column.CustomerDistrict ∷ column.Buyer ∷
     column.Amount ∷ column.Stamp ∷ column.Customer ∷ column.OrderLine ∷ column.Supply ∷ column.Item ∷ column.Quantity ∷
-    column.Carrier ∷ column.Moment ∷ column.Threshold ∷ column.Condition ∷ column.Table ∷ []
+    column.Carrier ∷ column.LastName ∷ column.FirstName ∷ column.Moment ∷ column.Threshold ∷ column.Condition ∷
+    column.Table ∷ []
 
 -- a name and the blanks that make it 22 bytes
 abbrev pub padded : List ℕ → List ℕ

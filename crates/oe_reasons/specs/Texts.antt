@@ -37,6 +37,8 @@ column_name column.Threshold = codes "threshold"
 column_name column.Condition = codes "condition"
 column_name column.Moment = codes "moment"
 column_name column.Buyer = codes "customer"
+column_name column.LastName = codes "last name"
+column_name column.FirstName = codes "first name"
 column_name column.Stamp = codes "stamp"
 column_name column.OrderLine = codes "order line"
 column_name column.Table = codes "table"
@@ -46,6 +48,8 @@ abbrev pub misspelt_text : Column → List ℕ
 misspelt_text column.Amount = codes " is no amount of digits, a point and two decimals"
 misspelt_text column.Moment = codes " is neither now nor a number of at most 15 digits without a leading 0"
 misspelt_text column.Buyer = codes " is neither a number without a leading 0 nor a last name of 1 to 16 letters A to Z"
+misspelt_text column.LastName = codes " is not " ++ range_text column.LastName
+misspelt_text column.FirstName = codes " is not " ++ range_text column.FirstName
 misspelt_text column.Stamp = codes " is no " ++ range_text column.Stamp
 misspelt_text column.OrderLine = codes " is not of the form supply:item:quantity"
 misspelt_text column.Table = codes " is none of " ++ range_text column.Table

@@ -34,11 +34,12 @@ abbrev pub kind_word : Kind → List ℕ
 kind_word kind.Payment = codes "payment"
 kind_word kind.NewOrder = codes "neworder"
 kind_word kind.Delivery = codes "delivery"
+kind_word kind.Rename = codes "rename"
 kind_word kind.Status = codes "status"
 kind_word kind.Level = codes "level"
 
 abbrev pub kinds : List Kind
-kinds = kind.Payment ∷ kind.NewOrder ∷ kind.Delivery ∷ kind.Status ∷ kind.Level ∷ []
+kinds = kind.Payment ∷ kind.NewOrder ∷ kind.Delivery ∷ kind.Rename ∷ kind.Status ∷ kind.Level ∷ []
 
 -- two texts are one; it stays closed in the dispatch on a word
 unfoldable pub is_word : List ℕ → List ℕ → Bool

@@ -1,6 +1,6 @@
 //! What is wrong with a word, and which form a line has to be of.
 ghost use Rattle.std.specs.Prelude.{◌≡◌, ℕ, IfSome, is_some, true, Some, slice_get};
-ghost use Rattle.oe_lines.specs.Words.{stamp_of, last_name_of};
+ghost use Rattle.oe_lines.specs.Words.{stamp_of, last_name_of, first_name_of};
 ghost use Rattle.oe_reasons.specs.Columns.{amount_in, begun_of, columns_of, fault_of, form_of, is_table};
 ghost use Rattle.oe_reasons.specs.Columns.{line_fault, line_in, number_fault, number_in, out_of_range, query_of};
 ghost use Rattle.oe_reasons.specs.Columns.{IsMiscounted, IsWrong};
@@ -12,7 +12,7 @@ use crate::verbs::{Kind, Verb, is_word, read_kind};
 use crate::words::{word_at, words_in};
 use oe_rows::Table;
 use oe_values::fronts::{after, decimal, pair};
-use oe_values::texts::LastName;
+use oe_values::texts::{FirstName, LastName};
 use oe_values::{Stamp, Text};
 
 /// What is wrong with a word.
@@ -105,6 +105,16 @@ fn last_name(word: &[u8]) -> Option<LastName>
     LastName::read(name.as_str())
 }
 
+/// Gives the first name that a word is.
+fn first_name(word: &[u8]) -> Option<FirstName>
+    ensures { result ≡ first_name_of word.now }
+{
+    let Some(name) = Text::<1, 16>::read_bytes(word) else {
+        return None;
+    };
+    FirstName::read(name.as_str())
+}
+
 /// Tells whether a word is a stamp.
 fn is_stamp(word: &[u8]) -> bool
     ensures { result ≡ is_some (stamp_of word.now) }
@@ -117,6 +127,13 @@ fn is_last_name(word: &[u8]) -> bool
     ensures { result ≡ is_some (last_name_of word.now) }
 {
     last_name(word).is_some()
+}
+
+/// Tells whether a word is a first name.
+fn is_first_name(word: &[u8]) -> bool
+    ensures { result ≡ is_some (first_name_of word.now) }
+{
+    first_name(word).is_some()
 }
 
 /// Tells whether a word is a table's name.
@@ -190,6 +207,28 @@ fn buyer_fault(word: &[u8]) -> Option<(Column, Fault)>
     }
 }
 
+/// Gives what is wrong with a last name.
+fn last_name_fault(word: &[u8]) -> Option<(Column, Fault)>
+    ensures { result ≡ fault_of column.LastName word.now }
+{
+    if is_last_name(word) {
+        None
+    } else {
+        Some((Column::LastName, Fault::Misspelt))
+    }
+}
+
+/// Gives what is wrong with a first name.
+fn first_name_fault(word: &[u8]) -> Option<(Column, Fault)>
+    ensures { result ≡ fault_of column.FirstName word.now }
+{
+    if is_first_name(word) {
+        None
+    } else {
+        Some((Column::FirstName, Fault::Misspelt))
+    }
+}
+
 /// Gives what is wrong with a moment.
 fn moment_fault(word: &[u8]) -> Option<(Column, Fault)>
     ensures { result ≡ fault_of column.Moment word.now }
@@ -220,6 +259,8 @@ fn fault_in(column: Column, word: &[u8]) -> Option<(Column, Fault)>
         Column::Verb(_) | Column::Kind(_) => None,
         Column::Table => table_fault(word),
         Column::Stamp => stamp_fault(word),
+        Column::LastName => last_name_fault(word),
+        Column::FirstName => first_name_fault(word),
         Column::OrderLine => line_fault(line(word)),
         Column::Buyer => buyer_fault(word),
         Column::Moment => moment_fault(word),
@@ -305,6 +346,7 @@ fn begun(kind: Kind, is_long: bool) -> Option<Form>
                 Some(Form::Deliveries)
             }
         }
+        Kind::Rename => Some(Form::Rename),
         Kind::Status | Kind::Level => None,
     }
 }
@@ -316,6 +358,6 @@ fn query(kind: Kind) -> Option<Form>
     match kind {
         Kind::Status => Some(Form::Status),
         Kind::Level => Some(Form::Level),
-        Kind::Payment | Kind::NewOrder | Kind::Delivery => None,
+        Kind::Payment | Kind::NewOrder | Kind::Delivery | Kind::Rename => None,
     }
 }

@@ -53,6 +53,10 @@ pub enum Column {
     Moment,
     /// A customer by number or by last name.
     Buyer,
+    /// A last name.
+    LastName,
+    /// A first name.
+    FirstName,
     /// A stamp.
     Stamp,
     /// `supply:item:quantity`.
@@ -69,6 +73,7 @@ pub enum Form {
     NewOrder,
     Delivery,
     Deliveries,
+    Rename,
     Next,
     Run,
     Save,
@@ -85,12 +90,13 @@ pub enum Form {
 }
 
 /// All forms, in the order of their verbs.
-pub(crate) const FORMS: [Form; 18] = [
+pub(crate) const FORMS: [Form; 19] = [
     Form::Opening,
     Form::Payment,
     Form::NewOrder,
     Form::Delivery,
     Form::Deliveries,
+    Form::Rename,
     Form::Next,
     Form::Run,
     Form::Save,
@@ -109,7 +115,7 @@ pub(crate) const FORMS: [Form; 18] = [
 /// Gives the forms that begin with a verb.
 pub(crate) fn forms_of(verb: Verb) -> &'static [Form]
     ensures value { result.now ≡ forms_of verb }
-    ensures few { length result.now ≤ 4 }
+    ensures few { length result.now ≤ 5 }
 {
     match verb {
         Verb::Open => &[Form::Opening],
@@ -118,6 +124,7 @@ pub(crate) fn forms_of(verb: Verb) -> &'static [Form]
             Form::NewOrder,
             Form::Delivery,
             Form::Deliveries,
+            Form::Rename,
         ],
         Verb::Next => &[Form::Next],
         Verb::Run => &[Form::Run],
@@ -251,6 +258,16 @@ impl Form {
                 Column::Warehouse,
                 Column::Carrier,
                 Column::Stamp,
+            ],
+            Form::Rename => &[
+                Column::Verb(Verb::Begin),
+                Column::Terminal,
+                Column::Kind(Kind::Rename),
+                Column::Warehouse,
+                Column::District,
+                Column::Customer,
+                Column::LastName,
+                Column::FirstName,
             ],
             Form::Next => &[Column::Verb(Verb::Next), Column::Terminal],
             Form::Run => &[Column::Verb(Verb::Run), Column::Terminal],

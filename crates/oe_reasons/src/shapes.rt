@@ -11,7 +11,7 @@ use oe_texts::columns::{money, number};
 use oe_texts::{Pending, SIZE, text};
 
 /// The columns whose ranges the list has.
-const RANGED: [Column; 23] = [
+const RANGED: [Column; 25] = [
     Column::Warehouses,
     Column::Customers,
     Column::Items,
@@ -31,6 +31,8 @@ const RANGED: [Column; 23] = [
     Column::Item,
     Column::Quantity,
     Column::Carrier,
+    Column::LastName,
+    Column::FirstName,
     Column::Moment,
     Column::Threshold,
     Column::Condition,
@@ -68,6 +70,8 @@ fn shown_word(column: Column) -> &'static [u8]
         Column::Condition => b"CONDITION",
         Column::Moment => b"MOMENT",
         Column::Buyer => b"CUSTOMER",
+        Column::LastName => b"LAST_NAME",
+        Column::FirstName => b"FIRST_NAME",
         Column::Stamp => b"STAMP",
         Column::OrderLine => b"SUPPLY:ITEM:QUANTITY",
         Column::Table => b"TABLE",
@@ -141,7 +145,7 @@ fn alternative(out: &mut Pending, form: Form)
 
 /// Appends more of several forms.
 fn alternatives(out: &mut Pending, forms: &[Form])
-    requires few { length forms.now ≤ 3 }
+    requires few { length forms.now ≤ 4 }
     requires room { array_vec_len out.old + 216 * length forms.now ≤ SIZE }
     ensures items { out.new.items ≡ out.old.items ++ flat_map or_text forms.now }
     ensures len { array_vec_len out.new ≤ array_vec_len out.old + 216 * length forms.now }
@@ -153,10 +157,10 @@ fn alternatives(out: &mut Pending, forms: &[Form])
 
 /// Appends forms, with `or` between each two.
 pub(crate) fn either(out: &mut Pending, forms: &[Form])
-    requires few { length forms.now ≤ 4 }
-    requires room { array_vec_len out.old + 861 ≤ SIZE }
+    requires few { length forms.now ≤ 5 }
+    requires room { array_vec_len out.old + 1_077 ≤ SIZE }
     ensures items { out.new.items ≡ out.old.items ++ either_text forms.now }
-    ensures len { array_vec_len out.new ≤ array_vec_len out.old + 861 }
+    ensures len { array_vec_len out.new ≤ array_vec_len out.old + 1_077 }
 {
     if let Some((first, others)) = forms.split_first() {
         shape(out, *first);
@@ -221,6 +225,8 @@ fn range(out: &mut Pending, column: Column)
             bounds(out, Column::Customer);
             text(out, b", or a last name of 1 to 16 letters A to Z");
         }
+        Column::LastName => text(out, b"1 to 16 letters A to Z"),
+        Column::FirstName => text(out, b"1 to 16 letters A to Z and digits"),
         Column::Stamp => text(out, b"YYYY-MM-DDTHH:MM:SS of the years 1900 to 2100"),
         Column::OrderLine => {
             lines(out);
@@ -268,7 +274,7 @@ fn form_line(out: &mut Pending, form: Form)
 
 /// Appends the lines of forms.
 fn form_lines(out: &mut Pending, forms: &[Form])
-    requires few { length forms.now ≤ 18 }
+    requires few { length forms.now ≤ 19 }
     requires room { array_vec_len out.old + 215 * length forms.now ≤ SIZE }
     ensures items { out.new.items ≡ out.old.items ++ flat_map form_line forms.now }
     ensures len { array_vec_len out.new ≤ array_vec_len out.old + 215 * length forms.now }
@@ -293,7 +299,7 @@ fn range_line(out: &mut Pending, column: Column)
 
 /// Appends the lines of columns.
 fn range_lines(out: &mut Pending, columns: &[Column])
-    requires few { length columns.now ≤ 23 }
+    requires few { length columns.now ≤ 25 }
     requires room { array_vec_len out.old + 120 * length columns.now ≤ SIZE }
     ensures items { out.new.items ≡ out.old.items ++ flat_map range_line columns.now }
     ensures len { array_vec_len out.new ≤ array_vec_len out.old + 120 * length columns.now }
@@ -306,7 +312,7 @@ fn range_lines(out: &mut Pending, columns: &[Column])
 /// Appends the forms of lines, and what may stand in each of their columns.
 #[tactic(auto, unfolding(crate::specs::Shapes::forms_text))]
 pub fn list_forms(out: &mut Pending)
-    requires { array_vec_len out.old + 6_900 ≤ SIZE }
+    requires { array_vec_len out.old + 7_200 ≤ SIZE }
     ensures { out.new.items ≡ out.old.items ++ forms_text }
 {
     text(

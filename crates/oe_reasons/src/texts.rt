@@ -41,6 +41,8 @@ fn column_name(column: Column) -> &'static [u8]
         Column::Condition => b"condition",
         Column::Moment => b"moment",
         Column::Buyer => b"customer",
+        Column::LastName => b"last name",
+        Column::FirstName => b"first name",
         Column::Stamp => b"stamp",
         Column::OrderLine => b"order line",
         Column::Table => b"table",
@@ -57,6 +59,8 @@ fn misspelt(column: Column) -> &'static [u8]
         Column::Moment => b" is neither now nor a number of at most 15 digits without a leading 0",
         Column::Buyer =>
             b" is neither a number without a leading 0 nor a last name of 1 to 16 letters A to Z",
+        Column::LastName => b" is not 1 to 16 letters A to Z",
+        Column::FirstName => b" is not 1 to 16 letters A to Z and digits",
         Column::Stamp => b" is no YYYY-MM-DDTHH:MM:SS of the years 1900 to 2100",
         Column::OrderLine => b" is not of the form supply:item:quantity",
         Column::Table =>
@@ -184,9 +188,9 @@ fn unprintable(out: &mut Pending, place: usize)
 /// Appends the text of the reason why a line is not taken. A word of the line that it names stands
 /// there as it is; the line's bytes are then printable.
 pub fn tell(out: &mut Pending, line: &[u8], reason: &Reason)
-    requires room { array_vec_len out.old + length line.now + 900 ≤ SIZE }
+    requires room { array_vec_len out.old + length line.now + 1_120 ≤ SIZE }
     ensures items { out.new.items ≡ out.old.items ++ reason_text line.now reason.now }
-    ensures len { array_vec_len out.new ≤ array_vec_len out.old + length line.now + 900 }
+    ensures len { array_vec_len out.new ≤ array_vec_len out.old + length line.now + 1_120 }
 {
     match reason {
         Reason::Long => text(out, b"it has more than 1024 bytes"),

@@ -31,6 +31,7 @@ pub enum Kind {
     Payment,
     NewOrder,
     Delivery,
+    Rename,
     Status,
     Level,
 }
@@ -54,10 +55,11 @@ const VERBS: [Verb; 14] = [
 ];
 
 /// The kinds of transactions and queries.
-const KINDS: [Kind; 5] = [
+const KINDS: [Kind; 6] = [
     Kind::Payment,
     Kind::NewOrder,
     Kind::Delivery,
+    Kind::Rename,
     Kind::Status,
     Kind::Level,
 ];
@@ -149,6 +151,7 @@ impl Kind {
             Kind::Payment => b"payment",
             Kind::NewOrder => b"neworder",
             Kind::Delivery => b"delivery",
+            Kind::Rename => b"rename",
             Kind::Status => b"status",
             Kind::Level => b"level",
         }

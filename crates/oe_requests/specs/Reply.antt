@@ -10,3 +10,5 @@ told_reply (lent.NewOrder o last c total lines) =
     reply.NewOrder (record { order = o; last = last.now; credit = c; total = total; lines = lines.now })
 told_reply (lent.Delivery d) = reply.Delivery d
 told_reply (lent.Deliveries ds) = reply.Deliveries ds.now
+told_reply (lent.Rename c last first) =
+    reply.Rename (record { customer = c; last = last.now; first = first.now })

@@ -104,6 +104,11 @@ pub enum ReplyRef<'a> {
     },
     Delivery(DistrictDelivery),
     Deliveries(&'a DistrictDeliveries),
+    Rename {
+        customer: CustomerNumber,
+        last: &'a LastName,
+        first: &'a FirstName,
+    },
 }
 
 /// A line of a customer's newest order (clause 2.6.3).
@@ -223,6 +228,15 @@ impl<'a> ReplyRef<'a> {
             }),
             ReplyRef::Delivery(delivery) => Reply::Delivery(*delivery),
             ReplyRef::Deliveries(deliveries) => Reply::Deliveries(deliveries.copied()),
+            ReplyRef::Rename {
+                customer,
+                last,
+                first,
+            } => Reply::Rename(RenameReply {
+                customer: *customer,
+                last: last.copied(),
+                first: first.copied(),
+            }),
         }
     }
 }

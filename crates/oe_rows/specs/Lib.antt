@@ -8,7 +8,6 @@ pub mod History
 pub mod Item
 pub mod Key
 pub mod KeyShelves
-pub mod Lock
 pub mod Order
 pub mod Row
 pub mod Warehouse

@@ -1,9 +1,6 @@
 //! Runs of steps: a list answered one step after another, or refused before its first. The contract
 //! of `run` carries what follows for any list, and for any population.
-ghost use Rattle.std.specs.Prelude.{◌≡◌, IfOk, IfSome, OnErr};
-ghost use Rattle.std.specs.List.{All};
-ghost use Rattle.oe_admission.specs.Programs.{HasProgram};
-ghost use Rattle.oe_core.specs.Steps.{begins_with};
+ghost use Rattle.std.specs.Prelude.{◌≡◌, IfOk, OnErr};
 ghost use Rattle.oe_core.specs.Core.{world_of};
 ghost use Rattle.oe_runs.specs.Run.{Served, Ran};
 
@@ -15,7 +12,6 @@ use oe_values::NoMemory;
 ///
 /// `NoMemory`: memory was refused for the answers; no step was carried out then.
 pub fn run(core: &mut Core, steps: &[Step]) -> Result<Vec<Answer>, NoMemory>
-    requires { All (λ i. IfSome (begins_with i) HasProgram) steps.now }
     ensures served { IfOk result
         (λ ys. Served (world_of core.old) steps.now ys.items (world_of core.new)) }
     ensures ran { IfOk result

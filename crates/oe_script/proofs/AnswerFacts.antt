@@ -34,7 +34,8 @@ use Rattle.oe_requests.specs.declared.audits.Verdict.{Verdict}
 use Rattle.oe_requests.specs.declared.audits.Verdict.TheVariants as verdict
 use Rattle.oe_model.specs.Audits as model
 use Rattle.oe_model.specs.Rows.{Rows, row_at}
-use Rattle.oe_model.specs.Requests.{MayRefuse, PaymentMayRefuse, NewOrderMayRefuse, DeliveryMayRefuse, first_absent}
+use Rattle.oe_model.specs.Requests.{MayRefuse, PaymentMayRefuse, NewOrderMayRefuse, DeliveryMayRefuse, RenameMayRefuse}
+use Rattle.oe_model.specs.Requests.{first_absent}
 use Rattle.oe_model.specs.Requests.{rejection, query_rejection, number_rejection, warehouse_no, warehouses_of}
 use Rattle.oe_model.specs.Keys.{customer_in}
 use Rattle.oe_model.specs.Choice.{chosen}
@@ -45,8 +46,7 @@ use Rattle.oe_audit.specs.Verdict.{condition_of, verdict_of}
 use Rattle.oe_core.specs.Steps.{step_in, answer_in}
 use Rattle.oe_script.specs.Script.{RunsIn}
 use Rattle.oe_admission.specs.Programs.{IsLive}
-use Rattle.oe_admission.proofs.LiveFacts.{left, falls}
-use Rattle.oe_core.proofs.LiveFacts.{live_step}
+use Rattle.oe_admission.proofs.LiveFacts.{left, falls, next_live}
 
 -- the refusals that programs and requests come to
 abbrev IsOwn : Refusal → Type 0
@@ -86,12 +86,16 @@ of_delivery : (e : Refusal) → DeliveryMayRefuse e → IsOwn e
 of_delivery (refusal.Overflow c) h = tt
 of_delivery _ h = absurd h
 
+of_rename : (e : Refusal) → RenameMayRefuse e → IsOwn e
+of_rename refusal.NoCustomer h = tt
+of_rename _ h = absurd h
+
 own_cause : (q : Request) (e : Refusal) → MayRefuse q e → IsOwn e
 own_cause (request.Payment q) e h = of_payment e h
 own_cause (request.NewOrder q) e h = of_new_order e h
 own_cause (request.Delivery q) e h = of_delivery e h
 own_cause (request.Deliveries q) e h = of_delivery e h
-own_cause (request.Rename q) e h = absurd h
+own_cause (request.Rename q) e h = of_rename e h
 
 own_absent : (ws : List ℕ) (r : Rows) (e : Refusal) → first_absent ws r ≡ Some e → IsOwn e
 own_absent [] r e h = let no : ⊥ = cc in absurd no
@@ -357,7 +361,7 @@ told_run_within (suc k) w t h l = by_answer (told_advance w t l.0) (told_run_wit
             subst (λ (z : Answer). Next system w (Advance t) (answer_in (step.Advance t) z) v) e s in
             let less = falls w v t l more in
             let fewer : left v t < k = omega (arith, less, h) in
-            let r = rest v t fewer (live_step w (step.Advance t) theory.More v tt l more) in
+            let r = rest v t fewer (next_live w _ _ v l more) in
             (suc r.0, r.1, r.2, (v, more, r.3))
 
 pub told_run : (w : World system) (t : ℕ) → IsLive (Some w) → (n : ℕ) × (x : Answer) × (w' : World system)

@@ -1,7 +1,7 @@
 -- Each line is answered.
 use Rattle.std.proofs.Common.{◌≡◌, Result, Ok, Err, ℕ, ◌+◌, ◌<◌, ◌≤◌, Bool, true, false, Option, None, Some, List, []}
 use Rattle.std.proofs.Common.{zero, suc, ◌∷◌, ◌++◌, length, refl, sym, ap, ◌∙◌, subst, inl, inr, arith}
-use Rattle.std.specs.Prelude.{◌⊎◌, ◌≢◌, IfSome}
+use Rattle.std.specs.Prelude.{◌⊎◌, ◌≢◌}
 use Rattle.std.proofs.lemmas.Bool.{cases_order}
 use Rattle.oe_theory.specs.Next.{Next}
 use Rattle.oe_theory.specs.World.{World}
@@ -9,8 +9,6 @@ use Rattle.oe_theory.specs.Theorems.{opened}
 use Rattle.oe_theory.proofs.Theorems.{opening_is_reached}
 use Rattle.oe_requests.specs.declared.refusals.Refusal.TheVariants as refusal
 use Rattle.oe_requests.specs.declared.replies.Reply.{Reply}
-use Rattle.oe_requests.specs.declared.requests.Request.{Request}
-use Rattle.oe_requests.specs.declared.requests.Request.TheVariants as request
 use Rattle.oe_requests.specs.declared.answers.Answer.{Answer}
 use Rattle.oe_requests.specs.declared.answers.Answer.TheVariants as answer
 use Rattle.oe_requests.specs.declared.steps.Step.{Step}
@@ -22,25 +20,22 @@ use Rattle.oe_lines.specs.declared.commands.Command.{Command}
 use Rattle.oe_lines.specs.declared.commands.Command.TheVariants as command
 use Rattle.oe_lines.specs.declared.commands.Display.{Display}
 use Rattle.oe_rows.specs.declared.scales.Scale.{Scale}
-use Rattle.oe_lines.specs.Grammar as grammar
 use Rattle.oe_lines.specs.Grammar.{Says, HasForm}
 use Rattle.oe_lines.specs.Reading.{command_of}
 use Rattle.oe_lines.proofs.GrammarFacts.{read_is_said, said_is_read}
-use Rattle.oe_model.specs.Requests as model
 use Rattle.oe_model.specs.Rows.{Rows}
 use Rattle.oe_model.specs.Population.{IsScale, IsPopulated}
 use Rattle.oe_model.specs.System.{system}
 use Rattle.oe_model.proofs.PopulationFacts.{population_is_one}
 use Rattle.oe_model.proofs.SystemLaws.{laws, population_is_good}
-use Rattle.oe_admission.specs.Programs.{HasProgram}
-use Rattle.oe_core.specs.Steps.{step_in, answer_in, Advances, begins_with}
+use Rattle.oe_core.specs.Steps.{step_in, answer_in, Advances}
 use Rattle.oe_core.specs.declared.advances.Advanced.{Advanced}
 use Rattle.oe_core.specs.declared.advances.Advanced.TheVariants as advanced
 use Rattle.oe_ports.specs.Lines.{bad_line}
 use Rattle.oe_script.specs.Script.{State, moment_in, told, Stepped, IsAllowed, Answers, Asks, LineAnswer, RunOfLines}
 use Rattle.oe_script.specs.Script.{Holds, shown_text, RunsIn}
 use Rattle.oe_admission.specs.Programs.{IsLive}
-use Rattle.oe_core.proofs.LiveFacts.{live_step}
+use Rattle.oe_admission.proofs.LiveFacts.{next_live}
 use Rattle.oe_ports.specs.Ports.{Sink, Sent, Cut, Streams}
 use Rattle.oe_script.specs.Hearing.{Takes}
 use Rattle.oe_script.specs.Outcome.{IsAnswer, Replies, Sorts}
@@ -49,21 +44,6 @@ use Rattle.oe_script.proofs.AnswerFacts.{IsTold, told_advance, told_save, told_b
 use Rattle.oe_script.proofs.AnswerFacts.{told_audit, told_read, told_purge, told_rewind, told_run}
 
 -- THE FORMS OF LINES
-
--- a request that a line spells has a program
-has_program : (q : Request) → grammar.IsRequest q → HasProgram q
-has_program (request.Payment q) h = tt
-has_program (request.NewOrder q) h = tt
-has_program (request.Delivery q) h = tt
-has_program (request.Deliveries q) h = tt
-has_program (request.Rename q) h = absurd h
-
-is_request : (q : Request) → grammar.IsRequest q → model.IsRequest q
-is_request (request.Payment q) h = h
-is_request (request.NewOrder q) h = h
-is_request (request.Delivery q) h = h
-is_request (request.Deliveries q) h = h
-is_request (request.Rename q) h = absurd h
 
 -- a line says one thing
 pub one_command : (line : List ℕ) (c d : Command) → Says line c → Says line d → c ≡ d
@@ -74,8 +54,8 @@ one_command line c d h k =
 
 live_runs : (n : ℕ) (w : World system) (t : ℕ) (x : Answer) (w' : World system) → IsLive (Some w)
     → RunsIn n w t x w' → IsLive (Some w')
-live_runs zero w t x w' l r = live_step w (step.Advance t) _ w' tt l r.1
-live_runs (suc n) w t x w' l r = live_runs n r.0 t x w' (live_step w (step.Advance t) _ r.0 tt l r.1) r.2
+live_runs zero w t x w' l r = next_live w _ _ w' l r.1
+live_runs (suc n) w t x w' l r = live_runs n r.0 t x w' (next_live w _ _ r.0 l r.1) r.2
 
 live_opened : (s : Scale) (ring : RingChoice) (r : Rows) → IsScale s → IsPopulated s r
     → IsLive (Some (opened system r ring.extents (layout_of ring)))
@@ -85,9 +65,9 @@ live_opened s ring r h p = (
   λ t. tt,
 )
 
-live_stepped : (w : World system) (i : Step) (text : List ℕ) (s : State) → IfSome (begins_with i) HasProgram
-    → IsLive (Some w) → Stepped w i text s → IsLive s
-live_stepped w i text s b l (x, w', serves, e, same) = subst IsLive (sym same) (live_step w i _ w' b l serves)
+live_stepped : (w : World system) (i : Step) (text : List ℕ) (s : State) → IsLive (Some w) → Stepped w i text s
+    → IsLive s
+live_stepped w i text s l (x, w', serves, e, same) = subst IsLive (sym same) (next_live w _ _ w' l serves)
 
 pub live_answers : (s : State) (c : Command) (text : List ℕ) (s' : State) → HasForm c → IsLive s → Answers s c text s'
     → IsLive s'
@@ -106,19 +86,18 @@ live_answers None (command.Read m q) text s' f l a = absurd a
 live_answers None (command.Purge m) text s' f l a = absurd a
 live_answers None (command.Rewind m) text s' f l a = absurd a
 live_answers (Some w) (command.Open scale ring) text s' f l a = absurd a
-live_answers (Some w) (command.Begin t q) text s' f l a = live_stepped w (step.Begin t q) text s' (has_program q f.1) l
-    a
-live_answers (Some w) (command.Next t) text s' f l a = live_stepped w (step.Advance t) text s' tt l a
+live_answers (Some w) (command.Begin t q) text s' f l a = live_stepped w (step.Begin t q) text s' l a
+live_answers (Some w) (command.Next t) text s' f l a = live_stepped w (step.Advance t) text s' l a
 live_answers (Some w) (command.Run t) text s' f l (n, x, w', r, e, same) =
     subst IsLive (sym same) (live_runs n w t x w' l r)
-live_answers (Some w) (command.Save t) text s' f l a = live_stepped w (step.Save t) text s' tt l a
-live_answers (Some w) (command.Back t) text s' f l a = live_stepped w (step.Back t) text s' tt l a
-live_answers (Some w) (command.Rollback t) text s' f l a = live_stepped w (step.Rollback t) text s' tt l a
+live_answers (Some w) (command.Save t) text s' f l a = live_stepped w (step.Save t) text s' l a
+live_answers (Some w) (command.Back t) text s' f l a = live_stepped w (step.Back t) text s' l a
+live_answers (Some w) (command.Rollback t) text s' f l a = live_stepped w (step.Rollback t) text s' l a
 live_answers (Some w) (command.Show t) text s' f l a = subst IsLive (sym a.1) l
-live_answers (Some w) (command.Audit c m) text s' f l a = live_stepped w (step.Audit c (moment_in w m)) text s' tt l a
-live_answers (Some w) (command.Read m q) text s' f l a = live_stepped w (step.Read (moment_in w m) q) text s' tt l a
-live_answers (Some w) (command.Purge m) text s' f l a = live_stepped w (step.Purge (moment_in w m)) text s' tt l a
-live_answers (Some w) (command.Rewind m) text s' f l a = live_stepped w (step.Rewind (moment_in w m)) text s' tt l a
+live_answers (Some w) (command.Audit c m) text s' f l a = live_stepped w (step.Audit c (moment_in w m)) text s' l a
+live_answers (Some w) (command.Read m q) text s' f l a = live_stepped w (step.Read (moment_in w m) q) text s' l a
+live_answers (Some w) (command.Purge m) text s' f l a = live_stepped w (step.Purge (moment_in w m)) text s' l a
+live_answers (Some w) (command.Rewind m) text s' f l a = live_stepped w (step.Rewind (moment_in w m)) text s' l a
 
 pub live_line : (s : State) (n : ℕ) (line text : List ℕ) (s' : State) → IsLive s → LineAnswer s n line text s'
     → IsLive s'
@@ -155,7 +134,7 @@ answered None (command.Purge m) f l a = absurd a
 answered None (command.Rewind m) f l a = absurd a
 answered (Some w) (command.Open scale ring) f l a = absurd a
 answered (Some w) (command.Begin t q) f l a = stepped w (step.Begin t q)
-    (told_begin w t q f.0.0 f.0.1 (is_request q f.1))
+    (told_begin w t q f.0.0 f.0.1 f.1)
 answered (Some w) (command.Next t) f l a = stepped w (step.Advance t) (told_advance w t l.0)
 answered (Some w) (command.Run t) f l a = let r = told_run w t l in
     (answer_line r.1, Some r.2, (r.0, r.1, r.2, r.3, refl, refl))

@@ -1,5 +1,5 @@
 //! What a line comes to: the step that it asks for is taken, and the text of its answer appended.
-ghost use Rattle.std.specs.Prelude.{◌≡◌, ◌≤◌, ◌+◌, ◌++◌, ℕ, List, length, Option, Some, None, IfOk, IfSome, IsSome};
+ghost use Rattle.std.specs.Prelude.{◌≡◌, ◌≤◌, ◌+◌, ◌++◌, ℕ, List, length, Option, Some, None, IfOk, IsSome};
 ghost use Rattle.arrayvec.specs.ArrayVec.{array_vec_len};
 ghost use Rattle.oe_theory.specs.Next.{Next};
 ghost use Rattle.oe_theory.specs.Theorems.{opened};
@@ -13,8 +13,7 @@ ghost use Rattle.oe_requests.specs.declared.replies.Reply.{Reply};
 ghost use Rattle.oe_requests.specs.declared.answers.Answer.{Answer};
 ghost use Rattle.oe_texts.specs.Answer.{answer_line};
 ghost use Rattle.oe_core.specs.Core.{world_of, last_reply};
-ghost use Rattle.oe_admission.specs.Programs.{HasProgram};
-ghost use Rattle.oe_core.specs.Steps.{step_in, answer_in, begins_with};
+ghost use Rattle.oe_core.specs.Steps.{step_in, answer_in};
 ghost use Rattle.oe_ports.specs.Ports.{Streams};
 ghost use Rattle.oe_script.specs.Script.{LineAnswer, RunsIn, moment_in, shown_text};
 ghost use Rattle.oe_script.specs.Session.{state_of};
@@ -296,8 +295,7 @@ fn show<W: Outlet>(core: &Core, shown: Display, out: &mut Pending, to: &mut W) -
 
 /// Begins a transaction.
 fn tell_begin(core: &mut Core, terminal: Terminal, request: &Request, out: &mut Pending)
-    requires room { array_vec_len out.old + LONGEST ≤ SIZE }
-    requires program { HasProgram request.now }
+    requires { array_vec_len out.old + LONGEST ≤ SIZE }
     ensures { Tells (world_of core.old) (Step.Begin terminal request.now) (world_of core.new)
         out.old.items out.new.items }
 {
@@ -374,8 +372,7 @@ fn tell_commit(core: &Core, terminal: Terminal, moment: Moment, out: &mut Pendin
 /// Takes another step than an audit.
 #[inline(never)]
 fn tell(core: &mut Core, step: Step, out: &mut Pending)
-    requires room { array_vec_len out.old + LONGEST ≤ SIZE }
-    requires program { IfSome (begins_with step) HasProgram }
+    requires { array_vec_len out.old + LONGEST ≤ SIZE }
     ensures { (x : Answer)
         × Next system (world_of core.old) (step_in step) (answer_in step x) (world_of core.new)
         × (out.new.items ≡ out.old.items ++ answer_line x) }

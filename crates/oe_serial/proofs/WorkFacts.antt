@@ -6,7 +6,6 @@ use Rattle.oe_theory.specs.Next.{Next, Begin, Advance, Purge, Answer}
 use Rattle.oe_theory.specs.Theorems.{opened}
 use Rattle.oe_theory.proofs.Theorems.{opening_is_reached}
 use Rattle.oe_requests.specs.declared.requests.Request.{Request}
-use Rattle.oe_requests.specs.declared.requests.Request.TheVariants as request
 use Rattle.oe_requests.specs.declared.replies.Reply.{Reply}
 use Rattle.oe_requests.specs.declared.refusals.Refusal.{Refusal}
 use Rattle.oe_requests.specs.declared.refusals.Refusal.TheVariants as refusal
@@ -18,36 +17,26 @@ use Rattle.oe_model.specs.Population.{IsScale, IsPopulated}
 use Rattle.oe_model.specs.System.{system}
 use Rattle.oe_model.proofs.PopulationFacts.{population_is_one}
 use Rattle.oe_model.proofs.SystemLaws.{laws, population_is_good}
-use Rattle.oe_lines.specs.Grammar as grammar
-use Rattle.oe_admission.specs.Programs.{HasProgram}
 use Rattle.oe_core.specs.Steps.{refusal_in, Advances}
 use Rattle.oe_core.specs.declared.advances.Advanced.{Advanced}
 use Rattle.oe_core.specs.declared.advances.Advanced.TheVariants as advanced
-use Rattle.oe_core.proofs.LiveFacts.{live_step}
+use Rattle.oe_admission.proofs.LiveFacts.{next_live}
 use Rattle.oe_serial.specs.InOrder.{Between, at_first, Refuses, between}
 use Rattle.oe_serial.specs.Worlds.{IsFree, IsAtWork, Ends, shortage_of}
 use Rattle.oe_serial.proofs.AloneFacts.{begun_alone, more_alone, commits_alone, aborts_alone, of_advance, of_begin}
 use Rattle.oe_serial.proofs.AloneFacts.{Stays, purge_stays}
 
--- a request that a line spells has a program
-pub has_program : (q : Request) → grammar.IsRequest q → HasProgram q
-has_program (request.Payment q) h = tt
-has_program (request.NewOrder q) h = tt
-has_program (request.Delivery q) h = tt
-has_program (request.Deliveries q) h = tt
-has_program (request.Rename q) h = absurd h
-
-pub begins_work : (w v : World system) (t : ℕ) (q : Request) → HasProgram q → IsFree w
+pub begins_work : (w v : World system) (t : ℕ) (q : Request) → IsFree w
     → Next system w (Begin t q) theory.Begun v → IsAtWork (between system w) t q v
-begins_work w v t q p f n = record {
-  live = live_step w (step.Begin t q) theory.Begun v p f.live n;
+begins_work w v t q f n = record {
+  live = next_live w (Begin t q) theory.Begun v f.live n;
   open_alone = begun_alone system laws w v t q f.quiet n;
 }
 
 pub goes_on_at_work : (b : Between system) (t : ℕ) (q : Request) (w v : World system) → IsAtWork b t q w
     → Next system w (Advance t) theory.More v → IsAtWork b t q v
 goes_on_at_work b t q w v h n = record {
-  live = live_step w (step.Advance t) theory.More v tt h.live n;
+  live = next_live w (Advance t) theory.More v h.live n;
   open_alone = more_alone system laws b t q w v h.open_alone n;
 }
 
@@ -101,7 +90,7 @@ ends_work b t q w v (advanced.Committed m) last h (y, is, n) other =
       y,
       is,
       k.0,
-      record { live = live_step w (step.Advance t) (theory.Committed m y) v tt h.live n.0; quiet = k.1 },
+      record { live = next_live w (Advance t) (theory.Committed m y) v h.live n.0; quiet = k.1 },
     )
 ends_work b t q w v (advanced.Refused e) last h n other = λ s. refused b t q w v e h n.0 s
 
@@ -112,7 +101,7 @@ pub purge_keeps : (w v : World system) (m : ℕ) (a : Answer system) → IsFree 
 purge_keeps w v m a f n =
     let s : Stays system laws w v = purge_stays system laws w v m a n in (
       record {
-        live = live_step w (step.Purge m) a v tt f.live n;
+        live = next_live w (Purge m) a v f.live n;
         quiet = λ u. ap (λ (g : ℕ → Option (Open system)). g u) s.active ∙ f.quiet u;
       },
       s.same,

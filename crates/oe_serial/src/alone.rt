@@ -1,7 +1,6 @@
 //! One transaction alone in a core: it is begun where nothing is open, carried out to its end, and
 //! forgotten once its answer is known, so that no more work is kept than one transaction's.
 ghost use Rattle.std.specs.Prelude.{◌≡◌, IfOk};
-ghost use Rattle.oe_admission.specs.Programs.{HasProgram};
 ghost use Rattle.oe_core.specs.Core.{world_of, last_reply};
 ghost use Rattle.oe_model.specs.System.{system};
 ghost use Rattle.oe_serial.specs.InOrder.{between};
@@ -22,8 +21,7 @@ pub(crate) enum Outcome {
 
 // Begins a transaction and carries it out to its end.
 fn carried_out(core: &mut Core, terminal: Terminal, request: &Request) -> Advanced
-    requires program { HasProgram request.now }
-    requires free { IsFree (world_of core.old) }
+    requires { IsFree (world_of core.old) }
     ensures { Ends (between system (world_of core.old)) terminal request.now result
         (last_reply core.new terminal) (world_of core.new) }
 {
@@ -66,8 +64,7 @@ pub(crate) fn answered(
     request: &Request,
     out: &mut AnswerText,
 ) -> Result<Outcome, Shortage>
-    requires program { HasProgram request.now }
-    requires free { IsFree (world_of core.old) }
+    requires { IsFree (world_of core.old) }
     ensures { IfOk result (λ o. IsAnswered (between system (world_of core.old)) terminal
         request.now o out.new.items (world_of core.new)) }
 {

@@ -83,15 +83,14 @@ district_left s new k x y h was sound =
     }
 
 pub customer_left : (s : Places) (new : List (CustomerKey × Option Customer)) (k : CustomerKey) (x y : Customer)
-    → RewritesRow customer_cmp s.customers new k x → get (rows s).customers k ≡ Some y → x.name.last ≡ y.name.last
-    → x.name.first ≡ y.name.first
+    → RewritesRow customer_cmp s.customers new k x → get (rows s).customers k ≡ Some y
     → IsSound (rows s) → IsLeft (UpdateCustomer k x) s (record s { customers = new })
-customer_left s new k x y h was last first sound =
+customer_left s new k x y h was sound =
     let e : rows (record s { customers = new }) ≡ changed (UpdateCustomer k x) (rows s) =
     ap (λ t. record (rows s) { customers = t }) h.rows in
     record {
       sound = subst IsSound (sym e)
-          (sound_changed (UpdateCustomer k x) (rows s) ((y, was, last, first))
+          (sound_changed (UpdateCustomer k x) (rows s) (ap is_some was)
           (customer_numbered (rows s) k sound (ap is_some was)) sound);
       rows = e;
       places = same_customers s new k (Some x) h.places

@@ -1,6 +1,7 @@
-//! Columns that transactions write, set in their rows' places. It takes no memory, each column is
-//! in its range by type, and none is part of a key or refers to another row.
-ghost use Rattle.std.specs.Prelude.{◌≡◌, Some, IsSome};
+//! Columns that transactions write, set in their rows' places. Each column is in its range by type,
+//! and none is part of a key or refers to another row. Only another C_LAST takes memory, since
+//! customers are found by it; where that is refused the tables are as before.
+ghost use Rattle.std.specs.Prelude.{◌≡◌, Some, IsSome, OnOk, OnErr};
 ghost use Rattle.std.specs.FinMap.{get};
 ghost use Rattle.oe_rows.specs.Credit.{with_entry};
 ghost use Rattle.oe_rows.specs.Item.{with_counters};
@@ -10,6 +11,8 @@ ghost use Rattle.oe_rows.specs.declared.customers.Customer.{Customer};
 ghost use Rattle.oe_rows.specs.declared.orders.Order.{Order};
 ghost use Rattle.oe_rows.specs.declared.orders.OrderLine.{OrderLine};
 ghost use Rattle.oe_rows.specs.declared.items.Stock.{Stock};
+ghost use Rattle.oe_index.specs.Listed.{HasOtherName};
+ghost use Rattle.oe_model.specs.Rename.{with_names};
 ghost use Rattle.oe_model.specs.Changes.{changed, UpdateWarehouse, UpdateDistrict, UpdateCustomer, UpdateOrder, UpdateOrderLine, UpdateStock};
 ghost use Rattle.oe_store.specs.Places.{rows, SamePlaces};
 
@@ -18,7 +21,7 @@ use oe_rows::{
     Account, CustomerKey, DistrictKey, OrderKey, OrderLineKey, StockCounters, StockKey,
     WarehouseKey,
 };
-use oe_values::{Carrier, OrderNumber, Stamp, Text, YearToDate};
+use oe_values::{Carrier, NoMemory, OrderNumber, Stamp, Text, YearToDate};
 
 impl Tables {
     /// Sets W_YTD of the WAREHOUSE row of a key.
@@ -78,6 +81,26 @@ impl Tables {
         ensures places { SamePlaces self.old self.new }
     {
         self.customers.set_bad_credit(key, account, entry);
+    }
+
+    /// Sets C_LAST and C_FIRST of the CUSTOMER row of a key. `NoMemory` comes only where C_LAST is
+    /// another; the tables are then as before.
+    pub fn set_customer_names(
+        &mut self,
+        key: &CustomerKey,
+        last: &Text<0, 16>,
+        first: &Text<0, 16>,
+    ) -> Result<(), NoMemory>
+        requires { IsSome (get (rows self.old).customers key.now) }
+        ensures rows { OnOk result
+            ((c : Customer) → get (rows self.old).customers key.now ≡ Some c → rows self.new
+            ≡ changed (UpdateCustomer key.now (with_names last.now first.now c)) (rows self.old)) }
+        ensures places { SamePlaces self.old self.new }
+        ensures renamed { OnErr result
+            (HasOtherName last.now (get (rows self.old).customers key.now)) }
+        ensures err { OnErr result (self.new ≡ self.old) }
+    {
+        self.customers.set_names(key, last, first)
     }
 
     /// Sets O_CARRIER_ID of the ORDER row of a key.

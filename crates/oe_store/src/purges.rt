@@ -1,10 +1,11 @@
 //! What a purge of old commits gives up of the tables: places of rows that nobody puts back any
-//! more.
+//! more, and names that nobody finds a customer by.
 ghost use Rattle.std.specs.Prelude.{◌≡◌};
 ghost use Rattle.oe_store.specs.Places.{rows, GivesUp, IsSwept};
 
 use crate::tables::Tables;
-use oe_rows::{Key, NewOrderKey};
+use oe_rows::{CustomerKey, Key, NewOrderKey};
+use oe_values::Text;
 
 impl Tables {
     /// Gives up the place of a NEW-ORDER key without a row. Where the key has a row, or no place,
@@ -14,6 +15,14 @@ impl Tables {
         ensures places { GivesUp self.old self.new (Key.NewOrder key) }
     {
         self.new_orders.give_up(&key);
+    }
+
+    /// Takes a customer off the list of a C_LAST, where its own C_LAST has another list. It takes no
+    /// memory.
+    pub fn forget_name(&mut self, key: &CustomerKey, last: &Text<0, 16>)
+        ensures { self.new ≡ self.old }
+    {
+        self.customers.forget_name(key, last);
     }
 
     /// Gives up the place of each key without a row, in all tables. It takes no memory.

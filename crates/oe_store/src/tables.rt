@@ -2,7 +2,7 @@
 //!
 //! `NineTables` keeps any rows. `Tables` keeps rows that meet the schema, by its invariant: each
 //! reference leads to a row (clause 1.3). So there is no call that sets a row of `Tables` without
-//! looking at what refers to it. Only an insert takes memory.
+//! looking at what refers to it. Only an insert and another C_LAST take memory.
 ghost use Rattle.std.specs.Prelude.{◌≡◌, ◌↔◌, IsTrue};
 ghost use Rattle.std.specs.Option.{option_copied};
 ghost use Rattle.std.specs.FinMap.{get, empty};

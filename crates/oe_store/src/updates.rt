@@ -1,8 +1,10 @@
-//! Updates and deletes of rows. Each gives the row before, and takes no memory.
-ghost use Rattle.std.specs.Prelude.{◌≡◌, Some};
+//! Updates and deletes of rows. Each gives the row before. Only an update of C_LAST takes memory,
+//! since customers are found by it; where that is refused the tables are as before.
+ghost use Rattle.std.specs.Prelude.{◌≡◌, Some, IfOk, OnOk, OnErr};
 ghost use Rattle.std.specs.FinMap.{get};
 ghost use Rattle.oe_model.specs.Changes.{changed, UpdateWarehouse, UpdateDistrict, UpdateCustomer, UpdateOrder, UpdateOrderLine, UpdateStock, DeleteNewOrder};
 ghost use Rattle.oe_model.specs.Meets.{Accepts};
+ghost use Rattle.oe_index.specs.Listed.{HasOtherName};
 ghost use Rattle.oe_store.specs.Places.{rows, SamePlaces};
 
 use crate::tables::Tables;
@@ -10,6 +12,7 @@ use oe_rows::{
     Customer, CustomerKey, District, DistrictKey, NewOrder, NewOrderKey, Order, OrderKey,
     OrderLine, OrderLineKey, Stock, StockKey, Warehouse, WarehouseKey,
 };
+use oe_values::NoMemory;
 
 impl Tables {
     /// Puts another WAREHOUSE row in the place of a key's, and answers the row before.
@@ -32,14 +35,19 @@ impl Tables {
         self.districts.swap(&key, row)
     }
 
-    /// Puts another CUSTOMER row in the place of a key's, and answers the row before.
-    pub fn update_customer(&mut self, key: CustomerKey, row: Customer) -> Customer
+    /// Puts another CUSTOMER row in the place of a key's, and answers the row before. `NoMemory`
+    /// comes only where C_LAST is another; the tables are then as before.
+    pub fn update_customer(&mut self, key: CustomerKey, row: Customer) -> Result<Customer, NoMemory>
         requires { Accepts (UpdateCustomer key row) (rows self.old) }
-        ensures before { get (rows self.old).customers key ≡ Some result }
-        ensures rows { rows self.new ≡ changed (UpdateCustomer key row) (rows self.old) }
+        ensures before { IfOk result (λ c. get (rows self.old).customers key ≡ Some c) }
+        ensures rows { OnOk result
+            (rows self.new ≡ changed (UpdateCustomer key row) (rows self.old)) }
         ensures places { SamePlaces self.old self.new }
+        ensures renamed { OnErr result
+            (HasOtherName row.name.last (get (rows self.old).customers key)) }
+        ensures err { OnErr result (self.new ≡ self.old) }
     {
-        self.customers.swap(&key, row)
+        self.customers.replace(&key, row)
     }
 
     /// Puts another ORDER row in the place of a key's, and answers the row before.

@@ -104,6 +104,7 @@ what stands in their columns, come last. What a line does, and behind the colon 
   begin .. delivery  the terminal begins the delivery of the oldest order of the district that
                      is not delivered; without a district the same in each of the warehouse's
                      ten districts, as one transaction, whose mark moves before each: begun
+  begin .. rename    the terminal begins a change of a customer's last and first name: begun
   next               carries out the next stage of the terminal's transaction: more, or, at its
                      end,
                      commit MOMENT payment CUSTOMER LAST_NAME CREDIT BALANCE, or
@@ -113,7 +114,8 @@ what stands in their columns, come last. What a line does, and behind the colon 
                      commit MOMENT delivery ORDER CUSTOMER SUM, or
                      commit MOMENT delivery skipped, where no order waits, or
                      commit MOMENT deliveries and for each district
-                     DISTRICT:ORDER:CUSTOMER:SUM or DISTRICT:skipped
+                     DISTRICT:ORDER:CUSTOMER:SUM or DISTRICT:skipped, or
+                     commit MOMENT rename CUSTOMER LAST_NAME FIRST_NAME
   run                carries out its stages up to the first that is not answered more: that
                      stage's answer alone
   save               marks where the terminal's transaction stands: saved

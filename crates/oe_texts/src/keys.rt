@@ -1,5 +1,5 @@
 //! Keys as their columns parted by one byte, and the names of locks, as answers print them.
-ghost use Rattle.std.specs.Prelude.{◌≡◌, ◌≤◌, ◌+◌, ◌++◌};
+ghost use Rattle.std.specs.Prelude.{◌≡◌, ◌≤◌, ◌+◌, ◌∷◌, ◌++◌, [], decimal};
 ghost use Rattle.std.specs.List.{join_with_byte};
 ghost use Rattle.arrayvec.specs.ArrayVec.{array_vec_len};
 ghost use Rattle.oe_rows.specs.Key.{table_of, table_name};
@@ -12,6 +12,7 @@ use oe_rows::{
     CustomerKey, DistrictKey, HistoryKey, ItemKey, Key, Name, NewOrderKey, OrderKey, OrderLineKey,
     StockKey,
 };
+use oe_values::ShortText;
 
 /// Appends D_W_ID, D_ID.
 fn district(out: &mut Pending, key: DistrictKey, between: u8)
@@ -143,11 +144,23 @@ pub fn row(out: &mut Pending, key: &Key)
     columns(out, key, b' ');
 }
 
+/// Appends D_W_ID, D_ID and C_LAST, parted by commas.
+fn last_name(out: &mut Pending, key: DistrictKey, last: &ShortText)
+    requires { array_vec_len out.old + 38 ≤ SIZE }
+    ensures items { out.new.items ≡ out.old.items
+        ++ join_with_byte 44 (decimal key.warehouse ∷ decimal key.district ∷ last.now ∷ []) }
+    ensures len { array_vec_len out.new ≤ array_vec_len out.old + 38 }
+{
+    district(out, key, b',');
+    out.push(b',');
+    text(out, last.as_str().as_bytes());
+}
+
 /// Appends the name of a lock.
 pub fn name(out: &mut Pending, name: &Name)
-    requires { array_vec_len out.old + 43 ≤ SIZE }
+    requires { array_vec_len out.old + 45 ≤ SIZE }
     ensures items { out.new.items ≡ out.old.items ++ name_text name.now }
-    ensures len { array_vec_len out.new ≤ array_vec_len out.old + 43 }
+    ensures len { array_vec_len out.new ≤ array_vec_len out.old + 45 }
 {
     match *name {
         Name::Warehouse(key) => {
@@ -173,6 +186,10 @@ pub fn name(out: &mut Pending, name: &Name)
         Name::Stock(key) => {
             text(out, b"Stock(");
             stock(out, key, b',');
+        }
+        Name::Names(key, last) => {
+            text(out, b"Names(");
+            last_name(out, key, &last);
         }
     }
     out.push(b')');

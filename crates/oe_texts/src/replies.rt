@@ -12,10 +12,10 @@ use crate::columns::{
 use crate::pending::{Pending, SIZE, text};
 use oe_requests::{
     Brand, DistrictDeliveries, DistrictDelivery, LineReplies, LineReply, OrderStatus, PaymentReply,
-    QueryReply, RenameReply, Reply, ReplyRef, StatusLine, StatusReply,
+    QueryReply, Reply, ReplyRef, StatusLine, StatusReply,
 };
 use oe_rows::Credit;
-use oe_values::{Cents, OrderNumber, Text};
+use oe_values::{Cents, CustomerNumber, FirstName, LastName, OrderNumber, Text};
 
 /// Appends `payment <C_ID> <C_LAST> <C_CREDIT> <new C_BALANCE>`.
 #[inline(always)]
@@ -151,15 +151,16 @@ fn deliveries(out: &mut Pending, reply: &DistrictDeliveries)
 }
 
 /// Appends `rename <C_ID> <C_LAST> <C_FIRST>`.
-fn rename(out: &mut Pending, reply: &RenameReply)
+fn rename(out: &mut Pending, customer: CustomerNumber, last: &LastName, first: &FirstName)
     requires { array_vec_len out.old + 51 ≤ SIZE }
-    ensures items { out.new.items ≡ out.old.items ++ rename_text reply.now }
+    ensures items { out.new.items ≡ out.old.items
+        ++ rename_text (record { customer = customer; last = last.now; first = first.now }) }
     ensures len { array_vec_len out.new ≤ array_vec_len out.old + 51 }
 {
     text(out, b"rename ");
-    small_then(out, reply.customer.get(), b' ');
-    text_then(out, reply.last.as_str(), b' ');
-    text(out, reply.first.as_str().as_bytes());
+    small_then(out, customer.get(), b' ');
+    text_then(out, last.as_str(), b' ');
+    text(out, first.as_str().as_bytes());
 }
 
 /// Appends what a transaction replies when it has committed.
@@ -180,7 +181,7 @@ pub(crate) fn reply(out: &mut Pending, reply: &Reply)
         ),
         Reply::Delivery(reply) => delivery(out, *reply),
         Reply::Deliveries(reply) => deliveries(out, reply),
-        Reply::Rename(reply) => rename(out, reply),
+        Reply::Rename(reply) => rename(out, reply.customer, &reply.last, &reply.first),
     }
 }
 
@@ -201,6 +202,11 @@ pub(crate) fn lent_reply(out: &mut Pending, reply: &ReplyRef)
         } => new_order(out, *order, last, *credit, *total, done),
         ReplyRef::Delivery(reply) => delivery(out, *reply),
         ReplyRef::Deliveries(reply) => deliveries(out, reply),
+        ReplyRef::Rename {
+            customer,
+            last,
+            first,
+        } => rename(out, *customer, last, first),
     }
 }
 

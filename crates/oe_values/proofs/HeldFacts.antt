@@ -11,7 +11,7 @@ use Rattle.std.proofs.lemmas.Slice.{take-put_mid}
 use Rattle.std.proofs.lemmas.List.Sums.{prefix_len-le-length}
 use Rattle.std.proofs.lemmas.List.Elements.{All-head, All-tail}
 use borrow.Rule.Slice.PartMut.{put_mid}
-use Rattle.oe_values.specs.Held.{zeros_from, in_two_bytes}
+use Rattle.oe_values.specs.Held.{zeros_from, in_two_bytes, with_zeros}
 use Rattle.oe_values.specs.Text.{IsPrintable}
 
 -- no more zeros than bytes
@@ -61,6 +61,13 @@ pub held_text : (most : ℕ) (bs : List ℕ) → All IsPrintable bs
 held_text most bs h =
     ap (λ n. take n (bs ++ drop (length bs) (replicate most 0))) (held_end most bs h)
     ∙ take_at bs (drop (length bs) (replicate most 0)) (length bs) refl
+
+-- nothing but zeros stands behind it
+pub held_zeros : (most : ℕ) (bs : List ℕ) → All IsPrintable bs
+    → bs ++ drop (length bs) (replicate most 0) ≡ with_zeros most
+    (take (zeros_from (bs ++ drop (length bs) (replicate most 0))) (bs ++ drop (length bs) (replicate most 0)))
+held_zeros most bs h =
+    ap (λ z. bs ++ z) (drop-replicate (length bs) most 0) ∙ ap (with_zeros most) (sym (held_text most bs h))
 
 -- bytes written over the first ones, and the front of others behind them
 pub joined : (whole first rest held part : List ℕ) (k j : ℕ) → length first ≤ length whole

@@ -41,7 +41,7 @@ fn in_two_bytes(number: usize) -> u16
 
 /// Writes bytes over the first ones of others.
 #[inline]
-fn put(held: &mut [u8], bytes: &[u8])
+pub(crate) fn put(held: &mut [u8], bytes: &[u8])
     requires { length bytes.now ≤ length held.old }
     ensures { held.new ≡ bytes.now ++ drop (length bytes.now) held.old }
 {
@@ -71,7 +71,7 @@ fn first_zero(bytes: &[u8]) -> Option<usize>
 
 /// Tells where the zeros begin, by looking for the first.
 #[inline(never)]
-fn zeros_from(bytes: &[u8]) -> usize
+pub(crate) fn zeros_from(bytes: &[u8]) -> usize
     ensures { result ≡ zeros_from bytes.now }
 {
     match first_zero(bytes) {

@@ -25,4 +25,4 @@ pub use numbers::{
 pub use stamps::{SECONDS, Stamp};
 pub use table_keys::{ShelvedKey, TableKey};
 pub use terminals::{PerTerminal, empty_slots};
-pub use texts::{FirstName, LastName, Text};
+pub use texts::{FirstName, LastName, ShortText, Text};

@@ -7,9 +7,13 @@ ghost use Rattle.std.specs.Prelude.{◌≡◌, ◌↔◌, ◌≤◌, List, ℕ, 
 ghost use Rattle.std.specs.List.{All};
 ghost use Rattle.std.specs.Cmp.{partial_equiv_from_equiv};
 ghost use Rattle.std.specs.Cmp.Lexicographic.{pointwise, nat_list_eq_equiv};
+ghost use Rattle.std.specs.Cmp.Rules.{hashing};
+ghost use Rattle.std.specs.Hash as fed;
+ghost use Rattle.std.proofs.Common.{rules};
 ghost use Rattle.oe_values.specs.Text.{IsText, IsPrintable, IsCapital, IsCapitalOrDigit, IsLastName, IsFirstName};
 
-use crate::held::{Held, join};
+use crate::held::{Held, join, put, zeros_from};
+use std::hash::{Hash, Hasher};
 use std::marker::Model;
 use std::str;
 
@@ -129,6 +133,77 @@ impl<const LEAST: usize, const MOST: usize> Text<LEAST, MOST> {
     {
         let held = self.held.copied();
         Text { held }
+    }
+}
+
+/// A text of at most 16 printable ASCII bytes, which is copied as a number is: C_LAST in the name of
+/// a lock. No byte but zeros stands behind it, so that equal texts are the same value.
+#[derive(Clone, Copy)]
+pub struct ShortText {
+    bytes: [u8; 16],
+}
+
+impl Model for ShortText {
+    ghost use Rattle.std.specs.Prelude.{◌≡◌, ℕ, List, take};
+    ghost use Rattle.std.proofs.Common.{sym};
+    ghost use Rattle.oe_values.specs.Held.{zeros_from, with_zeros};
+    ghost use Rattle.oe_values.specs.Text.{IsText};
+
+    ghost Value = { List ℕ };
+
+    ghost view = { λ t. take (zeros_from t.bytes) t.bytes };
+
+    ghost invariant = { λ t. IsText 0 16 (take (zeros_from t.bytes) t.bytes)
+        × (t.bytes ≡ with_zeros 16 (take (zeros_from t.bytes) t.bytes)) };
+
+    ghost inverse = { λ t. record { bytes = with_zeros 16 t } };
+
+    ghost inverse_ok = { λ t kept i. record { bytes = sym kept.1 i } };
+}
+
+impl ShortText {
+    /// Gives the same text, to be copied.
+    pub fn of(text: &Text<0, 16>) -> Self
+        ensures { result ≡ text.now }
+    {
+        let mut bytes = [0; 16];
+        put(&mut bytes, text.as_str().as_bytes());
+        ShortText { bytes }
+    }
+
+    /// Gives the text.
+    pub fn as_str(&self) -> &str
+        ensures value { result.now ≡ self.now }
+        ensures fits { IsText 0 16 self.now }
+    {
+        let end = zeros_from(&self.bytes);
+        let bytes = &self.bytes[..end];
+        ascii(bytes)
+    }
+}
+
+impl PartialEq for ShortText {
+    ghost eq = { λ s t. pointwise nat_eq s t };
+
+    ghost laws = { partial_equiv_from_equiv nat_list_eq_equiv };
+
+    fn eq(&self, other: &Self) -> bool {
+        let other = other.as_str();
+        self.as_str() == other
+    }
+}
+
+impl Eq for ShortText {
+    ghost laws = { nat_list_eq_equiv };
+}
+
+impl Hash for ShortText {
+    ghost hash_input = { fed.str };
+
+    ghost respects_eq = { Prim.search (hashing, rules) };
+
+    fn hash<H: Hasher>(&self, state: &mut H) {
+        self.as_str().hash(state);
     }
 }
 

@@ -30,7 +30,7 @@ use Rattle.oe_log.specs.Moments.{store_with}
 use Rattle.oe_versions.specs.Versions.{version, Stand}
 use Rattle.oe_versions.proofs.LastingFacts.{order_is, rows_last}
 use Rattle.oe_versions.proofs.ChosenFacts.{rows_at, rows_some, rows_none, all_is}
-use Rattle.oe_versions.proofs.LineFacts.{left, right, lower, same_number}
+use Rattle.oe_versions.proofs.ClimbFacts.{left, right, lower, same_number}
 
 abbrev Entry : Type 0
 Entry = OrderKey × Order

@@ -4,19 +4,15 @@ use Rattle.std.proofs.Common.{append_assoc, refl, sym, ap, ◌∙◌, subst}
 use Rattle.std.specs.Prelude.{is_some, option_map}
 use Rattle.std.specs.FinMap.{get}
 use Rattle.std.proofs.lemmas.List.{take-append-drop}
-use Rattle.std.specs.Ordering.{eq_by_cmp, nat_cmp}
-use Rattle.std.specs.Cmp.Lexicographic.{slice_cmp}
-use Rattle.oe_rows.specs.declared.keys.CustomerKey.{CustomerKey}
 use Rattle.oe_rows.specs.declared.keys.Key.{Key}
 use Rattle.oe_rows.specs.declared.keys.Key.TheVariants as key
-use Rattle.oe_rows.specs.declared.customers.Customer.{Customer}
 use Rattle.oe_rows.specs.declared.histories.History.{History}
 use Rattle.oe_rows.specs.declared.orders.Order.{Order}
 use Rattle.oe_rows.specs.declared.rows.Row.{Row}
 use Rattle.oe_rows.specs.declared.rows.Row.TheVariants as row
 use Rattle.oe_theory.specs.World.{set}
 use Rattle.oe_theory.specs.Undo.{unwind, unwind_open, unwind_commits, Finds, GoesBack, open_records, commit_records}
-use Rattle.oe_theory.specs.Store.{Store, all_below, commits_after, version_of}
+use Rattle.oe_theory.specs.Store.{Store, all_below, commits_after}
 use Rattle.oe_theory.specs.StoreTheorems.{IsStanding, AreAllIn}
 use Rattle.oe_theory.proofs.StoreFacts.{below}
 use Rattle.oe_theory.proofs.StoreClosing.{each_goes_back_here, store_is_orderly}
@@ -25,16 +21,13 @@ use Rattle.oe_model.specs.Changes.{Change, InsertHistory, InsertNewOrder, Insert
 use Rattle.oe_model.specs.Changes.{UpdateDistrict, UpdateCustomer, UpdateOrder, UpdateOrderLine, UpdateStock}
 use Rattle.oe_model.specs.Changes.{DeleteNewOrder, key_of, row_of, Record, record_key, restore, put_back}
 use Rattle.oe_rows.specs.declared.layouts.Layout.{Layout}
-use Rattle.oe_model.specs.Locks.{first_if_named}
 use Rattle.oe_model.specs.Meets.{Meets, Accepts}
 use Rattle.oe_model.specs.System.{system, terminal_limit}
 use Rattle.oe_model.proofs.ChangeFacts.{accepted_meets}
-use Rattle.oe_theory.proofs.Sets.{some_inj}
-use Rattle.oe_model.proofs.NamesFacts.{same_namesakes}
 use Rattle.oe_model.proofs.PresenceFacts.{some-map}
 use Rattle.oe_model.proofs.RowFacts.{key_true, at_put_back, in_layout_key}
 use Rattle.oe_model.proofs.SystemLaws.{laws}
-use Rattle.oe_versions.specs.Lasting.{names_of, Lasts, Rows_last, Names_last, Versions_meet}
+use Rattle.oe_versions.specs.Lasting.{Lasts, Rows_last, Versions_meet}
 
 itself : (k : Key) (v : Option Row) → Lasts k v v
 itself (key.Warehouse k) v = refl
@@ -77,8 +70,7 @@ by_change (InsertOrder k x) on a = λ y e. absurd (absent_order (get on.orders k
 by_change (InsertOrderLine k x) on a = λ h. refl
 by_change (UpdateWarehouse k x) on a = some-map row.Warehouse (get on.warehouses k) ∙ a
 by_change (UpdateDistrict k x) on a = some-map row.District (get on.districts k) ∙ a
-by_change (UpdateCustomer k x) on a =
-    ap (λ v. names_of (option_map row.Customer v)) a.1 ∙ (λ i. Some (sym a.3 i, sym a.2 i))
+by_change (UpdateCustomer k x) on a = some-map row.Customer (get on.customers k) ∙ a
 by_change (UpdateOrder k x) on a = λ y e.
     let is : a.0 ≡ y = order_is a.0 y (sym (ap (option_map row.Order) a.1) ∙ e) in
     (x, refl, a.2 ∙ ap (λ (z : Order). z.customer) is)
@@ -167,26 +159,6 @@ rows_last s m k h =
     (unwind_open_records s.undo.active (all_below system terminal_limit) s.tables))
     (by_records s.layout Meets (opens ++ commit_records system later) (commit_records system before_them) s.tables goes
     k)
-
-by_names : (a b : Option Customer) → names_of (option_map row.Customer a) ≡ names_of (option_map row.Customer b)
-    → (is_some a ≡ is_some b) × ((last : List ℕ) → first_if_named last a ≡ first_if_named last b)
-by_names None None e = (refl, λ last. refl)
-by_names None (Some y) e = let no : ⊥ = cc in absurd no
-by_names (Some x) None e = let no : ⊥ = cc in absurd no
-by_names (Some x) (Some y) e =
-    let p : (x.name.first, x.name.last) ≡ (y.name.first, y.name.last) = some_inj _ _ e in
-    (refl, λ last i. cond (eq_by_cmp (slice_cmp nat_cmp) (p i).1 last) (Some (p i).0) None)
-
-pub names_last : Names_last
-names_last s m h last stands =
-    let each : (k : CustomerKey)
-    → (is_some (get (version_of system s m).customers k) ≡ is_some (get s.tables.customers k))
-    × ((z : List ℕ) → first_if_named z (get (version_of system s m).customers k) ≡ first_if_named z
-    (get s.tables.customers k)) =
-    λ k. by_names (get (version_of system s m).customers k) (get s.tables.customers k)
-    (rows_last s m (key.Customer k) stands)
-    in
-    same_namesakes h last (version_of system s m).customers s.tables.customers (λ k. (each k).0) (λ k. (each k).1 last)
 
 pub versions_meet : Versions_meet
 versions_meet s m h = ((store_is_orderly system laws s h).good m).meets

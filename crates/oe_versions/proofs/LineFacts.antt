@@ -1,17 +1,13 @@
 -- The lines of an order, in their keys' order, have rising numbers; and those of a version are those of the tables'
 -- keys.
 use Rattle.std.proofs.lemmas.List.{append-nil}
-use Rattle.std.proofs.Common.{◌≡◌, ℕ, ◌-◌, ◌<◌, ◌≤◌, Bool, true, false, Option, None, Some, List, [], ◌∷◌, ◌++◌}
+use Rattle.std.proofs.Common.{◌≡◌, ℕ, ◌-◌, ◌<◌, ◌≤◌, Bool, true, Option, None, Some, List, [], ◌∷◌, ◌++◌}
 use Rattle.std.proofs.Common.{map, length}
 use Rattle.std.proofs.Common.{append_assoc, length-append, refl, sym, ap, ◌∙◌, subst, arith}
-use Rattle.std.specs.Prelude.{T, ◌&&◌, option_map}
+use Rattle.std.specs.Prelude.{T, option_map}
 use Rattle.std.specs.List.{cons_option}
 use Rattle.std.specs.Ordering.{eq_by_cmp, nat_cmp, ordering_then, is_lt}
-use Rattle.std.specs.declared.cmp.Ordering.{Ordering}
-use Rattle.std.specs.declared.cmp.Ordering.TheVariants.{Less, Equal, Greater}
 use Rattle.std.specs.FinMap.{FinMap, get, entries_sorted, retain_keys}
-use Rattle.std.specs.Cmp.{ranked, nat_cmp_is}
-use Rattle.std.specs.FinMap.Entries.{is_sorted, below_all}
 use Rattle.oe_rows.specs.Key.{order_cmp, order_line_cmp}
 use Rattle.oe_rows.specs.declared.keys.OrderKey.{OrderKey}
 use Rattle.oe_rows.specs.declared.keys.OrderLineKey.{OrderLineKey}
@@ -34,27 +30,7 @@ use Rattle.oe_log.specs.Moments.{store_with}
 use Rattle.oe_versions.specs.Versions.{version, Stand}
 use Rattle.oe_versions.proofs.LastingFacts.{rows_last}
 use Rattle.oe_versions.proofs.ChosenFacts.{rows_at, kept_is}
-
--- numbers rise, from more than so many on
-abbrev pub Climb : ℕ → List (OrderLineKey × OrderLine) → Type 0
-Climb n [] = Unit {0}
-Climb n (e ∷ es) = (n ≤ e.0.number - 1) × Climb e.0.number es
-
-pub left : (a b : Bool) → T (a && b) → T a
-left true b p = tt
-left false b p = p
-
-pub right : (a b : Bool) → T (a && b) → T b
-right true b p = p
-right false b p = absurd p
-
-pub lower : (x y : ℕ) (r : Ordering) → r ≡ nat_cmp x y → T (is_lt r) → x < y
-lower x y Less e h = ranked x y Less e
-lower x y Equal e h = absurd h
-lower x y Greater e h = absurd h
-
-pub same_number : (n m : ℕ) → n ≡ m → nat_cmp n m ≡ Equal
-same_number n m e = sym (nat_cmp_is n m Equal e)
+use Rattle.oe_versions.proofs.ClimbFacts.{Climb, climb, lower, same_number}
 
 line_below : (k : OrderKey) (a b : OrderLineKey) → order_of_line a ≡ k → order_of_line b ≡ k
     → T (is_lt (order_line_cmp a b)) → a.number < b.number
@@ -71,32 +47,13 @@ module _ (k : OrderKey) where
   abbrev is_own : OrderLineKey × OrderLine → Type 0
   is_own e = order_of_line e.0 ≡ k
 
-  climb_from : (e : OrderLineKey × OrderLine) (es : List (OrderLineKey × OrderLine))
-      → T (below_all order_line_cmp e.0 es) → T (is_sorted order_line_cmp es)
-      → is_own e → EachOf is_own es → Climb e.0.number es
-  climb_from e [] b s d ds = tt
-  climb_from e (f ∷ es) b s d ds =
-      let less : e.0.number < f.0.number = line_below k e.0 f.0 d ds.0
-      (left (is_lt (order_line_cmp e.0 f.0)) (below_all order_line_cmp e.0 es) b) in (
-        omega (arith, less),
-        climb_from f es (left (below_all order_line_cmp f.0 es) (is_sorted order_line_cmp es) s)
-            (right (below_all order_line_cmp f.0 es) (is_sorted order_line_cmp es) s) ds.0 ds.1,
-      )
-
-  climb : (es : List (OrderLineKey × OrderLine)) → T (is_sorted order_line_cmp es) → EachOf is_own es → Climb 0 es
-  climb [] s ds = tt
-  climb (e ∷ es) s ds = (
-    omega arith,
-    climb_from e es (left (below_all order_line_cmp e.0 es) (is_sorted order_line_cmp es) s)
-        (right (below_all order_line_cmp e.0 es) (is_sorted order_line_cmp es) s) ds.0 ds.1,
-  )
-
   abbrev own : OrderLineKey → Bool
   own l = eq_by_cmp order_cmp (order_of_line l) k
 
-  pub lines_climb : (lines : FinMap order_line_cmp OrderLine) → Climb 0 (lines_of k lines)
+  pub lines_climb : (lines : FinMap order_line_cmp OrderLine) → Climb (λ l. l.number) 0 (lines_of k lines)
   lines_climb lines =
-      climb (lines_of k lines) (entries_sorted (retain_keys lines own))
+      climb order_line_cmp (λ l. l.number) (λ l. order_of_line l ≡ k) (line_below k) (lines_of k lines)
+      (entries_sorted (retain_keys lines own))
       (each_of (λ e. (own e.0 ≡ true) × (get lines e.0 ≡ Some e.1)) is_own
       (λ e t. is_same order_total exact_order (order_of_line e.0) k t.0) (lines_of k lines)
       (kept_at order_line_total exact_order_line lines own))
@@ -133,7 +90,7 @@ module _ (ts : tables.Places) (u : SegmentLog) (m : ℕ) (k : OrderKey) where
     pub stand : EachOf (λ e. get (rows ts).order_lines e.0 ≡ Some e.1) es
     pub bound : ℕ
     pub few : length lines ≤ bound
-    pub climb : Climb bound es
+    pub climb : Climb (λ (l : OrderLineKey). l.number) bound es
 
   pub starts : Stand ts u → Fills [] (lines_of k (rows ts).order_lines)
   starts h = record {

@@ -8,6 +8,7 @@ pub mod laws;
 pub mod lines;
 pub mod moments;
 pub mod names;
+mod namesakes;
 pub mod rows;
 mod standing;
 

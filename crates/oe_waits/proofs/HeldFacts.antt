@@ -9,7 +9,7 @@ use Rattle.std.proofs.lemmas.List.{append-nil, length-append, take_more, take_al
 use Rattle.std.proofs.lemmas.List.Concat.{flat_map-append}
 use Rattle.std.proofs.lemmas.List.Elements.{filter_agree}
 use Rattle.oe_rows.specs.declared.locks.Name.{Name}
-use Rattle.oe_rows.specs.declared.locks.Name.TheVariants.{Warehouse, District, Customer, Order, Queue, Stock}
+use Rattle.oe_rows.specs.declared.locks.Name.TheVariants.{Warehouse, District, Customer, Order, Queue, Stock, Names}
 use Rattle.oe_locks.specs.Held.{is_name}
 use Rattle.oe_locks.specs.Listed.{stands}
 use Rattle.oe_locks.proofs.NameFacts.{name_true}
@@ -22,8 +22,8 @@ use Rattle.oe_waits.specs.Waits.{last_terminal}
 use Rattle.oe_waits.specs.Names.{all_names, holds, held_count, held_names, is_before, is_left, lesser, place, IsLeast}
 use Rattle.oe_waits.specs.Names.{IsInRanges}
 use Rattle.oe_waits.specs.Texts.{held_line, held_lines, texts_to}
-use Rattle.oe_waits.proofs.OrderFacts.{all_sorted, before_itself, before_trans, few_names, is_among_all}
-use Rattle.oe_waits.proofs.OrderFacts.{not_back, not_before, IsSorted, Stands}
+use Rattle.oe_waits.proofs.OrderFacts.{all_sorted, before_itself, before_trans, is_among_all, no_longer, not_back}
+use Rattle.oe_waits.proofs.OrderFacts.{not_before, of_filter, sorted_filter, IsSorted, Stands}
 use Rattle.oe_waits.proofs.TextFacts.{texts_step, texts_parted}
 
 -- the least name of a list
@@ -230,15 +230,6 @@ module _ (h : Name → Bool) where
             ∙ ap (λ b. cond b (x ∷ filter h xs) (filter h xs)) (before_in (h x) _ near)),
       )
 
-filter_short : (f : Name → Bool) (xs : List Name) → length (filter f xs) ≤ length xs
-filter_short f [] = omega arith
-filter_short f (x ∷ xs) = by_test (f x) (filter_short f xs)
-  where
-    by_test : (b : Bool) → length (filter f xs) ≤ length xs
-        → length (cond b (x ∷ filter f xs) (filter f xs)) ≤ length (x ∷ xs)
-    by_test true k = omega (arith, k)
-    by_test false k = omega (arith, k)
-
 -- a terminal's names up to a place, of all names
 abbrev pub shown_names : World system → ℕ → List ℕ → List Name
 shown_names w t p = up_to (holds w t) p all_names
@@ -246,25 +237,41 @@ shown_names w t p = up_to (holds w t) p all_names
 abbrev pub shown_lines : World system → ℕ → List ℕ → List ℕ
 shown_lines w t p = flat_map (held_line w t) (shown_names w t p)
 
-abbrev pub first_place : List ℕ
-first_place = 0 ∷ 0 ∷ 0 ∷ 0 ∷ []
-
-all_behind : (n : Name) → is_before first_place (place n) ≡ true
+-- all names are behind the empty place
+all_behind : (n : Name) → is_before [] (place n) ≡ true
 all_behind (Warehouse k) = refl
 all_behind (District k) = refl
 all_behind (Customer k) = refl
 all_behind (Order k) = refl
 all_behind (Queue k) = refl
 all_behind (Stock k) = refl
+all_behind (Names k last) = refl
 
-pub none_shown : (w : World system) (t : ℕ) → shown_names w t first_place ≡ []
-none_shown w t = none_up_to (holds w t) first_place all_names (λ n m. all_behind n)
+pub none_shown : (w : World system) (t : ℕ) → shown_names w t [] ≡ []
+none_shown w t = none_up_to (holds w t) [] all_names (λ n m. all_behind n)
 
-pub few_shown : (w : World system) (t : ℕ) (p : List ℕ) → length (shown_names w t p) ≤ 2_000_000_000
+pub few_shown : (w : World system) (t : ℕ) (p : List ℕ) → length (shown_names w t p) ≤ length (held_names w t)
 few_shown w t p =
-    let short = filter_short (λ n. holds w t n && not (is_before p (place n))) all_names in
-    let few = few_names in
-    omega (arith, short, few)
+    let rest = rest_of (holds w t) p all_names all_sorted in
+    let both = sym (length-append (shown_names w t p) rest.0) ∙ ap length rest.1 in
+    omega (arith, both)
+
+-- a terminal holds no more names than stand on a list with all that it holds
+stands_on : (xs : List Name) (q : Name) → stands xs q ≡ true → Stands q xs
+stands_on [] q e = absurd (true≢false (sym e))
+stands_on (x ∷ xs) q e = elim (or_cases (is_name q x) (stands xs q) e) [
+  | inl h ↦ inl (name_true q x h)
+  | inr h ↦ inr (stands_on xs q h)
+]
+
+pub few_held : (w : World system) (t : ℕ) (xs : List Name)
+    → ((q : Name) → stands xs q ≡ false → held_by w t q ≡ None) → length (held_names w t) ≤ length xs
+few_held w t xs listed = no_longer (held_names w t) xs (sorted_filter (holds w t) all_names all_sorted)
+    (λ q m. by_list q (of_filter (holds w t) all_names q m).1 (cases_Bool (stands xs q)))
+  where
+    by_list : (q : Name) → holds w t q ≡ true → (stands xs q ≡ true) ⊎ (stands xs q ≡ false) → Stands q xs
+    by_list q h (inl m) = stands_on xs q m
+    by_list q h (inr m) = absurd (true≢false (sym h ∙ ap is_some (listed q m)))
 
 pub one_shown : (w : World system) (t : ℕ) (p : List ℕ) (n : Name) → IsInRanges n → IsLeast (is_left w t p) n
     → shown_names w t (place n) ≡ shown_names w t p ++ n ∷ []

@@ -1,19 +1,23 @@
 -- Lists of names in their order: which names stand there, and that all names stand so, each once.
-use Rattle.std.proofs.Common.{◌≡◌, ℕ, zero, suc, ◌+◌, ◌*◌, ◌≤◌, ◌<◌, ◌==◌, Bool, true, false, cond, List, [], ◌∷◌, ◌++◌}
-use Rattle.std.proofs.Common.{length, refl, sym, ap, ◌∙◌, subst, inl, inr, arith, suc-mul, zero-mul, lt-ltb}
+use Rattle.std.proofs.Common.{◌≡◌, ℕ, zero, suc, ◌+◌, ◌-◌, ◌≤◌, ◌<◌, ◌==◌, Bool, true, false, cond, List, [], ◌∷◌, ◌++◌}
+use Rattle.std.proofs.Common.{length, map, refl, sym, ap, ◌∙◌, subst, inl, inr, arith, lt-ltb}
 use Rattle.std.specs.Prelude.{◌⊎◌, ◌≢◌}
+use Rattle.std.specs.List.{filter, All}
 use Rattle.std.specs.declared.cmp.Ordering.{Ordering}
 use Rattle.std.specs.declared.cmp.Ordering.TheVariants.{Less, Equal, Greater}
 use Rattle.std.specs.Ordering.{is_lt, nat_cmp, ordering_then, ordering_reverse}
 use Rattle.std.specs.Cmp.{tied_itself, nat_cmp_total}
 use Rattle.std.specs.Cmp.Lexicographic.{slice_cmp, nat_list_cmp_total}
 use Rattle.std.proofs.lemmas.Bool.{cases_eq, true≢false}
-use Rattle.std.proofs.lemmas.List.{length-append}
+use Rattle.std.proofs.lemmas.List.Elements.{All-head, All-tail}
+use Rattle.oe_values.specs.Text.{IsPrintable}
+use Rattle.oe_rows.specs.declared.keys.DistrictKey.{DistrictKey}
 use Rattle.oe_rows.specs.declared.locks.Name.{Name}
-use Rattle.oe_rows.specs.declared.locks.Name.TheVariants.{Warehouse, District, Customer, Order, Queue, Stock}
+use Rattle.oe_rows.specs.declared.locks.Name.TheVariants.{Warehouse, District, Customer, Order, Queue, Stock, Names}
 use Rattle.oe_waits.specs.Names.{last_warehouse, last_district, last_customer, last_order, last_item, lists_to}
 use Rattle.oe_waits.specs.Names.{of_warehouses, of_pairs, of_triples, all_names, IsInRanges, place, is_before}
 use Rattle.oe_waits.specs.Names.{warehouse_names, district_names, customer_names, order_names, queue_names, stock_names}
+use Rattle.oe_waits.specs.Names.{last_name_names, most_letters, printable_bytes, texts_within}
 
 -- the order of places
 
@@ -56,17 +60,19 @@ rest_before : (i : ℕ) (xs ys : List ℕ) → is_before xs ys ≡ true → is_b
 rest_before i xs ys e =
     ap (λ r. is_lt (ordering_then r (slice_cmp nat_cmp xs ys))) (tied_itself nat_cmp_total i) ∙ e
 
-second_before : (k v w a b c d : ℕ) → v < w → is_before (k ∷ v ∷ a ∷ b ∷ []) (k ∷ w ∷ c ∷ d ∷ []) ≡ true
-second_before k v w a b c d h = rest_before k (v ∷ a ∷ b ∷ []) (w ∷ c ∷ d ∷ [])
-    (first_before v w (a ∷ b ∷ []) (c ∷ d ∷ []) h)
+second_before : (k v w : ℕ) (xs ys : List ℕ) → v < w → is_before (k ∷ v ∷ xs) (k ∷ w ∷ ys) ≡ true
+second_before k v w xs ys h = rest_before k (v ∷ xs) (w ∷ ys) (first_before v w xs ys h)
 
-third_before : (k w x y a b : ℕ) → x < y → is_before (k ∷ w ∷ x ∷ a ∷ []) (k ∷ w ∷ y ∷ b ∷ []) ≡ true
-third_before k w x y a b h = rest_before k (w ∷ x ∷ a ∷ []) (w ∷ y ∷ b ∷ [])
-    (rest_before w (x ∷ a ∷ []) (y ∷ b ∷ []) (first_before x y (a ∷ []) (b ∷ []) h))
+third_before : (k w x y : ℕ) (xs ys : List ℕ) → x < y → is_before (k ∷ w ∷ x ∷ xs) (k ∷ w ∷ y ∷ ys) ≡ true
+third_before k w x y xs ys h = rest_before k (w ∷ x ∷ xs) (w ∷ y ∷ ys) (second_before w x y xs ys h)
+
+rest_of_three_before : (k w d : ℕ) (xs ys : List ℕ) → is_before xs ys ≡ true
+    → is_before (k ∷ w ∷ d ∷ xs) (k ∷ w ∷ d ∷ ys) ≡ true
+rest_of_three_before k w d xs ys h =
+    rest_before k (w ∷ d ∷ xs) (w ∷ d ∷ ys) (rest_before w (d ∷ xs) (d ∷ ys) (rest_before d xs ys h))
 
 fourth_before : (k w d x y : ℕ) → x < y → is_before (k ∷ w ∷ d ∷ x ∷ []) (k ∷ w ∷ d ∷ y ∷ []) ≡ true
-fourth_before k w d x y h = rest_before k (w ∷ d ∷ x ∷ []) (w ∷ d ∷ y ∷ [])
-    (rest_before w (d ∷ x ∷ []) (d ∷ y ∷ []) (rest_before d (x ∷ []) (y ∷ []) (first_before x y [] [] h)))
+fourth_before k w d x y h = rest_of_three_before k w d (x ∷ []) (y ∷ []) (first_before x y [] [] h)
 
 -- names in the order of their places
 abbrev pub comes_before : Name → Name → Bool
@@ -117,29 +123,71 @@ on_lists f (suc n) i x low high m = elim (cases_eq i (suc n)) [
   | inr other ↦ stands_left x (lists_to f n) (f (suc n)) (on_lists f n i x low (omega (arith, high, other)) m)
 ]
 
+stands_map : {A B : Type 0} (g : A → B) (x : A) (xs : List A) → Stands x xs → Stands (g x) (map g xs)
+stands_map g x (y ∷ xs) (inl e) = inl (ap g e)
+stands_map g x (y ∷ xs) (inr m) = inr (stands_map g x xs m)
+stands_map g x [] m = m
+
+of_map : {A B : Type 0} (g : A → B) (xs : List A) (y : B) → Stands y (map g xs) → (x : A) × Stands x xs × (y ≡ g x)
+of_map g [] y m = absurd m
+of_map g (x ∷ xs) y (inl e) = (x, inl refl, e)
+of_map g (x ∷ xs) y (inr m) = let p = of_map g xs y m in (p.0, inr p.1, p.2)
+
+pub of_filter : {A : Type 0} (f : A → Bool) (xs : List A) (x : A) → Stands x (filter f xs) → Stands x xs × (f x ≡ true)
+of_filter f [] x m = absurd m
+of_filter f (y ∷ ys) x m = by_test (f y) refl m (λ k. of_filter f ys x k)
+  where
+    by_test : (b : Bool) → f y ≡ b → Stands x (cond b (y ∷ filter f ys) (filter f ys))
+        → (Stands x (filter f ys) → Stands x ys × (f x ≡ true)) → Stands x (y ∷ ys) × (f x ≡ true)
+    by_test true e (inl same) rest = (inl same, ap f same ∙ e)
+    by_test true e (inr k) rest = let p = rest k in (inr p.0, p.1)
+    by_test false e k rest = let p = rest k in (inr p.0, p.1)
+
 -- lists in their order
 
+-- each is before all behind it
+abbrev pub IsOrdered : {A : Type 0} → (A → A → Bool) → List A → Type 0
+IsOrdered r [] = Unit {0}
+IsOrdered {A} r (x ∷ xs) = ((y : A) → Stands y xs → r x y ≡ true) × IsOrdered r xs
+
 abbrev pub IsSorted : List Name → Type 0
-IsSorted [] = Unit {0}
-IsSorted (x ∷ xs) = ((y : Name) → Stands y xs → comes_before x y ≡ true) × IsSorted xs
+IsSorted = IsOrdered comes_before
 
-sorted_both : (xs ys : List Name) → IsSorted xs → IsSorted ys
-    → ((x y : Name) → Stands x xs → Stands y ys → comes_before x y ≡ true) → IsSorted (xs ++ ys)
-sorted_both [] ys s t h = t
-sorted_both (x ∷ xs) ys s t h = (
-  λ y m. elim (stands_parts y xs ys m) [
-    | inl l ↦ s.0 y l
-    | inr r ↦ h x y (inl refl) r
-  ],
-  sorted_both xs ys s.1 t (λ a b m k. h a b (inr m) k),
+module _ {A : Type 0} (r : A → A → Bool) where
+  ordered_both : (xs ys : List A) → IsOrdered r xs → IsOrdered r ys
+      → ((x y : A) → Stands x xs → Stands y ys → r x y ≡ true) → IsOrdered r (xs ++ ys)
+  ordered_both [] ys s t h = t
+  ordered_both (x ∷ xs) ys s t h = (
+    λ y m. elim (stands_parts y xs ys m) [
+      | inl l ↦ s.0 y l
+      | inr k ↦ h x y (inl refl) k
+    ],
+    ordered_both xs ys s.1 t (λ a b m k. h a b (inr m) k),
+  )
+
+  ordered_lists : (f : ℕ → List A) (n : ℕ) → ((i : ℕ) → IsOrdered r (f i))
+      → ((i j : ℕ) (x y : A) → i < j → Stands x (f i) → Stands y (f j) → r x y ≡ true) → IsOrdered r (lists_to f n)
+  ordered_lists f zero s h = tt
+  ordered_lists f (suc n) s h = ordered_both (lists_to f n) (f (suc n)) (ordered_lists f n s h) (s (suc n))
+      (λ x y m k. let p = listed f n x m in h p.0 (suc n) x y (omega (arith, p.2)) p.3 k)
+
+  ordered_filter : (f : A → Bool) (xs : List A) → IsOrdered r xs → IsOrdered r (filter f xs)
+  ordered_filter f [] s = tt
+  ordered_filter f (x ∷ xs) s = by_test (f x) (ordered_filter f xs s.1)
+    where
+      by_test : (b : Bool) → IsOrdered r (filter f xs) → IsOrdered r (cond b (x ∷ filter f xs) (filter f xs))
+      by_test true rest = (λ y m. s.0 y ((of_filter f xs y m).0), rest)
+      by_test false rest = rest
+
+ordered_map : {A B : Type 0} (r : A → A → Bool) (s : B → B → Bool) (g : A → B)
+    → ((x y : A) → r x y ≡ true → s (g x) (g y) ≡ true) → (xs : List A) → IsOrdered r xs → IsOrdered s (map g xs)
+ordered_map r s g keeps [] o = tt
+ordered_map r s g keeps (x ∷ xs) o = (
+  λ y m.
+      let p = of_map g xs y m in
+      subst (λ z. s (g x) z ≡ true) (sym p.2) (keeps x p.0 (o.0 p.0 p.1)),
+  ordered_map r s g keeps xs o.1,
 )
-
-sorted_lists : (f : ℕ → List Name) (n : ℕ) → ((i : ℕ) → IsSorted (f i))
-    → ((i j : ℕ) (x y : Name) → i < j → Stands x (f i) → Stands y (f j) → comes_before x y ≡ true)
-    → IsSorted (lists_to f n)
-sorted_lists f zero s h = tt
-sorted_lists f (suc n) s h = sorted_both (lists_to f n) (f (suc n)) (sorted_lists f n s h) (s (suc n))
-    (λ x y m k. let p = listed f n x m in h p.0 (suc n) x y (omega (arith, p.2)) p.3 k)
 
 -- those of one kind, whose place begins with its number
 abbrev pub IsKind : ℕ → List Name → Type 0
@@ -152,13 +200,13 @@ module _ (f : ℕ → Name) (p : ℕ → List ℕ) (is : (i : ℕ) → place (f 
   one_of q m = let h = listed (λ i. f i ∷ []) n q m in (h.0, ap place (stands_alone q (f h.0) h.3) ∙ is h.0)
 
   pub sorted_ones : IsSorted (lists_to (λ i. f i ∷ []) n)
-  sorted_ones = sorted_lists (λ i. f i ∷ []) n (λ i. ((λ y m. absurd m), tt))
+  sorted_ones = ordered_lists comes_before (λ i. f i ∷ []) n (λ i. ((λ y m. absurd m), tt))
       (λ i j x y less m k. placed x y (p i) (p j) (ap place (stands_alone x (f i) m) ∙ is i)
       (ap place (stands_alone y (f j) k) ∙ is j) (grows i j less))
 
 module _ (k : ℕ) (f : ℕ → Name) (is : (w : ℕ) → place (f w) ≡ k ∷ w ∷ 0 ∷ 0 ∷ []) where
   grows : (v w : ℕ) → v < w → is_before (k ∷ v ∷ 0 ∷ 0 ∷ []) (k ∷ w ∷ 0 ∷ 0 ∷ []) ≡ true
-  grows v w less = second_before k v w 0 0 0 0 less
+  grows v w less = second_before k v w (0 ∷ 0 ∷ []) (0 ∷ 0 ∷ []) less
 
   sorted_warehouses : IsSorted (of_warehouses f)
   sorted_warehouses = sorted_ones f (λ w. k ∷ w ∷ 0 ∷ 0 ∷ []) is grows last_warehouse
@@ -169,19 +217,20 @@ module _ (k : ℕ) (f : ℕ → Name) (is : (w : ℕ) → place (f w) ≡ k ∷ 
 
 module _ (k : ℕ) (f : ℕ → ℕ → Name) (n : ℕ) (is : (w x : ℕ) → place (f w x) ≡ k ∷ w ∷ x ∷ 0 ∷ []) where
   pair_grows : (w x y : ℕ) → x < y → is_before (k ∷ w ∷ x ∷ 0 ∷ []) (k ∷ w ∷ y ∷ 0 ∷ []) ≡ true
-  pair_grows w x y less = third_before k w x y 0 0 less
+  pair_grows w x y less = third_before k w x y (0 ∷ []) (0 ∷ []) less
 
   pair_of : (w : ℕ) (q : Name) → Stands q (lists_to (λ x. f w x ∷ []) n)
       → (x : ℕ) × (place q ≡ k ∷ w ∷ x ∷ 0 ∷ [])
   pair_of w q m = one_of (f w) (λ x. k ∷ w ∷ x ∷ 0 ∷ []) (is w) (pair_grows w) n q m
 
   sorted_pairs : IsSorted (of_pairs f n)
-  sorted_pairs = sorted_lists (λ w. lists_to (λ x. f w x ∷ []) n) last_warehouse
+  sorted_pairs = ordered_lists comes_before (λ w. lists_to (λ x. f w x ∷ []) n) last_warehouse
       (λ w. sorted_ones (f w) (λ x. k ∷ w ∷ x ∷ 0 ∷ []) (is w) (pair_grows w) n)
       (λ v w a b less m h.
       let x = pair_of v a m in
       let y = pair_of w b h in
-      placed a b (k ∷ v ∷ x.0 ∷ 0 ∷ []) (k ∷ w ∷ y.0 ∷ 0 ∷ []) x.1 y.1 (second_before k v w x.0 0 y.0 0 less))
+      placed a b (k ∷ v ∷ x.0 ∷ 0 ∷ []) (k ∷ w ∷ y.0 ∷ 0 ∷ []) x.1 y.1
+      (second_before k v w (x.0 ∷ 0 ∷ []) (y.0 ∷ 0 ∷ []) less))
 
   kind_of_pairs : IsKind k (of_pairs f n)
   kind_of_pairs q m =
@@ -211,21 +260,22 @@ module _ (k : ℕ) (f : ℕ → ℕ → ℕ → Name) (n : ℕ)
       (h.0, x.0, x.1)
 
   sorted_in : (w : ℕ) → IsSorted (lists_to (λ d. lists_to (λ x. f w d x ∷ []) n) last_district)
-  sorted_in w = sorted_lists (λ d. lists_to (λ x. f w d x ∷ []) n) last_district
+  sorted_in w = ordered_lists comes_before (λ d. lists_to (λ x. f w d x ∷ []) n) last_district
       (λ d. sorted_ones (f w d) (λ x. k ∷ w ∷ d ∷ x ∷ []) (is w d) (triple_grows w d) n)
       (λ d e a b less m h.
       let x = last_of w d a m in
       let y = last_of w e b h in
-      placed a b (k ∷ w ∷ d ∷ x.0 ∷ []) (k ∷ w ∷ e ∷ y.0 ∷ []) x.1 y.1 (third_before k w d e x.0 y.0 less))
+      placed a b (k ∷ w ∷ d ∷ x.0 ∷ []) (k ∷ w ∷ e ∷ y.0 ∷ []) x.1 y.1
+      (third_before k w d e (x.0 ∷ []) (y.0 ∷ []) less))
 
   sorted_triples : IsSorted (of_triples f n)
-  sorted_triples = sorted_lists (λ w. lists_to (λ d. lists_to (λ x. f w d x ∷ []) n) last_district) last_warehouse
-      sorted_in
+  sorted_triples = ordered_lists comes_before (λ w. lists_to (λ d. lists_to (λ x. f w d x ∷ []) n) last_district)
+      last_warehouse sorted_in
       (λ v w a b less m h.
       let x = two_of v a m in
       let y = two_of w b h in
       placed a b (k ∷ v ∷ x.0 ∷ x.1 ∷ []) (k ∷ w ∷ y.0 ∷ y.1 ∷ []) x.2 y.2
-      (second_before k v w x.0 x.1 y.0 y.1 less))
+      (second_before k v w (x.0 ∷ x.1 ∷ []) (y.0 ∷ y.1 ∷ []) less))
 
   kind_of_triples : IsKind k (of_triples f n)
   kind_of_triples q m =
@@ -240,6 +290,92 @@ module _ (k : ℕ) (f : ℕ → ℕ → ℕ → Name) (n : ℕ)
       (on_lists (λ d. lists_to (λ x. f w d x ∷ []) n) last_district d (f w d x) low' high'
       (on_lists (λ x. f w d x ∷ []) n x (f w d x) low'' high'' (inl refl)))
 
+-- texts in their order
+
+-- those of at most n letters and one letter more before them
+abbrev begun : ℕ → ℕ → List (List ℕ)
+begun n i = map (λ t. (31 + i) ∷ t) (texts_within n)
+
+few_printable : (b : ℕ) → IsPrintable b → b - 31 ≤ printable_bytes
+unfolding printable_bytes
+few_printable b h = omega (arith, h)
+
+texts_ordered : (n : ℕ) → IsOrdered is_before (texts_within n)
+texts_ordered zero = (λ t m. absurd m, tt)
+texts_ordered (suc n) = (
+  λ t m.
+      let p = listed (begun n) printable_bytes t m in
+      let q = of_map (λ u. (31 + p.0) ∷ u) (texts_within n) t p.3 in
+      ap (is_before []) q.2,
+  ordered_lists is_before (begun n) printable_bytes
+      (λ i. ordered_map is_before is_before (λ t. (31 + i) ∷ t) (λ t u h. rest_before (31 + i) t u h) (texts_within n)
+      (texts_ordered n))
+      (λ i j t u less m k.
+      let p = of_map (λ v. (31 + i) ∷ v) (texts_within n) t m in
+      let q = of_map (λ v. (31 + j) ∷ v) (texts_within n) u k in
+      ap (λ z. is_before z u) p.2
+      ∙ (ap (λ z. is_before ((31 + i) ∷ p.0) z) q.2
+      ∙ first_before (31 + i) (31 + j) p.0 q.0 (omega (arith, less)))),
+)
+
+text_stands : (n : ℕ) (t : List ℕ) → length t ≤ n → All IsPrintable t → Stands t (texts_within n)
+text_stands zero [] short are = inl refl
+text_stands (suc n) [] short are = inl refl
+text_stands zero (b ∷ t) short are = let no : ⊥ = omega (arith, short) in absurd no
+text_stands (suc n) (b ∷ t) short are =
+    let first = All-head IsPrintable b t are in
+    let same : 31 + (b - 31) ≡ b = omega (arith, first) in
+    inr (on_lists (begun n) printable_bytes (b - 31) (b ∷ t) (omega (arith, first)) (few_printable b first)
+    (subst (λ c. Stands (b ∷ t) (map (λ u. c ∷ u) (texts_within n))) (sym same)
+    (stands_map (λ u. b ∷ u) t (texts_within n)
+    (text_stands n t (omega (arith, short)) (All-tail IsPrintable b t are)))))
+
+-- the last names of a district, and of a warehouse
+abbrev names_of : ℕ → ℕ → List Name
+names_of w d = map (Names (record { warehouse = w; district = d })) (texts_within most_letters)
+
+abbrev names_in : ℕ → List Name
+names_in w = lists_to (names_of w) last_district
+
+place_of : (w d : ℕ) (q : Name) → Stands q (names_of w d) → (t : List ℕ) × (place q ≡ 7 ∷ w ∷ d ∷ t)
+place_of w d q m =
+    let p = of_map (Names (record { warehouse = w; district = d })) (texts_within most_letters) q m in
+    (p.0, ap place p.2)
+
+place_in : (w : ℕ) (q : Name) → Stands q (names_in w) → (d : ℕ) × (t : List ℕ) × (place q ≡ 7 ∷ w ∷ d ∷ t)
+place_in w q m =
+    let h = listed (names_of w) last_district q m in
+    let t = place_of w h.0 q h.3 in
+    (h.0, t.0, t.1)
+
+names_sorted_in : (w : ℕ) → IsSorted (names_in w)
+names_sorted_in w = ordered_lists comes_before (names_of w) last_district
+    (λ d. ordered_map is_before comes_before (Names (record { warehouse = w; district = d }))
+    (λ t u h. rest_of_three_before 7 w d t u h) (texts_within most_letters) (texts_ordered most_letters))
+    (λ d e a b less m h.
+    let x = place_of w d a m in
+    let y = place_of w e b h in
+    placed a b (7 ∷ w ∷ d ∷ x.0) (7 ∷ w ∷ e ∷ y.0) x.1 y.1 (third_before 7 w d e x.0 y.0 less))
+
+sorted_last_names : IsSorted last_name_names
+sorted_last_names = ordered_lists comes_before names_in last_warehouse names_sorted_in
+    (λ v w a b less m h.
+    let x = place_in v a m in
+    let y = place_in w b h in
+    placed a b (7 ∷ v ∷ x.0 ∷ x.1) (7 ∷ w ∷ y.0 ∷ y.1) x.2 y.2 (second_before 7 v w (x.0 ∷ x.1) (y.0 ∷ y.1) less))
+
+kind_of_last_names : IsKind 7 last_name_names
+kind_of_last_names q m =
+    let h = listed names_in last_warehouse q m in
+    let x = place_in h.0 q h.3 in
+    (h.0 ∷ x.0 ∷ x.1, x.2)
+
+on_last_names : (k : DistrictKey) (t : List ℕ) → IsInRanges (Names k t) → Stands (Names k t) last_name_names
+on_last_names k t h =
+    on_lists names_in last_warehouse k.warehouse (Names k t) h.0.0 h.0.1
+    (on_lists (names_of k.warehouse) last_district k.district (Names k t) h.1.0 h.1.1
+    (stands_map (Names k) t (texts_within most_letters) (text_stands most_letters t h.2.at_most h.2.printable)))
+
 -- names in their order, of kinds below one
 abbrev pub IsUpTo : ℕ → List Name → Type 0
 IsUpTo k xs =
@@ -250,7 +386,7 @@ first_kind k xs s h = (s, λ q m. let p = h q m in (k, p.0, p.1, omega arith))
 
 next_kind : (k : ℕ) (xs ys : List Name) → IsUpTo k xs → IsSorted ys → IsKind k ys → IsUpTo (suc k) (xs ++ ys)
 next_kind k xs ys s t h = (
-  sorted_both xs ys s.0 t (λ x y m r.
+  ordered_both comes_before xs ys s.0 t (λ x y m r.
       let p = s.1 x m in
       let q = h y r in
       placed x y (p.0 ∷ p.1) (k ∷ q.0) p.2 q.1 (first_before p.0 k p.1 q.0 p.3)),
@@ -284,107 +420,105 @@ all_sorted =
     let stocks = next_kind 6 _ _ queues
     (sorted_pairs 6 (λ w i. Stock (record { warehouse = w; item = i })) last_item (λ w i. refl))
     (kind_of_pairs 6 (λ w i. Stock (record { warehouse = w; item = i })) last_item (λ w i. refl)) in
-    stocks.0
+    let last_names = next_kind 7 _ _ stocks sorted_last_names kind_of_last_names in
+    last_names.0
 
 -- each name stands among all
 
-module _ (q : Name) (a b c d e f : List Name) where
-  in_first : Stands q a → Stands q (a ++ b ++ c ++ d ++ e ++ f)
-  in_first m = stands_left q (a ++ b ++ c ++ d ++ e) f (stands_left q (a ++ b ++ c ++ d) e
-      (stands_left q (a ++ b ++ c) d (stands_left q (a ++ b) c (stands_left q a b m))))
+module _ (q : Name) (a b c d e f g : List Name) where
+  in_seventh : Stands q g → Stands q (a ++ b ++ c ++ d ++ e ++ f ++ g)
+  in_seventh m = stands_right q (a ++ b ++ c ++ d ++ e ++ f) g m
 
-  in_second : Stands q b → Stands q (a ++ b ++ c ++ d ++ e ++ f)
-  in_second m = stands_left q (a ++ b ++ c ++ d ++ e) f (stands_left q (a ++ b ++ c ++ d) e
-      (stands_left q (a ++ b ++ c) d (stands_left q (a ++ b) c (stands_right q a b m))))
+  in_six : Stands q (a ++ b ++ c ++ d ++ e ++ f) → Stands q (a ++ b ++ c ++ d ++ e ++ f ++ g)
+  in_six m = stands_left q (a ++ b ++ c ++ d ++ e ++ f) g m
 
-  in_third : Stands q c → Stands q (a ++ b ++ c ++ d ++ e ++ f)
-  in_third m = stands_left q (a ++ b ++ c ++ d ++ e) f (stands_left q (a ++ b ++ c ++ d) e
-      (stands_left q (a ++ b ++ c) d (stands_right q (a ++ b) c m)))
+  in_sixth : Stands q f → Stands q (a ++ b ++ c ++ d ++ e ++ f ++ g)
+  in_sixth m = in_six (stands_right q (a ++ b ++ c ++ d ++ e) f m)
 
-  in_fourth : Stands q d → Stands q (a ++ b ++ c ++ d ++ e ++ f)
-  in_fourth m = stands_left q (a ++ b ++ c ++ d ++ e) f (stands_left q (a ++ b ++ c ++ d) e
-      (stands_right q (a ++ b ++ c) d m))
+  in_five : Stands q (a ++ b ++ c ++ d ++ e) → Stands q (a ++ b ++ c ++ d ++ e ++ f ++ g)
+  in_five m = in_six (stands_left q (a ++ b ++ c ++ d ++ e) f m)
 
-  in_fifth : Stands q e → Stands q (a ++ b ++ c ++ d ++ e ++ f)
-  in_fifth m = stands_left q (a ++ b ++ c ++ d ++ e) f (stands_right q (a ++ b ++ c ++ d) e m)
+  in_fifth : Stands q e → Stands q (a ++ b ++ c ++ d ++ e ++ f ++ g)
+  in_fifth m = in_five (stands_right q (a ++ b ++ c ++ d) e m)
 
-  in_sixth : Stands q f → Stands q (a ++ b ++ c ++ d ++ e ++ f)
-  in_sixth m = stands_right q (a ++ b ++ c ++ d ++ e) f m
+  in_four : Stands q (a ++ b ++ c ++ d) → Stands q (a ++ b ++ c ++ d ++ e ++ f ++ g)
+  in_four m = in_five (stands_left q (a ++ b ++ c ++ d) e m)
+
+  in_fourth : Stands q d → Stands q (a ++ b ++ c ++ d ++ e ++ f ++ g)
+  in_fourth m = in_four (stands_right q (a ++ b ++ c) d m)
+
+  in_three : Stands q (a ++ b ++ c) → Stands q (a ++ b ++ c ++ d ++ e ++ f ++ g)
+  in_three m = in_four (stands_left q (a ++ b ++ c) d m)
+
+  in_third : Stands q c → Stands q (a ++ b ++ c ++ d ++ e ++ f ++ g)
+  in_third m = in_three (stands_right q (a ++ b) c m)
+
+  in_second : Stands q b → Stands q (a ++ b ++ c ++ d ++ e ++ f ++ g)
+  in_second m = in_three (stands_left q (a ++ b) c (stands_right q a b m))
+
+  in_first : Stands q a → Stands q (a ++ b ++ c ++ d ++ e ++ f ++ g)
+  in_first m = in_three (stands_left q (a ++ b) c (stands_left q a b m))
 
 pub is_among_all : (q : Name) → IsInRanges q → Stands q all_names
 unfolding all_names
 is_among_all (Warehouse k) h =
     in_first (Warehouse k) warehouse_names district_names customer_names order_names queue_names stock_names
-    (on_lists (λ w. Warehouse (record { warehouse = w }) ∷ []) last_warehouse k.warehouse (Warehouse k) h.0 h.1
-    (inl refl))
+    last_name_names (on_lists (λ w. Warehouse (record { warehouse = w }) ∷ []) last_warehouse k.warehouse (Warehouse k)
+    h.0 h.1 (inl refl))
 is_among_all (District k) h =
     in_second (District k) warehouse_names district_names customer_names order_names queue_names stock_names
-    (on_pairs 2 (λ w d. District (record { warehouse = w; district = d })) last_district (λ w d. refl)
+    last_name_names (on_pairs 2 (λ w d. District (record { warehouse = w; district = d })) last_district (λ w d. refl)
     k.warehouse k.district h.0.0 h.0.1 h.1.0 h.1.1)
 is_among_all (Customer k) h =
     in_third (Customer k) warehouse_names district_names customer_names order_names queue_names stock_names
-    (on_triples 3 (λ w d c. Customer (record { warehouse = w; district = d; customer = c })) last_customer
-    (λ w d c. refl)
+    last_name_names (on_triples 3 (λ w d c. Customer (record { warehouse = w; district = d; customer = c }))
+    last_customer (λ w d c. refl)
     k.warehouse k.district k.customer h.0.0 h.0.1 h.1.0 h.1.1 h.2.0 h.2.1)
 is_among_all (Order k) h =
     in_fourth (Order k) warehouse_names district_names customer_names order_names queue_names stock_names
-    (on_triples 4 (λ w d o. Order (record { warehouse = w; district = d; order = o })) last_order (λ w d o. refl)
+    last_name_names (on_triples 4 (λ w d o. Order (record { warehouse = w; district = d; order = o })) last_order
+    (λ w d o. refl)
     k.warehouse k.district k.order h.0.0 h.0.1 h.1.0 h.1.1 h.2.0 h.2.1)
 is_among_all (Queue k) h =
     in_fifth (Queue k) warehouse_names district_names customer_names order_names queue_names stock_names
-    (on_pairs 5 (λ w d. Queue (record { warehouse = w; district = d })) last_district (λ w d. refl)
+    last_name_names (on_pairs 5 (λ w d. Queue (record { warehouse = w; district = d })) last_district (λ w d. refl)
     k.warehouse k.district h.0.0 h.0.1 h.1.0 h.1.1)
 is_among_all (Stock k) h =
     in_sixth (Stock k) warehouse_names district_names customer_names order_names queue_names stock_names
-    (on_pairs 6 (λ w i. Stock (record { warehouse = w; item = i })) last_item (λ w i. refl)
+    last_name_names (on_pairs 6 (λ w i. Stock (record { warehouse = w; item = i })) last_item (λ w i. refl)
     k.warehouse k.item h.0.0 h.0.1 h.1.0 h.1.1)
+is_among_all (Names k last) h =
+    in_seventh (Names k last) warehouse_names district_names customer_names order_names queue_names stock_names
+    last_name_names (on_last_names k last h)
 
--- how many names there are
+-- a list in its order is no longer than one on which all of it stands
 
-times_more : (n k : ℕ) → n * k + k ≡ suc n * k
-times_more n k = sym (suc-mul n k)
+abbrev without : {A : Type 0} (x : A) (xs : List A) → Stands x xs → List A
+without x [] m = []
+without x (y ∷ ys) (inl e) = ys
+without x (y ∷ ys) (inr m) = y ∷ without x ys m
 
-length_lists : {A : Type 0} (f : ℕ → List A) (n k : ℕ) → ((i : ℕ) → length (f i) ≡ k) → length (lists_to f n) ≡ n * k
-length_lists f zero k h = sym (zero-mul k)
-length_lists f (suc n) k h =
-    length-append (lists_to f n) (f (suc n)) ∙ ap (λ m. m + length (f (suc n))) (length_lists f n k h)
-    ∙ ap (λ m. n * k + m) (h (suc n)) ∙ times_more n k
+one_less : {A : Type 0} (x : A) (xs : List A) (m : Stands x xs) → suc (length (without x xs m)) ≡ length xs
+one_less x [] m = absurd m
+one_less x (y ∷ ys) (inl e) = refl
+one_less x (y ∷ ys) (inr m) = ap suc (one_less x ys m)
 
-length_pairs : (f : ℕ → ℕ → Name) (n : ℕ) → length (of_pairs f n) ≡ last_warehouse * (n * 1)
-length_pairs f n = length_lists (λ w. lists_to (λ x. f w x ∷ []) n) last_warehouse (n * 1)
-    (λ w. length_lists (λ x. f w x ∷ []) n 1 (λ x. refl))
+still : {A : Type 0} (x y : A) (xs : List A) (m : Stands x xs) → y ≢ x → Stands y xs → Stands y (without x xs m)
+still x y [] m other k = absurd k
+still x y (z ∷ zs) (inl e) other (inl same) = absurd (other (same ∙ sym e))
+still x y (z ∷ zs) (inl e) other (inr k) = k
+still x y (z ∷ zs) (inr m) other (inl same) = inl same
+still x y (z ∷ zs) (inr m) other (inr k) = inr (still x y zs m other k)
 
-length_triples : (f : ℕ → ℕ → ℕ → Name) (n : ℕ)
-    → length (of_triples f n) ≡ last_warehouse * (last_district * (n * 1))
-length_triples f n = length_lists (λ w. lists_to (λ d. lists_to (λ x. f w d x ∷ []) n) last_district) last_warehouse
-    (last_district * (n * 1))
-    (λ w. length_lists (λ d. lists_to (λ x. f w d x ∷ []) n) last_district (n * 1)
-    (λ d. length_lists (λ x. f w d x ∷ []) n 1 (λ x. refl)))
+pub no_longer : (xs ys : List Name) → IsSorted xs → ((q : Name) → Stands q xs → Stands q ys) → length xs ≤ length ys
+no_longer [] ys s on = omega arith
+no_longer (x ∷ xs) ys s on =
+    let here = on x (inl refl) in
+    let fewer = no_longer xs (without x ys here) s.1
+    (λ q m. still x q ys here (λ same. true≢false (sym (s.0 q m) ∙ ap (λ z. is_before (place x) (place z)) same
+    ∙ before_itself (place x))) (on q (inr m))) in
+    let less = one_less x ys here in
+    omega (arith, fewer, less)
 
-few_in_all : last_warehouse * 1 + last_warehouse * (last_district * 1)
-    + last_warehouse * (last_district * (last_customer * 1))
-    + last_warehouse * (last_district * (last_order * 1)) + last_warehouse * (last_district * 1)
-    + last_warehouse * (last_item * 1) ≤ 2_000_000_000
-unfolding last_warehouse last_district last_customer last_order last_item
-few_in_all = omega arith
-
-both_long : {A : Type 0} (xs ys : List A) (m n : ℕ) → length xs ≡ m → length ys ≡ n → length (xs ++ ys) ≡ m + n
-both_long xs ys m n e f = length-append xs ys ∙ ap (λ k. k + length ys) e ∙ ap (λ k. m + k) f
-
-all_long : length all_names
-    ≡ last_warehouse * 1 + last_warehouse * (last_district * 1)
-    + last_warehouse * (last_district * (last_customer * 1))
-    + last_warehouse * (last_district * (last_order * 1)) + last_warehouse * (last_district * 1)
-    + last_warehouse * (last_item * 1)
-unfolding all_names
-all_long =
-    both_long _ _ _ _ (both_long _ _ _ _ (both_long _ _ _ _ (both_long _ _ _ _ (both_long _ _ _ _
-    (length_lists (λ w. Warehouse (record { warehouse = w }) ∷ []) last_warehouse 1 (λ w. refl))
-    (length_pairs (λ w d. District (record { warehouse = w; district = d })) last_district))
-    (length_triples (λ w d c. Customer (record { warehouse = w; district = d; customer = c })) last_customer))
-    (length_triples (λ w d o. Order (record { warehouse = w; district = d; order = o })) last_order))
-    (length_pairs (λ w d. Queue (record { warehouse = w; district = d })) last_district))
-    (length_pairs (λ w i. Stock (record { warehouse = w; item = i })) last_item)
-
-pub few_names : length all_names ≤ 2_000_000_000
-few_names = rw all_long few_in_all
+pub sorted_filter : (f : Name → Bool) (xs : List Name) → IsSorted xs → IsSorted (filter f xs)
+sorted_filter f xs s = ordered_filter comes_before f xs s

@@ -3,9 +3,10 @@
 //!
 //! The names of a terminal are on a list in no order. Its least name that is not yet shown is found
 //! by a look at the whole list, so that no memory is wanted.
-ghost use Rattle.std.specs.Prelude.{◌≡◌, ◌≤◌, ◌+◌, ◌++◌, ℕ, false, length, option_map, IfOk};
+ghost use Rattle.std.specs.Prelude.{◌≡◌, ◌≤◌, ◌<◌, ◌+◌, ◌^◌, ◌++◌, ℕ, false, length, option_map, IfOk};
 ghost use Rattle.std.specs.Option.{MatchOption};
 ghost use Rattle.arrayvec.specs.ArrayVec.{array_vec_len};
+ghost use Rattle.oe_values.specs.Text.{IsText};
 ghost use Rattle.oe_rows.specs.declared.locks.Name.{Name};
 ghost use Rattle.oe_core.specs.Core.{world_of};
 ghost use Rattle.oe_ports.specs.Ports.{Streams};
@@ -15,44 +16,80 @@ ghost use Rattle.oe_waits.specs.Waits.{last_terminal};
 
 use crate::shows::{mode as append_mode, total};
 use crate::waiting::terminal_after;
+use arrayvec::ArrayVec;
 use oe_core::Core;
 use oe_ports::output::make_room;
 use oe_ports::ports::{Failed, Outlet};
 use oe_rows::Name;
 use oe_texts::{LONGEST, Pending, SIZE, name as append_name, small, text};
-use oe_values::{TERMINALS, Terminal};
+use oe_values::{ShortText, TERMINALS, Terminal};
 
-/// Gives a name's place among all names: its kind, then the columns of its key from the left.
-#[tactic(auto, unfolding(crate::specs::Names::last_warehouse, crate::specs::Names::last_district, crate::specs::Names::last_customer, crate::specs::Names::last_order, crate::specs::Names::last_item))]
-fn place(name: &Name) -> [u32; 4]
-    ensures value { result ≡ place name.now }
+/// A place among all names; the empty one is before all.
+type Place = ArrayVec<u32, 20>;
+
+/// Gives these numbers as a place.
+fn place_of(numbers: &[u32]) -> Place
+    requires { length numbers.now ≤ 20 }
+    ensures { result.items ≡ numbers.now }
+{
+    let mut place = Place::new();
+    place.try_extend_from_slice(numbers).unwrap();
+    place
+}
+
+/// Appends the letters of a last name to a place.
+fn letters(place: &mut Place, last: &ShortText)
+    requires { array_vec_len place.old + 16 ≤ 20 }
+    ensures items { place.new.items ≡ place.old.items ++ last.now }
+    ensures fits { IsText 0 16 last.now }
+{
+    for letter in last.as_str().as_bytes() {
+        place.push(u32::from(*letter));
+    }
+}
+
+/// Gives a name's place among all names: its kind, then the columns of its key from the left, then
+/// the letters of a last name.
+#[tactic(auto, unfolding(crate::specs::Names::last_warehouse, crate::specs::Names::last_district, crate::specs::Names::last_customer, crate::specs::Names::last_order, crate::specs::Names::last_item, crate::specs::Names::most_letters))]
+fn place(name: &Name) -> Place
+    ensures value { result.items ≡ place name.now }
     ensures ranges { IsInRanges name.now }
 {
     match *name {
-        Name::Warehouse(key) => [1, key.warehouse.get(), 0, 0],
-        Name::District(key) => [2, key.warehouse.get(), key.district.get(), 0],
-        Name::Customer(key) => [
+        Name::Warehouse(key) => place_of(&[1, key.warehouse.get(), 0, 0]),
+        Name::District(key) => place_of(&[2, key.warehouse.get(), key.district.get(), 0]),
+        Name::Customer(key) => place_of(&[
             3,
             key.warehouse.get(),
             key.district.get(),
             key.customer.get(),
-        ],
-        Name::Order(key) => [4, key.warehouse.get(), key.district.get(), key.order.get()],
-        Name::Queue(key) => [5, key.warehouse.get(), key.district.get(), 0],
-        Name::Stock(key) => [6, key.warehouse.get(), key.item.get(), 0],
+        ]),
+        Name::Order(key) => place_of(&[
+            4,
+            key.warehouse.get(),
+            key.district.get(),
+            key.order.get(),
+        ]),
+        Name::Queue(key) => place_of(&[5, key.warehouse.get(), key.district.get(), 0]),
+        Name::Stock(key) => place_of(&[6, key.warehouse.get(), key.item.get(), 0]),
+        Name::Names(key, last) => {
+            let mut place = place_of(&[7, key.warehouse.get(), key.district.get()]);
+            letters(&mut place, &last);
+            place
+        }
     }
 }
 
 /// Tells whether a place is before another.
-fn is_before(one: &[u32; 4], other: &[u32; 4]) -> bool
-    ensures { result ≡ is_before one.now other.now }
+fn is_before(one: &Place, other: &Place) -> bool
+    ensures { result ≡ is_before one.now.items other.now.items }
 {
-    one.cmp(other).is_lt()
+    one.as_slice().cmp(other.as_slice()).is_lt()
 }
 
 /// Tells whether a terminal holds a name, and the name is behind a place.
-fn is_left(core: &Core, holder: Terminal, behind: &[u32; 4], name: &Name) -> bool
-    ensures { result ≡ is_left (world_of core.now) holder behind.now name.now }
+fn is_left(core: &Core, holder: Terminal, behind: &Place, name: &Name) -> bool
+    ensures { result ≡ is_left (world_of core.now) holder behind.now.items name.now }
 {
     if !is_before(behind, &place(name)) {
         return false;
@@ -81,10 +118,10 @@ fn lesser<'a>(least: Option<&'a Name>, name: &'a Name, is_left: bool) -> Option<
 }
 
 /// Gives the least name behind a place that a terminal holds, where there is one.
-fn next_held<'a>(core: &'a Core, holder: Terminal, behind: &[u32; 4]) -> Option<&'a Name>
+fn next_held<'a>(core: &'a Core, holder: Terminal, behind: &Place) -> Option<&'a Name>
     ensures { MatchOption (option_map (λ n. n.now) result)
-        ((q : Name) → is_left (world_of core.now) holder behind.now q ≡ false)
-        (IsLeast (is_left (world_of core.now) holder behind.now)) }
+        ((q : Name) → is_left (world_of core.now) holder behind.now.items q ≡ false)
+        (IsLeast (is_left (world_of core.now) holder behind.now.items)) }
 {
     let names = core.names(holder);
     let mut least = None;
@@ -112,20 +149,28 @@ fn held(core: &Core, holder: Terminal, name: &Name, out: &mut Pending)
     }
 }
 
+/// Tells that a terminal's names are few: all stand on one list.
+fn names_are_few(core: &Core, holder: Terminal)
+    ensures { length (held_names (world_of core.now) holder) < 2 ^ 64 }
+{
+    let _count = core.names(holder).len();
+}
+
 /// Appends the lines of a terminal's names, and tells how many there are.
 fn all_of_one<W: Outlet>(
     core: &Core,
     holder: Terminal,
     out: &mut Pending,
     to: &mut W,
-) -> Result<u64, Failed>
+) -> Result<u128, Failed>
     ensures stream { Streams (W.sink to.old) out.old.items (W.sink to.new) out.new.items
         (held_lines (world_of core.now) holder) result }
     ensures count { IfOk result (λ n. n ≡ length (held_names (world_of core.now) holder)) }
-    ensures few { IfOk result (λ n. n ≤ 2_000_000_000) }
+    ensures few { IfOk result (λ n. n < 2 ^ 64) }
 {
-    let mut count = 0u64;
-    let mut behind = [0; 4];
+    names_are_few(core, holder);
+    let mut count = 0u128;
+    let mut behind = Place::new();
     while let Some(name) = next_held(core, holder, &behind) {
         if let Err(e) = make_room(out, to) {
             return Err(e);
@@ -138,12 +183,12 @@ fn all_of_one<W: Outlet>(
 }
 
 /// Appends the lines of all terminals' names, and tells how many there are.
-fn all_held<W: Outlet>(core: &Core, out: &mut Pending, to: &mut W) -> Result<u64, Failed>
+fn all_held<W: Outlet>(core: &Core, out: &mut Pending, to: &mut W) -> Result<u128, Failed>
     ensures stream { Streams (W.sink to.old) out.old.items (W.sink to.new) out.new.items
         (texts_to (held_lines (world_of core.now)) last_terminal) result }
     ensures count { IfOk result (λ n. n ≡ held_count (world_of core.now) last_terminal) }
 {
-    let mut count = 0u64;
+    let mut count = 0u128;
     for before in 0..TERMINALS {
         match all_of_one(core, terminal_after(before), out, to) {
             Ok(more) => count += more,
@@ -154,7 +199,8 @@ fn all_held<W: Outlet>(core: &Core, out: &mut Pending, to: &mut W) -> Result<u64
 }
 
 /// Writes which names the terminals hold, in which modes, and how many there are: by terminal, and
-/// of each terminal by the kind of name and the columns of its key. An error is one of the writer.
+/// of each terminal by the kind of name, the columns of its key and the letters of a last name. An
+/// error is one of the writer.
 pub fn show_locks<W: Outlet>(core: &Core, out: &mut Pending, to: &mut W) -> Result<(), Failed>
     ensures { Streams (W.sink to.old) out.old.items (W.sink to.new) out.new.items
         (locks_text (world_of core.now)) result }

@@ -14,12 +14,13 @@ ghost use Rattle.oe_waits.specs.Texts.{cycle_line, lock_text, mode_text, or_no_c
 
 use crate::reaching::{Way, is_in_both, reached};
 use crate::waiting::{terminal_after, waits, waits_for};
+use itoa::Buffer;
 use oe_core::Core;
 use oe_engine::Lock;
 use oe_ports::output::make_room;
 use oe_ports::ports::{Failed, Outlet};
 use oe_rows::Mode;
-use oe_texts::{LONGEST, Pending, SIZE, name, rows, small, text};
+use oe_texts::{LONGEST, Pending, SIZE, name, small, text};
 use oe_values::{TERMINALS, Terminal};
 
 /// Appends `S` or `X`.
@@ -36,9 +37,9 @@ pub(crate) fn mode(out: &mut Pending, mode: Mode)
 
 /// Appends a lock's name and mode.
 fn lock(out: &mut Pending, lock: &Lock)
-    requires { array_vec_len out.old + 45 ≤ SIZE }
+    requires { array_vec_len out.old + 47 ≤ SIZE }
     ensures items { out.new.items ≡ out.old.items ++ lock_text (Some (hold_of lock.now)) }
-    ensures len { array_vec_len out.new ≤ array_vec_len out.old + 45 }
+    ensures len { array_vec_len out.new ≤ array_vec_len out.old + 47 }
 {
     name(out, &lock.name);
     text(out, b" ");
@@ -72,10 +73,10 @@ fn holders(core: &Core, waiting: Terminal, out: &mut Pending)
 
 /// Appends the lock that a terminal's next stage asks for, where it asks for one.
 fn wanted(core: &Core, waiting: Terminal, out: &mut Pending)
-    requires { array_vec_len out.old + 45 ≤ SIZE }
+    requires { array_vec_len out.old + 47 ≤ SIZE }
     ensures items { out.new.items
         ≡ out.old.items ++ lock_text (wanted_by (world_of core.now) waiting) }
-    ensures len { array_vec_len out.new ≤ array_vec_len out.old + 45 }
+    ensures len { array_vec_len out.new ≤ array_vec_len out.old + 47 }
 {
     match core.wanted(waiting) {
         Some(wanted) => lock(out, &wanted),
@@ -246,8 +247,19 @@ fn line<W: Outlet>(out: &mut Pending, to: &mut W, bytes: &[u8]) -> Result<(), Fa
     Ok(())
 }
 
+/// Appends `rows <count>`.
+fn rows(out: &mut Pending, count: u128)
+    requires { array_vec_len out.old + LONGEST ≤ SIZE }
+    ensures { out.new.items ≡ out.old.items ++ count_line count }
+{
+    let mut buffer = Buffer::new();
+    text(out, b"rows ");
+    text(out, buffer.format(count).as_bytes());
+    text(out, b"\n");
+}
+
 /// Appends the line of a count, and writes what waits first where there is no room behind it.
-pub(crate) fn total<W: Outlet>(count: u64, out: &mut Pending, to: &mut W) -> Result<(), Failed>
+pub(crate) fn total<W: Outlet>(count: u128, out: &mut Pending, to: &mut W) -> Result<(), Failed>
     ensures { Streams (W.sink to.old) out.old.items (W.sink to.new) out.new.items
         (count_line count) result }
 {
@@ -270,5 +282,5 @@ pub fn show_waits<W: Outlet>(core: &Core, out: &mut Pending, to: &mut W) -> Resu
     if let Err(e) = cycles(core, out, to) {
         return Err(e);
     }
-    total(count, out, to)
+    total(u128::from(count), out, to)
 }

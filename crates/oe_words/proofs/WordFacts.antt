@@ -10,7 +10,7 @@ use Rattle.oe_requests.specs.declared.requests.Request.TheVariants as request
 use Rattle.oe_requests.specs.declared.requests.Query.{Query}
 use Rattle.oe_requests.specs.declared.requests.Query.TheVariants as query
 use Rattle.oe_texts.specs.Stamp.{stamp_text}
-use Rattle.oe_lines.specs.Grammar.{IsRequest, line_word, request_words, query_words}
+use Rattle.oe_lines.specs.Grammar.{line_word, request_words, query_words}
 use Rattle.oe_words.specs.Texts.{joined, item_text, head_text}
 
 -- items behind a word
@@ -38,13 +38,13 @@ order_joined q =
     ∙ together w d c (stamp_text q.stamp) (flat_map item_text q.lines))
 
 -- a word before those of a request or a query
-pub request_behind : (word : List ℕ) (q : Request) → IsRequest q
+pub request_behind : (word : List ℕ) (q : Request)
     → joined (word ∷ request_words q) ≡ word ++ 32 ∷ joined (request_words q)
-request_behind word (request.Payment q) h = refl
-request_behind word (request.NewOrder q) h = refl
-request_behind word (request.Delivery q) h = refl
-request_behind word (request.Deliveries q) h = refl
-request_behind word (request.Rename q) h = absurd h
+request_behind word (request.Payment q) = refl
+request_behind word (request.NewOrder q) = refl
+request_behind word (request.Delivery q) = refl
+request_behind word (request.Deliveries q) = refl
+request_behind word (request.Rename q) = refl
 
 pub query_behind : (word : List ℕ) (q : Query)
     → joined (word ∷ query_words q) ≡ word ++ 32 ∷ joined (query_words q)

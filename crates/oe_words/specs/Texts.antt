@@ -1,6 +1,7 @@
 -- Lines of a script as text: the words of the grammar, parted by blanks.
 use Rattle.std.specs.Prelude.{ℕ, List, [], ◌∷◌, ◌++◌, decimal}
 use Rattle.std.specs.List.{join_with_byte}
+use Rattle.oe_rows.specs.declared.keys.CustomerKey.{CustomerKey}
 use Rattle.oe_rows.specs.declared.keys.DistrictKey.{DistrictKey}
 use Rattle.oe_rows.specs.declared.scales.Scale.{Scale}
 use Rattle.oe_requests.specs.declared.requests.RequestLine.{RequestLine}
@@ -20,6 +21,9 @@ line_text c = joined (words_of c) ++ 10 ∷ []
 
 abbrev pub district_text : DistrictKey → List ℕ
 district_text k = decimal k.warehouse ++ 32 ∷ decimal k.district
+
+abbrev pub customer_text : CustomerKey → List ℕ
+customer_text k = decimal k.warehouse ++ 32 ∷ (decimal k.district ++ 32 ∷ decimal k.customer)
 
 -- an item of an order behind a blank
 abbrev pub item_text : RequestLine → List ℕ

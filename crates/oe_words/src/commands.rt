@@ -1,7 +1,6 @@
 //! Whole lines, with the byte that ends them.
 ghost use Rattle.std.specs.Prelude.{◌≡◌, ◌≤◌, ◌+◌, ◌++◌, None};
 ghost use Rattle.arrayvec.specs.ArrayVec.{array_vec_len};
-ghost use Rattle.oe_lines.specs.Grammar.{IsRequest};
 ghost use Rattle.oe_lines.specs.declared.commands.Command.TheVariants as asks;
 ghost use Rattle.oe_lines.specs.declared.commands.MomentChoice.TheVariants as moment;
 ghost use Rattle.oe_words.specs.Texts.{line_text, scale_text};
@@ -40,11 +39,10 @@ pub fn open_line(out: &mut Pending, scale: &Scale, extents: ExtentCount)
     out.push(b'\n');
 }
 
-/// Appends the line by which a terminal begins a request that has a form.
+/// Appends the line by which a terminal begins a request.
 #[tactic(auto, using(crate::proofs::WordFacts::request_behind))]
 pub fn begin_line(out: &mut Pending, terminal: Terminal, begun: &Request)
-    requires room { array_vec_len out.old + 574 ≤ SIZE }
-    requires form { IsRequest begun.now }
+    requires { array_vec_len out.old + 574 ≤ SIZE }
     ensures items { out.new.items ≡ out.old.items ++ line_text (asks.Begin terminal begun.now) }
     ensures len { array_vec_len out.new ≤ array_vec_len out.old + 574 }
 {

@@ -4,15 +4,15 @@ ghost use Rattle.std.specs.List.{flat_map};
 ghost use Rattle.arrayvec.specs.ArrayVec.{array_vec_len};
 ghost use Rattle.oe_requests.specs.declared.requests.Request.TheVariants as spec;
 ghost use Rattle.oe_requests.specs.declared.requests.Query.TheVariants as asks;
-ghost use Rattle.oe_lines.specs.Grammar.{IsRequest, customer_word, request_words, query_words};
+ghost use Rattle.oe_lines.specs.Grammar.{customer_word, request_words, query_words};
 ghost use Rattle.oe_texts.specs.Stamp.{stamp_text};
-ghost use Rattle.oe_words.specs.Texts.{district_text, head_text, item_text, joined, parties_text};
+ghost use Rattle.oe_words.specs.Texts.{customer_text, district_text, head_text, item_text, joined, parties_text};
 
 use oe_requests::{
     CustomerChoice, DeliveriesRequest, DeliveryRequest, LevelQuery, NewOrderRequest,
-    PaymentRequest, Query, Request, RequestLine, StatusQuery,
+    PaymentRequest, Query, RenameRequest, Request, RequestLine, StatusQuery,
 };
-use oe_rows::DistrictKey;
+use oe_rows::{CustomerKey, DistrictKey};
 use oe_texts::columns::{money, nullable_stamp};
 use oe_texts::{Pending, SIZE, small, text};
 use oe_values::Stamp;
@@ -155,10 +155,37 @@ fn deliveries(out: &mut Pending, deliveries: &DeliveriesRequest)
     stamp(out, deliveries.stamp);
 }
 
-/// Appends the words of a request that has a form.
+/// Appends a customer's warehouse, district and number.
+fn customer_key(out: &mut Pending, customer: &CustomerKey)
+    requires { array_vec_len out.old + 32 ≤ SIZE }
+    ensures items { out.new.items ≡ out.old.items ++ customer_text customer.now }
+    ensures len { array_vec_len out.new ≤ array_vec_len out.old + 32 }
+{
+    small(out, customer.warehouse.get());
+    out.push(b' ');
+    small(out, customer.district.get());
+    out.push(b' ');
+    small(out, customer.customer.get());
+}
+
+/// Appends the words of a rename.
+fn rename(out: &mut Pending, rename: &RenameRequest)
+    requires { array_vec_len out.old + 73 ≤ SIZE }
+    ensures items { out.new.items
+        ≡ out.old.items ++ joined (request_words (spec.Rename rename.now)) }
+    ensures len { array_vec_len out.new ≤ array_vec_len out.old + 73 }
+{
+    text(out, b"rename ");
+    customer_key(out, &rename.customer);
+    out.push(b' ');
+    text(out, rename.last.as_str().as_bytes());
+    out.push(b' ');
+    text(out, rename.first.as_str().as_bytes());
+}
+
+/// Appends the words of a request.
 pub fn request(out: &mut Pending, request: &Request)
-    requires room { array_vec_len out.old + 556 ≤ SIZE }
-    requires form { IsRequest request.now }
+    requires { array_vec_len out.old + 556 ≤ SIZE }
     ensures items { out.new.items ≡ out.old.items ++ joined (request_words request.now) }
     ensures len { array_vec_len out.new ≤ array_vec_len out.old + 556 }
 {
@@ -167,7 +194,7 @@ pub fn request(out: &mut Pending, request: &Request)
         Request::NewOrder(request) => order(out, request),
         Request::Delivery(request) => delivery(out, request),
         Request::Deliveries(request) => deliveries(out, request),
-        Request::Rename(_) => unreachable!(),
+        Request::Rename(request) => rename(out, request),
     }
 }
 

@@ -50,6 +50,7 @@ fn columns_before<'a>(tables: &'a Tables, write: &'a Write) -> Option<LentRecord
         Write::NextOrder(key, order) => next_order(tables, key, *order),
         Write::CustomerAccount(key, account) => customer_account(tables, key, account),
         Write::BadCredit(key, account, entry) => bad_credit(tables, key, account, entry),
+        Write::CustomerNames(key, last, first) => customer_names(tables, key, last, first),
         Write::StockCounters(key, counters) => stock_counters(tables, key, counters),
         Write::Carrier(key, number) => carrier(tables, key, *number),
         Write::DeliveryDate(key, stamp) => delivery_date(tables, key, *stamp),
@@ -154,6 +155,27 @@ fn bad_credit<'a>(
         Some(row) => {
             let part = parts::of_bad_credit(row, account, entry);
             Some(LentRecord::ChangedCustomer(*key, part))
+        }
+        None => None,
+    }
+}
+
+/// Gives the record of a customer's names that are set, if the customer is there.
+#[inline(never)]
+fn customer_names<'a>(
+    tables: &'a Tables,
+    key: &CustomerKey,
+    last: &Text<0, 16>,
+    first: &Text<0, 16>,
+) -> Option<LentRecord<'a>>
+    ensures { option_map record_of_lent result
+        ≡ record_of_write ChangedColumns (writes.CustomerNames key.now last.now first.now)
+        (rows tables.now) }
+{
+    match tables.customer(*key) {
+        Some(row) => {
+            let part = parts::of_names(row, last, first);
+            Some(LentRecord::RenamedCustomer(*key, part))
         }
         None => None,
     }

@@ -44,6 +44,7 @@ fn found<'a>(tables: &'a Tables, write: &Write) -> Option<LentRecord<'a>>
         Write::NextOrder(key, _) => district(tables, key),
         Write::CustomerAccount(key, _) => customer(tables, key),
         Write::BadCredit(key, _, _) => customer(tables, key),
+        Write::CustomerNames(key, _, _) => customer(tables, key),
         Write::StockCounters(key, _) => stock(tables, key),
         Write::Carrier(key, _) => order(tables, key),
         Write::DeliveryDate(key, _) => order_line(tables, key),

@@ -5,11 +5,13 @@ ghost use Rattle.oe_rows.specs.Before.{text_before, warehouse_before, district_b
 ghost use Rattle.oe_rows.specs.Before.{customer_before, order_before, order_line_before, stock_before};
 ghost use Rattle.oe_rows.specs.Credit.{with_entry};
 ghost use Rattle.oe_rows.specs.Item.{with_counters};
-ghost use Rattle.oe_image.specs.Parts.{warehouse_part, district_part, customer_part, order_part};
-ghost use Rattle.oe_image.specs.Parts.{order_line_part, stock_part};
+ghost use Rattle.oe_model.specs.Rename.{with_names};
+ghost use Rattle.oe_image.specs.Parts.{warehouse_part, district_part, customer_part};
+ghost use Rattle.oe_image.specs.Parts.{customer_name_part, order_part, order_line_part, stock_part};
 
 use oe_image::parts::{
-    CustomerPart, DistrictPart, OrderLinePart, OrderPart, StockPart, WarehousePart,
+    CustomerNamePart, CustomerPart, DistrictPart, OrderLinePart, OrderPart, StockPart,
+    WarehousePart,
 };
 use oe_rows::columns_before::{amount_before, number_before};
 use oe_rows::customers::{Account, Customer};
@@ -92,6 +94,32 @@ pub(crate) fn of_bad_credit<'a>(
         before: &row.account,
         after: account,
         data: data_before(&row.data, entry),
+    }
+}
+
+/// Lends C_LAST and C_FIRST, each where it is set to another value.
+pub(crate) fn of_names<'a>(
+    row: &'a Customer,
+    last: &Text<0, 16>,
+    first: &Text<0, 16>,
+) -> CustomerNamePart<'a>
+    ensures { customer_name_part result
+        ≡ customer_before row.now (with_names last.now first.now row.now) }
+{
+    CustomerNamePart {
+        first: name_before(&row.name.first, first),
+        last: name_before(&row.name.last, last),
+    }
+}
+
+/// Lends a name, where it is set to another one.
+fn name_before<'a>(before: &'a Text<0, 16>, after: &Text<0, 16>) -> Option<&'a Text<0, 16>>
+    ensures { option_map (λ t. t.now) result ≡ text_before before.now after.now }
+{
+    if *before == *after {
+        None
+    } else {
+        Some(before)
     }
 }
 

@@ -1,6 +1,6 @@
 //! A purge: the log drops its oldest commits, and the tables give up the places of NEW-ORDER keys
-//! that these deleted and that nothing names any more. The cost grows with the commits that go
-//! alone.
+//! that these deleted and that nothing names any more. Nor is a customer found any longer by a last
+//! name that the commits took away. The cost grows with the commits that go alone.
 ghost use Rattle.std.specs.Prelude.{◌≡◌, ◌-◌, ◌<◌, ◌≤◌, ◌↔◌, [], ℕ, Option, length, drop, get_or, IsTrue, IfErr, OnOk, OnErr};
 ghost use Rattle.oe_theory.specs.Store.{Slot, purged_to};
 ghost use Rattle.oe_model.specs.Rows.{Rows};
@@ -14,12 +14,13 @@ ghost use Rattle.oe_undo.specs.Undo.{seen};
 ghost use Rattle.oe_engine.specs.GivesUp.{IsDeleted, GivesUpThose, GivesUpDeleted};
 
 use crate::journal::names::has_ended;
+use oe_layout::OwnRecord;
 use oe_requests::Refusal;
-use oe_rows::{Key, NewOrderKey};
+use oe_rows::{CustomerKey, Key, NewOrderKey};
 use oe_store::Tables;
 use oe_undo::Undo;
 use oe_undo::laws::{calls_keep_chains, ends_without_records};
-use oe_values::Moment;
+use oe_values::{Moment, Text};
 
 /// Gives up the segments of the commits up to a moment, which becomes the horizon, and the places
 /// of the NEW-ORDER keys that these commits deleted, that have no row and no record left. Rows,
@@ -45,10 +46,61 @@ pub fn purge(tables: &mut Tables, undo: &mut Undo, moment: Moment) -> Result<(),
 {
     match undo.segments().commits_after(moment) {
         Ok(later) => {
-            forget_oldest(tables, undo, moment, undo.segments().kept() - later);
+            let count = undo.segments().kept() - later;
+            forget_names(tables, undo, moment, count);
+            forget_oldest(tables, undo, moment, count);
             Ok(())
         }
         Err(refusal) => Err(refusal),
+    }
+}
+
+/// Takes the customers whom the `count` oldest commits renamed off the lists of their last names
+/// before; the last of these commits made `moment`.
+fn forget_names(tables: &mut Tables, undo: &Undo, moment: Moment, count: usize)
+    requires { count ≤ length undo.now.log.committed }
+    ensures { tables.new ≡ tables.old }
+{
+    let kept = undo.segments().kept();
+    for earlier in 0..count {
+        forget_name(tables, undo, kept - 1 - earlier, moment);
+    }
+}
+
+/// Takes the customer whom a commit renamed off the list of the last name before, where the
+/// customer has no record that the purge leaves. The commit is given by the number of later ones. A
+/// rename has one record: of other commits none is read.
+fn forget_name(tables: &mut Tables, undo: &Undo, later: usize, moment: Moment)
+    requires { later < length undo.now.log.committed }
+    ensures { tables.new ≡ tables.old }
+{
+    let mut records = undo.segments().committed_records(later);
+    let Some(record) = records.next() else {
+        return;
+    };
+    if records.next().is_some() {
+        return;
+    }
+    match record.read() {
+        OwnRecord::UpdatedCustomer(key, row) => {
+            unlist(tables, undo, &key, &row.name.last, moment);
+        }
+        OwnRecord::ChangedCustomer(key, columns) => {
+            if let Some(last) = &columns.name.last {
+                unlist(tables, undo, &key, last, moment);
+            }
+        }
+        _ => {}
+    }
+}
+
+/// Takes a customer off the list of a last name, where the customer has no record that the purge
+/// leaves.
+fn unlist(tables: &mut Tables, undo: &Undo, key: &CustomerKey, last: &Text<0, 16>, moment: Moment)
+    ensures { tables.new ≡ tables.old }
+{
+    if has_ended(undo, &Key::Customer(*key), moment) {
+        tables.forget_name(key, last);
     }
 }
 

@@ -1,4 +1,4 @@
-use Rattle.std.proofs.Common.{rules, sym, ap, ◌∙◌}
+use Rattle.std.proofs.Common.{rules, ap, ◌∙◌}
 use Rattle.std.specs.Prelude.{is_some, option_map}
 use Rattle.oe_rows.proofs.KeyFacts.{customer_total, exact_customer}
 use Rattle.oe_rows.specs.declared.rows.Row.TheVariants as row
@@ -7,14 +7,13 @@ use Rattle.oe_store.proofs.PlaceFacts.{place_of_row}
 use Rattle.oe_change.proofs.PlaceFacts.{adds_own}
 use Rattle.oe_change.proofs.updates.update_customer.Goals as goal
 
-pub returns-clause-applied : goal.returns-clause-applied
-returns-clause-applied c = record {
-  accepted = (c.in-Some.old.now, sym c.in-Some.ensures, search rules, search rules);
-  changes = c.update_customer.ensures.rows;
+pub returns-in-Ok-clause-applied : goal.returns-in-Ok-clause-applied
+returns-in-Ok-clause-applied c = record {
+  accepted = search rules;
+  changes = c.in-Ok.ensures.rows;
   before = c.customer_record-record.ensures
       ∙ ap (λ v. record_in c.args.layout (UpdateCustomer c.args.key.now c.args.row) (option_map row.Customer v))
       c.in-Some.ensures;
   places = adds_own _ _ _ c.update_customer.ensures.places
-      (place_of_row customer_total exact_customer _ c.args.key.now
-      (ap is_some c.update_customer.ensures.before));
+      (place_of_row customer_total exact_customer _ c.args.key.now (ap is_some c.in-Ok.ensures.before));
 }

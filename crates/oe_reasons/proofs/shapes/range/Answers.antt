@@ -10,6 +10,14 @@ returns-in-Buyer-clause-items c =
     c.bounds.ensures.items c.text.ensures.items
     ∙ ap (λ k. c.args.out.now.items ++ range_text k) (sym c.in-Buyer.is)
 
+pub returns-in-LastName-clause-items : goal.returns-in-LastName-clause-items
+returns-in-LastName-clause-items c =
+    c.text-in-LastName.ensures.items ∙ ap (λ k. c.args.out.now.items ++ range_text k) (sym c.in-LastName.is)
+
+pub returns-in-FirstName-clause-items : goal.returns-in-FirstName-clause-items
+returns-in-FirstName-clause-items c =
+    c.text-in-FirstName.ensures.items ∙ ap (λ k. c.args.out.now.items ++ range_text k) (sym c.in-FirstName.is)
+
 pub returns-in-Stamp-clause-items : goal.returns-in-Stamp-clause-items
 returns-in-Stamp-clause-items c =
     c.text-in-Stamp.ensures.items ∙ ap (λ k. c.args.out.now.items ++ range_text k) (sym c.in-Stamp.is)

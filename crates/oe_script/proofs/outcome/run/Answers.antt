@@ -1,10 +1,6 @@
 use Rattle.std.proofs.Common.{suc}
-use Rattle.oe_requests.specs.declared.answers.Answer.TheVariants as answer
-use Rattle.oe_requests.specs.declared.steps.Step.TheVariants as step
-use Rattle.oe_core.specs.Steps.{answer_in}
 use Rattle.oe_core.specs.Core.{world_of, last_reply}
-use Rattle.oe_admission.proofs.LiveFacts.{falls}
-use Rattle.oe_core.proofs.LiveFacts.{live_step}
+use Rattle.oe_admission.proofs.LiveFacts.{falls, next_live}
 use Rattle.oe_script.proofs.LineFacts.{answer_of, not_more}
 use Rattle.oe_script.proofs.outcome.run.Goals as goal
 
@@ -14,10 +10,9 @@ loop-ended-smaller c = falls (world_of c.loop-ended.core) (world_of c.advance.ne
 
 pub loop-ended-preserved : goal.loop-ended-preserved
 loop-ended-preserved c =
-    let t = c.args.terminal in
     record {
-      live = live_step (world_of c.loop-ended.core) (step.Advance t) (answer_in (step.Advance t) answer.More)
-          (world_of c.advance.new.self) tt c.loop-ended.invariant.live c.in-More.ensures.0;
+      live = next_live (world_of c.loop-ended.core) _ _ (world_of c.advance.new.self) c.loop-ended.invariant.live
+          c.in-More.ensures.0;
       runs = λ n x w r. c.loop-ended.invariant.runs (suc n) x w (world_of c.advance.new.self, c.in-More.ensures.0, r);
     }
 

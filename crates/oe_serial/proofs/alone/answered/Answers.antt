@@ -7,11 +7,8 @@ use Rattle.oe_serial.proofs.alone.answered.Goals as goal
 pub clear-requires : goal.clear-requires
 clear-requires c = lit< tt
 
-pub carried_out-requires-clause-program : goal.carried_out-requires-clause-program
-carried_out-requires-clause-program c = c.requires.program
-
-pub carried_out-requires-clause-free : goal.carried_out-requires-clause-free
-carried_out-requires-clause-free c = c.requires.free
+pub carried_out-requires : goal.carried_out-requires
+carried_out-requires c = c.requires
 
 pub write_reply-requires-clause-empty : goal.write_reply-requires-clause-empty
 write_reply-requires-clause-empty c = c.clear.ensures

@@ -1,7 +1,6 @@
 use Rattle.std.proofs.Common.{◌≡◌, ℕ, List, lit<, sym, subst, ◌∙◌, inl, inr, rules}
 use Rattle.oe_model.specs.System.{system}
 use Rattle.oe_core.specs.Core.{world_of}
-use Rattle.oe_serial.proofs.WorkFacts.{has_program}
 use Rattle.oe_serial.specs.Files.{Tells}
 use Rattle.oe_serial.specs.InOrder.{between}
 use Rattle.oe_serial.proofs.LineFacts.{words_short}
@@ -31,12 +30,8 @@ pub unreachable-unreachable-in_default-read_request : goal.unreachable-unreachab
 unreachable-unreachable-in_default-read_request c = untold c.args.line.now c.in-Some.words.now c.in-Some.theirs.now
     c.in-Some.ensures c.in_default-read_request.ensures c.requires.told
 
-pub answered-requires-clause-program : goal.answered-requires-clause-program
-answered-requires-clause-program c =
-    has_program c.in-Some-read_request.asked.request c.in-Some-read_request.ensures.form.1
-
-pub answered-requires-clause-free : goal.answered-requires-clause-free
-answered-requires-clause-free c = c.requires.free
+pub answered-requires : goal.answered-requires
+answered-requires c = c.requires.free
 
 pub as_slice-requires : goal.as_slice-requires
 as_slice-requires c = lit< tt

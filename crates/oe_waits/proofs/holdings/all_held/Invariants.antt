@@ -1,4 +1,4 @@
-use Rattle.std.proofs.Common.{◌≡◌, ◌≤◌, ◌*◌}
+use Rattle.std.proofs.Common.{◌≡◌, ◌≤◌, ◌+◌, ◌*◌, ◌^◌}
 use Rattle.oe_core.specs.Core.{world_of}
 use Rattle.oe_ports.specs.Ports.{Sent}
 use Rattle.oe_waits.specs.Names.{held_count}
@@ -10,4 +10,4 @@ abbrev pub invariant-loop-before : goal.invariant-loop-before
 invariant-loop-before g l =
     Sent (g.W.Outlet.sink l.initial.to) l.initial.out.items (g.W.Outlet.sink l.to) l.out.items
     (texts_to (held_lines (world_of l.core)) l.before)
-    × (l.count ≡ held_count (world_of l.core) l.before) × (l.count ≤ 2_000_000_000 * l.before)
+    × (l.count ≡ held_count (world_of l.core) l.before) × (l.count + l.before ≤ 2 ^ 64 * l.before)

@@ -12,10 +12,10 @@ use Rattle.oe_waits.proofs.holdings.all_of_one.Goals as goal
 pub loop-name-init : goal.loop-name-init
 loop-name-init g c =
     let w = world_of c.args.core.now in
-    let none = none_shown w c.args.holder in (
-      sent_as (g.W.Outlet.sink c.args.to.now) (g.W.Outlet.sink c.args.to.now) c.args.out.now.items
-          c.args.out.now.items [] _ (sym (ap (flat_map (held_line w c.args.holder)) none))
-          (sent_none (g.W.Outlet.sink c.args.to.now) c.args.out.now.items),
+    let to = g.W.Outlet.sink c.args.to.now in
+    let out = c.args.out.now.items in
+    let none = ap (shown_names w c.args.holder) c.new-behind.ensures ∙ none_shown w c.args.holder in (
+      sent_as to to out out [] _ (sym (ap (flat_map (held_line w c.args.holder)) none)) (sent_none to out),
       sym (ap length none),
     )
 
@@ -27,11 +27,11 @@ loop-name-preserved g c =
     subst (λ p. Sent old c.args.out.now.items new c.held.new.out.items (shown_lines w c.args.holder p)
     × (c.loop-name.count + 1 ≡ length (shown_names w c.args.holder p))) (sym c.place-behind.ensures.value) (
       line_went old (g.W.Outlet.sink c.loop-name.to) new c.args.out.now.items c.loop-name.out.items
-          c.make_room.new.out.items c.held.new.out.items w c.args.holder c.loop-name.behind c.in-Some.name.now
+          c.make_room.new.out.items c.held.new.out.items w c.args.holder c.loop-name.behind.items c.in-Some.name.now
           c.place-behind.ensures.ranges c.in-Some.ensures c.loop-name.invariant.0
           c.in_default-make_room.ensures.stream
           c.held.ensures,
-      count_shown w c.args.holder c.loop-name.behind c.in-Some.name.now c.loop-name.count
+      count_shown w c.args.holder c.loop-name.behind.items c.in-Some.name.now c.loop-name.count
           c.place-behind.ensures.ranges
           c.in-Some.ensures c.loop-name.invariant.1,
     )
@@ -39,36 +39,37 @@ loop-name-preserved g c =
 pub loop-name-smaller : goal.loop-name-smaller
 loop-name-smaller g c =
     let w = world_of c.args.core.now in
-    let more = count_shown w c.args.holder c.loop-name.behind c.in-Some.name.now c.loop-name.count
+    let more = count_shown w c.args.holder c.loop-name.behind.items c.in-Some.name.now c.loop-name.count
     c.place-behind.ensures.ranges c.in-Some.ensures c.loop-name.invariant.1 in
     let few = few_shown w c.args.holder (place c.in-Some.name.now) in
-    omega (arith, more, few)
+    omega (arith, more, few, c.names_are_few.ensures)
 
 pub overflow_add-count : goal.overflow_add-count
 overflow_add-count g c =
-    let few = few_shown (world_of c.args.core.now) c.args.holder c.loop-name.behind in
-    omega (arith, c.loop-name.invariant.1, few)
+    let few = few_shown (world_of c.args.core.now) c.args.holder c.loop-name.behind.items in
+    omega (arith, c.loop-name.invariant.1, few, c.names_are_few.ensures)
 
 pub returns-in-Err-clause-stream : goal.returns-in-Err-clause-stream
 returns-in-Err-clause-stream g c =
     cut_names (g.W.Outlet.sink c.args.to.now) (g.W.Outlet.sink c.loop-name.to) (g.W.Outlet.sink c.make_room.new.to)
-    c.args.out.now.items c.loop-name.out.items (world_of c.args.core.now) c.args.holder c.loop-name.behind
+    c.args.out.now.items c.loop-name.out.items (world_of c.args.core.now) c.args.holder c.loop-name.behind.items
     c.loop-name.invariant.0 c.in-Err.ensures.stream
 
 pub returns-clause-few : goal.returns-clause-few
 returns-clause-few g c =
-    let few = few_shown (world_of c.args.core.now) c.args.holder c.loop-name.behind in
-    omega (arith, c.loop-name.invariant.1, few)
+    let few = few_shown (world_of c.args.core.now) c.args.holder c.loop-name.behind.items in
+    omega (arith, c.loop-name.invariant.1, few, c.names_are_few.ensures)
 
 pub returns-clause-stream : goal.returns-clause-stream
 returns-clause-stream g c =
     let w = world_of c.args.core.now in
     sent_as (g.W.Outlet.sink c.args.to.now) (g.W.Outlet.sink c.loop-name.to) c.args.out.now.items
     c.loop-name.out.items _ _
-    (ap (flat_map (held_line w c.args.holder)) (all_shown w c.args.holder c.loop-name.behind c.in_default.ensures))
+    (ap (flat_map (held_line w c.args.holder))
+    (all_shown w c.args.holder c.loop-name.behind.items c.in_default.ensures))
     c.loop-name.invariant.0
 
 pub returns-clause-count : goal.returns-clause-count
 returns-clause-count g c =
     c.loop-name.invariant.1
-    ∙ ap length (all_shown (world_of c.args.core.now) c.args.holder c.loop-name.behind c.in_default.ensures)
+    ∙ ap length (all_shown (world_of c.args.core.now) c.args.holder c.loop-name.behind.items c.in_default.ensures)

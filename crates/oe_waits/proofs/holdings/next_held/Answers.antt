@@ -6,7 +6,7 @@ use Rattle.oe_waits.proofs.holdings.next_held.Goals as goal
 
 pub loop-name-preserved : goal.loop-name-preserved
 loop-name-preserved c =
-    let f = is_left (world_of c.args.core.now) c.args.holder c.args.behind.now in
+    let f = is_left (world_of c.args.core.now) c.args.holder c.args.behind.now.items in
     let best = option_map (λ n. n.now) c.loop-name.least in
     subst (IsBest f (take (c.loop-name.name-index + 1) c.names-names.result.now))
     (ap (λ b. lesser best c.name-item.result b) (sym c.is_left.ensures) ∙ sym c.lesser-least.ensures)
@@ -15,6 +15,7 @@ loop-name-preserved c =
 
 pub returns : goal.returns
 returns c =
-    best_all (is_left (world_of c.args.core.now) c.args.holder c.args.behind.now) c.names-names.result.now
+    best_all (is_left (world_of c.args.core.now) c.args.holder c.args.behind.now.items) c.names-names.result.now
     c.loop-name.name-index (option_map (λ n. n.now) c.loop-name.least) (omega arith) c.loop-name.invariant
-    (λ q absent. not_left (world_of c.args.core.now) c.args.holder c.args.behind.now q (c.names-names.ensures q absent))
+    (λ q absent. not_left (world_of c.args.core.now) c.args.holder c.args.behind.now.items q
+    (c.names-names.ensures q absent))

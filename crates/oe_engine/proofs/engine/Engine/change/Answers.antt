@@ -19,7 +19,7 @@ take_and_put-requires-clause-covered c =
     (suc (v.counts t)) c.args.write.now) (sym c.terminal-terminal.ensures)
     (subst (λ a. MayWrite (held_after system a (v.held c.args.tx.now.terminal)) c.args.tx.now.terminal
     (suc (v.counts c.args.tx.now.terminal)) c.args.write.now) (sym c.in-Some.ensures)
-    (may_write v c.args.tx.now.terminal c.args.write.now (c.requires.own open_here) (c.requires.order open_here)))
+    (may_write v c.args.tx.now.terminal c.args.write.now (c.requires.own open_here) (c.requires.beside open_here)))
 
 -- and where it asks for none
 pub put-requires-clause-covered : goal.put-requires-clause-covered
@@ -29,7 +29,7 @@ put-requires-clause-covered c =
     subst (λ t. MayWrite (v.held t) t (suc (v.counts t)) c.args.write.now) (sym c.terminal-terminal.ensures)
     (subst (λ a. MayWrite (held_after system a (v.held c.args.tx.now.terminal)) c.args.tx.now.terminal
     (suc (v.counts c.args.tx.now.terminal)) c.args.write.now) (sym c.in-None.ensures)
-    (may_write v c.args.tx.now.terminal c.args.write.now (c.requires.own open_here) (c.requires.order open_here)))
+    (may_write v c.args.tx.now.terminal c.args.write.now (c.requires.own open_here) (c.requires.beside open_here)))
 
 pub returns-in-None-clause-done : goal.returns-in-None-clause-done
 returns-in-None-clause-done c = λ d found.

@@ -25,6 +25,9 @@ returns-in-Ok-clause-purged c =
 
 pub returns-in-Ok-clause-places : goal.returns-in-Ok-clause-places
 returns-in-Ok-clause-places c =
-    subst (λ n. GivesUpDeleted c.args.tables.now c.forget_oldest.new.tables
+    subst (λ ts. GivesUpDeleted ts c.forget_oldest.new.tables
+    (drop (newest c.args.undo.now.log - c.args.moment) (undo_of c.args.undo.now.log).history)
+    c.forget_oldest.new.undo.log) c.forget_names.ensures
+    (subst (λ n. GivesUpDeleted c.forget_names.new.tables c.forget_oldest.new.tables
     (drop n (undo_of c.args.undo.now.log).history) c.forget_oldest.new.undo.log)
-    (left (goal.at.returns-in-Ok-clause-places c).After-forget_oldest) c.forget_oldest.ensures.places
+    (left (goal.at.returns-in-Ok-clause-places c).After-forget_oldest) c.forget_oldest.ensures.places)

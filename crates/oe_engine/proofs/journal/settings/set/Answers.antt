@@ -33,14 +33,14 @@ returns-in-CustomerAccount-clause-made c =
     let some = rw c.in-CustomerAccount.is at c.requires in
     rw c.in-CustomerAccount.is
     (customer_made c.args.tables.now c.set_account.new.self c.set_account.ensures.places c.in-CustomerAccount.key
-    (λ x. record x { account = c.in-CustomerAccount.account }) (λ x. refl) some c.set_account.ensures.rows)
+    (λ x. record x { account = c.in-CustomerAccount.account }) some c.set_account.ensures.rows)
 
 pub returns-in-BadCredit-clause-made : goal.returns-in-BadCredit-clause-made
 returns-in-BadCredit-clause-made c =
     let some = rw c.in-BadCredit.is at c.requires in
     rw c.in-BadCredit.is
     (customer_made c.args.tables.now c.set_bad_credit.new.self c.set_bad_credit.ensures.places c.in-BadCredit.key
-    (with_entry c.in-BadCredit.account c.in-BadCredit.entry) (λ x. refl) some c.set_bad_credit.ensures.rows)
+    (with_entry c.in-BadCredit.account c.in-BadCredit.entry) some c.set_bad_credit.ensures.rows)
 
 pub returns-in-StockCounters-clause-made : goal.returns-in-StockCounters-clause-made
 returns-in-StockCounters-clause-made c =

@@ -1,7 +1,8 @@
 -- Why a record can't be pushed.
-use Rattle.std.proofs.Common.{◌≡◌, subst, None}
+use Rattle.std.proofs.Common.{◌≡◌, sym, subst, None}
 use Rattle.oe_rows.specs.declared.keys.Key.{Key}
 use Rattle.oe_change.specs.Writes.{key_written}
+use Rattle.oe_undo.specs.Chains.{IsAlone}
 use Rattle.oe_undo.specs.Links.{place_of}
 use Rattle.oe_model.specs.Lengths.{record_length}
 use Rattle.oe_layout.specs.Records.{record_of_lent}
@@ -14,6 +15,13 @@ use Rattle.oe_engine.proofs.MoreFacts.{of_some}
 use Rattle.oe_engine.proofs.LinkedFacts.{unplaced}
 use Rattle.oe_engine.proofs.RecordedFacts.{record_written, writes_may}
 use Rattle.oe_engine.proofs.journal.writes.push_lent.Goals as goal
+
+-- the record is of the key that is written
+pub push-requires-clause-alone : goal.push-requires-clause-alone
+push-requires-clause-alone c =
+    subst (IsAlone c.args.undo.now.log c.args.segment)
+    (sym (record_written c.args.undo.now.log.layout c.args.write.now (rows c.args.tables.now)
+    (record_of_lent c.args.lent.now.record) c.requires.own)) c.requires.alone
 
 pub returns-in-Err-Full-clause-cause : goal.returns-in-Err-Full-clause-cause
 returns-in-Err-Full-clause-cause c =

@@ -13,8 +13,8 @@ unfolding customer_columns name_columns address_columns
 returns c =
     let text : Option (List ℕ) = option_map (λ t. t.now) c.args.self.now.data in
     let all : Writes c.args.bytes.now c.args.start (customer_before (columns_of c.of-account.result text))
-    c.write_data.new.bytes c.write_data.result =
+    c.write_lent.new.bytes c.write_lent.result =
     Writes-then _ _ _ _ _ _ _ _ c.write_customer_mask-at.ensures
-    (Writes-then _ _ _ _ _ _ _ _ c.write-at.ensures c.write_data.ensures) in
+    (Writes-then _ _ _ _ _ _ _ _ c.write-at.ensures c.write_lent.ensures) in
     subst (λ (a : AccountBefore). Writes c.args.bytes.now c.args.start (customer_before (columns_of a text))
-    c.write_data.new.bytes c.write_data.result) c.of-account.ensures all
+    c.write_lent.new.bytes c.write_lent.result) c.of-account.ensures all

@@ -2,7 +2,8 @@
 use Rattle.std.proofs.Common.{refl, sym, ◌∙◌}
 use Rattle.oe_rows.specs.declared.keys.Key.TheVariants as key
 use Rattle.oe_rows.specs.declared.rows.Row.TheVariants as row
-use Rattle.oe_image.specs.Parts.{warehouse_part, district_part, customer_part, order_part, order_line_part, stock_part}
+use Rattle.oe_image.specs.Parts.{warehouse_part, district_part, customer_part, customer_name_part, order_part}
+use Rattle.oe_image.specs.Parts.{order_line_part, stock_part}
 use Rattle.oe_layout.proofs.LengthFacts.{key_alone, key_and_row, warehouse_long, district_long, customer_long}
 use Rattle.oe_layout.proofs.LengthFacts.{order_long, order_line_long, key_and_columns, changed_warehouse_long}
 use Rattle.oe_layout.proofs.LengthFacts.{changed_district_long, changed_customer_long, changed_order_long}
@@ -91,6 +92,13 @@ returns-in-ChangedCustomer-clause-sum c =
     (key_and_columns (key.Customer c.in-ChangedCustomer.key) _ _ _ _
     (changed_customer_long (customer_part c.in-ChangedCustomer.part))
     c.length-in-ChangedCustomer.ensures.value c.length-in-ChangedCustomer-2.ensures.value)
+
+pub returns-in-RenamedCustomer-clause-sum : goal.returns-in-RenamedCustomer-clause-sum
+returns-in-RenamedCustomer-clause-sum c =
+    rw c.in-RenamedCustomer.is
+    (key_and_columns (key.Customer c.in-RenamedCustomer.key) _ _ _ _
+    (changed_customer_long (customer_name_part c.in-RenamedCustomer.part))
+    c.length-in-RenamedCustomer.ensures.value c.length-in-RenamedCustomer-2.ensures.value)
 
 pub returns-in-ChangedOrder-clause-sum : goal.returns-in-ChangedOrder-clause-sum
 returns-in-ChangedOrder-clause-sum c =

@@ -1,4 +1,4 @@
-use Rattle.std.proofs.Common.{◌≡◌, refl, Some}
+use Rattle.std.proofs.Common.{◌≡◌, Some}
 use Rattle.std.specs.FinMap.{get}
 use Rattle.oe_rows.specs.Credit.{with_entry}
 use Rattle.oe_rows.specs.declared.customers.Customer.{Customer}
@@ -16,7 +16,7 @@ left : (c : goal.After-set_bad_credit) (x : Customer)
     → IsLeft (UpdateCustomer c.args.key.now (set c x)) (the_view c.self.inside)
     (record (the_view c.self.inside) { customers = c.set_bad_credit.new.self })
 left c x was = customer_left (the_view c.self.inside) c.set_bad_credit.new.self c.args.key.now (set c x) x
-    (c.set_bad_credit.ensures x was) was refl refl c.self.invariant
+    (c.set_bad_credit.ensures x was) was c.self.invariant
 
 pub invariant_of-self : goal.invariant_of-self
 invariant_of-self c = let there = some_row _ (rw (← c.self.view_is) at c.requires) in (left c there.0 there.1).sound

@@ -1,0 +1,107 @@
+-- What the stages of a rename ask for and do, of the rows as they are.
+use Rattle.std.proofs.Common.{◌≡◌, ℕ, suc, refl, ap, ◌∙◌, inl, inr, true, cond, List, Option, None, Some}
+use Rattle.std.specs.Borrow.{Bor}
+use Rattle.std.specs.Prelude.{is_some, option_map}
+use Rattle.std.specs.Option.{option_copied}
+use Rattle.std.specs.FinMap.{get}
+use Rattle.oe_theory.specs.Machine.{Ask, Stop, Take, Fail, Go, Exclusive}
+use Rattle.oe_theory.specs.Machine as theory
+use Rattle.oe_theory.specs.World.{IsEnough}
+use Rattle.oe_theory.specs.Next.{held_after}
+use Rattle.oe_rows.specs.declared.locks.Name.{Name}
+use Rattle.oe_rows.specs.declared.locks.Name.TheVariants as name
+use Rattle.oe_rows.specs.declared.customers.Customer.{Customer}
+use Rattle.oe_requests.specs.declared.requests.RenameRequest.{RenameRequest}
+use Rattle.oe_requests.specs.declared.requests.Request.TheVariants as request
+use Rattle.oe_requests.specs.declared.replies.Reply.{Reply}
+use Rattle.oe_requests.specs.declared.replies.Reply.TheVariants as reply
+use Rattle.oe_requests.specs.declared.refusals.Refusal.{Refusal}
+use Rattle.oe_requests.specs.declared.refusals.Refusal.TheVariants.{NoCustomer}
+use Rattle.oe_model.specs.Changes.{UpdateCustomer}
+use Rattle.oe_model.specs.Effects.{Doing, given}
+use Rattle.oe_model.specs.Positions.{RenameCustomer, RenameOld, RenameNew, RenameEnd, InRename}
+use Rattle.oe_model.specs.Rename.{renamed, rename_reply, rename_taken, names_of}
+use Rattle.oe_model.specs.System.{system}
+use Rattle.oe_model.proofs.SystemLaws.{name_refl}
+use Rattle.oe_change.specs.declared.writes.Write.TheVariants as write
+use Rattle.oe_engine.specs.View.{EngineState, View, view_of, Handle, IsOpen}
+use Rattle.oe_engine.specs.Stages.{HoldsAll}
+use Rattle.oe_engine.specs.Writes.{change_written, MayWrite}
+use Rattle.oe_engine.specs.Programs.{ask_here, act_here, IsReady}
+use Rattle.oe_rename.specs.Program.{position_of, HasEnded}
+use Rattle.oe_rename.specs.declared.programs.Program.{Program}
+use Rattle.oe_rename.specs.declared.programs.Program.TheVariants as program
+
+-- held alone
+alone : (o : Option theory.Mode) → IsEnough o theory.Exclusive → o ≡ Some theory.Exclusive
+alone None h = absurd h
+alone (Some theory.Exclusive) h = refl
+alone (Some theory.Shared) h = absurd h
+
+-- the customer's name is held alone before the names are set, and the new name once its lock is taken
+pub may_set : (v : View) (t : ℕ) (q : RenameRequest) (last : List ℕ)
+    → HoldsAll v t (rename_taken q (RenameNew last))
+    → MayWrite (held_after system (Take (names_of q.customer q.last) Exclusive) (v.held t)) t (suc (v.counts t))
+    (write.CustomerNames q.customer q.last q.first)
+may_set v t q last h = (
+  alone (v.held t (name.Customer q.customer)) (h (name.Customer q.customer) theory.Exclusive (inr (inl (refl, tt)))),
+  ap (λ b. cond b (Some theory.Exclusive) (v.held t (names_of q.customer q.last)))
+      (name_refl (names_of q.customer q.last)),
+)
+
+-- a row that is found is there
+pub there : (o : Option Customer) → is_some o ≡ true → (y : Customer) × (o ≡ Some y)
+there None e = let no : ⊥ = cc in absurd no
+there (Some y) e = (y, refl)
+
+pub some_copied : (o : Option (Bor Customer)) → is_some (option_copied o) ≡ is_some o
+some_copied None = refl
+some_copied (Some y) = refl
+
+pub is_ready : (s : EngineState) (x : Handle) (q : RenameRequest) (p : Program) → IsOpen s x → HasEnded p
+    → (y : Reply) × IsReady s x (request.Rename q) (InRename q (position_of p)) y
+is_ready s x q (program.End last) o h =
+    (reply.Rename (rename_reply q), record { is_open = o; free = tt; does = refl })
+is_ready s x q program.Customer o h = absurd h
+is_ready s x q (program.OldName last) o h = absurd h
+is_ready s x q (program.NewName last) o h = absurd h
+
+module _ (q : RenameRequest) (x : Handle) (s : EngineState) where
+  -- the lock of a customer who is there
+  abbrev lock_of : Option Customer → Ask Name Refusal
+  lock_of o = elim o [ None ↦ Stop NoCustomer | Some y ↦ Take (name.Customer q.customer) Exclusive ]
+
+  abbrev read_name : Customer → Doing
+  read_name y = Go None (InRename q (RenameOld y.name.last))
+
+  abbrev set_name : List ℕ → Customer → Doing
+  set_name last y = Go (Some (UpdateCustomer q.customer (renamed q y))) (InRename q (RenameEnd last))
+
+  pub absent_stops : get (view_of s).rows.customers q.customer ≡ None
+      → ask_here s x (request.Rename q) (InRename q RenameCustomer) ≡ Stop NoCustomer
+  absent_stops e = ap lock_of e
+
+  pub absent_fails : (last : List ℕ) → get (view_of s).rows.customers q.customer ≡ None
+      → act_here s x (request.Rename q) (InRename q (RenameNew last)) ≡ Fail NoCustomer
+  absent_fails last e = ap (λ o. given NoCustomer o (set_name last)) e
+
+  module _ (y : Customer) (here : get (view_of s).rows.customers q.customer ≡ Some y) where
+    pub customer_asks : ask_here s x (request.Rename q) (InRename q RenameCustomer) ≡ Take (name.Customer q.customer)
+        Exclusive
+    customer_asks = ap lock_of here
+
+    pub customer_reads : act_here s x (request.Rename q) (InRename q RenameCustomer) ≡ Go None
+        (InRename q (RenameOld y.name.last))
+    customer_reads = ap (λ o. given NoCustomer o read_name) here
+
+    pub names_written : (last first : List ℕ) → last ≡ q.last → first ≡ q.first
+        → change_written (write.CustomerNames q.customer last first) (view_of s)
+        ≡ Some (UpdateCustomer q.customer (renamed q y))
+    names_written last first same_last same_first =
+        ap (λ (l : List ℕ). change_written (write.CustomerNames q.customer l first) (view_of s)) same_last
+        ∙ ap (λ (f : List ℕ). change_written (write.CustomerNames q.customer q.last f) (view_of s)) same_first
+        ∙ ap (option_map (λ z. UpdateCustomer q.customer (renamed q z))) here
+
+    pub names_set : (last : List ℕ) → act_here s x (request.Rename q) (InRename q (RenameNew last)) ≡ Go
+        (Some (UpdateCustomer q.customer (renamed q y))) (InRename q (RenameEnd last))
+    names_set last = ap (λ o. given NoCustomer o (set_name last)) here
