@@ -1,14 +1,14 @@
 -- What a change makes of the tables, and why one is refused.
-use Rattle.std.specs.Prelude.{◌≡◌, ◌≢◌, ◌⊎◌, true, Some, is_some, is_none, not}
+use Rattle.std.specs.Prelude.{◌≡◌, ◌⊎◌, true, Some, is_some, is_none, not}
 use Rattle.std.specs.FinMap.{get}
 use Rattle.std.specs.List.{find}
-use Rattle.oe_rows.specs.declared.customers.Customer.{Customer}
 use Rattle.oe_rows.specs.declared.layouts.Layout.{Layout}
 use Rattle.oe_requests.specs.declared.refusals.Refusal.{Refusal}
 use Rattle.oe_requests.specs.declared.refusals.Refusal.TheVariants.{Reference, NoMemory}
 use Rattle.oe_model.specs.Rows.{Rows, row_at}
 use Rattle.oe_model.specs.Changes.{Change, UpdateCustomer, key_of, changed, Record, record_in}
 use Rattle.oe_model.specs.Meets.{Accepts, Cause, is_insert, referred}
+use Rattle.oe_index.specs.Listed.{HasOtherName}
 use Rattle.oe_layout.specs.declared.records.OwnRecord.{OwnRecord}
 use Rattle.oe_layout.specs.Records.{record_of_own}
 use Rattle.oe_store.specs.Places.{Places, rows, HasPlace, AddsPlace}
@@ -27,7 +27,7 @@ HasApplied l c old new b = Applies l c old new (record_of_own b)
 
 -- an update gives a customer another C_LAST
 abbrev pub Renames : Change → Rows → Type 0
-Renames (UpdateCustomer k x) r = (y : Customer) × (get r.customers k ≡ Some y) × (x.name.last ≢ y.name.last)
+Renames (UpdateCustomer k x) r = HasOtherName x.name.last (get r.customers k)
 Renames _ r = ⊥
 
 -- a change takes memory: the key of an insert has no place, or customers are to be found by another C_LAST

@@ -1,17 +1,20 @@
 -- A row of a transaction, and its commit.
 use Rattle.std.proofs.Common.{◌≡◌, ℕ, suc, inl, inr, true, false, cond, List, Option, Some, None, length, slice_get}
 use Rattle.std.proofs.Common.{slice_set, sym, ap, ◌∙◌, subst, refl}
-use Rattle.std.specs.Prelude.{◌⊎◌}
+use Rattle.std.specs.Prelude.{◌⊎◌, option_map, option_and_then}
+use Rattle.std.specs.FinMap.{get}
 use Rattle.std.proofs.lemmas.Bool.{cases_lt}
-use Rattle.oe_theory.specs.Machine.{Mode, Ask, Stop, Plain, Take, Fail, Go, Tx}
-use Rattle.oe_theory.specs.World.{Open, World, total, go_together, latest}
+use Rattle.oe_theory.specs.Machine.{Mode, Shared, Ask, Stop, Plain, Take, Fail, Go, Tx}
+use Rattle.oe_theory.specs.World.{Open, World, total, go_together, latest, overlay}
 use Rattle.oe_theory.specs.Next.{Advance, More, Committed, Aborted, IsNew, GivesWay, held_after, filled, record_on}
 use Rattle.oe_theory.specs.Undo.{lengths_of, used_of}
 use Rattle.oe_theory.specs.Store.{Slot, Store, tx_in, opened_by, slot_after, dropped, IsGrantedIn, IsInTheWayIn}
 use Rattle.oe_theory.specs.Store.{HasRoomIn, MayLackMemoryIn}
 use Rattle.oe_theory.specs.Store as theory
 use Rattle.oe_theory.specs.StoreTheorems.{Leads}
-use Rattle.oe_theory.specs.Laws.{Holds, held_of}
+use Rattle.oe_theory.specs.Laws.{Holds, held_of, Alike}
+use Rattle.oe_theory.proofs.Tables.{alike_tables}
+use Rattle.oe_theory.proofs.Steps.{to_alone}
 use Rattle.oe_theory.proofs.Replay.{taken_held}
 use Rattle.oe_theory.proofs.Sets.{set_same, set_other, set_idle}
 use Rattle.oe_theory.proofs.StoreSteps.{tables_here, is_open_in, granted_here, acts_here}
@@ -19,7 +22,11 @@ use Rattle.oe_theory.proofs.Theorems.{reached_sound, changes_are_accepted, abort
 use Rattle.oe_requests.specs.declared.requests.Request.{Request}
 use Rattle.oe_requests.specs.declared.requests.Request.TheVariants as request
 use Rattle.oe_requests.specs.declared.replies.Reply.{Reply}
+use Rattle.oe_rows.specs.declared.customers.Customer.{Customer}
+use Rattle.oe_rows.specs.declared.keys.Key.TheVariants as key
 use Rattle.oe_rows.specs.declared.locks.Name.{Name}
+use Rattle.oe_rows.specs.declared.locks.Name.TheVariants as name
+use Rattle.oe_rows.specs.declared.rows.Row.TheVariants as row
 use Rattle.oe_requests.specs.declared.refusals.Refusal.{Refusal}
 use Rattle.oe_requests.specs.declared.refusals.Refusal.TheVariants.{NoSuchRow, RowExists, Overflow, Reference}
 use Rattle.oe_requests.specs.declared.refusals.Refusal.TheVariants.{KeyColumn, Busy, UndoFull, NoMemory, NotOpen}
@@ -31,9 +38,11 @@ use Rattle.oe_model.specs.Changes.{Change}
 use Rattle.oe_model.specs.Meets.{Accepts}
 use Rattle.oe_model.specs.Positions as model
 use Rattle.oe_model.specs.Requests.{MayRefuse}
+use Rattle.oe_model.specs.Rows.{Rows, as_customer}
 use Rattle.oe_model.specs.System.{system, ask, act, taken, yields, marks, may_allocate, terminal_limit}
 use Rattle.oe_model.proofs.ChangeFacts.{not_both}
-use Rattle.oe_model.proofs.SystemLaws.{laws}
+use Rattle.oe_model.proofs.LawFacts as law
+use Rattle.oe_model.proofs.SystemLaws.{laws, recalls_alone}
 use Rattle.oe_engine.specs.View.{View, view_of, Handle, IsOpen}
 use Rattle.oe_engine.specs.View as engine
 use Rattle.oe_engine.specs.Calls.{IsFree, IsInTheWay, IsFullFor, IsFullForAny, stage_done, committed, rolled_back}
@@ -43,7 +52,7 @@ use Rattle.oe_engine.proofs.ReplyFacts.{ready_at}
 use Rattle.oe_core.specs.Core.{CoreState, in_slot, reply_left, last_reply, work_at, slot_of, open_at, store_with}
 use Rattle.oe_core.specs.Core.{store_of, world_of, IsOrderly, Moves, keeps_open}
 use Rattle.oe_core.specs.Steps.{refusal_in, Carries}
-use Rattle.oe_core.specs.Works.{WorkState, HoldsTaken, gone_on}
+use Rattle.oe_core.specs.Works.{WorkState, HoldsTaken, Recalls, gone_on}
 use Rattle.oe_model.specs.Positions.{Position}
 use Rattle.oe_core.proofs.WantFacts.{wants_in, allocates}
 use Rattle.oe_core.proofs.SlotFacts.{get_slot, get_set_same}
@@ -170,6 +179,49 @@ holds_taken {s} {t} {x} {w} h n m g =
     subst (λ (k : ℕ). held_of system ((view_of s.engine).held k) n m) (sym (own_work h).terminal)
     (taken_held system laws ((view_of s.engine).held t) (tx_in system t p) (latest system w') o.now course.now n m
     (subst (λ (z : Tx Request). Holds system (taken z w.position) n m) (same_tx s t x w h) g))
+
+-- and what a rename has read still stands
+same_row : (a b : Option Customer) → option_map row.Customer a ≡ option_map row.Customer b → a ≡ b
+same_row a b e = sym (back a) ∙ ap (option_and_then as_customer) e ∙ back b
+  where
+    back : (o : Option Customer) → option_and_then as_customer (option_map row.Customer o) ≡ o
+    back None = refl
+    back (Some x) = refl
+
+recalls_at : (s : engine.EngineState) (t : ℕ) (z : Tx Request) (r : Rows) (p : Position)
+    → Alike system (held_of system ((view_of s).held t)) z (view_of s).rows r
+    → ((n : Name) (m : Mode) → Holds system (taken z p) n m → held_of system ((view_of s).held t) n m)
+    → law.Recalls p r → Recalls s p
+recalls_at s t z r (model.InRename q (model.RenameNew last)) alike held h = (
+  h.0,
+  same_row (get (view_of s).rows.customers q.customer) (get r.customers q.customer)
+      (alike.rows (key.Customer q.customer) (held (name.Customer q.customer) Shared (inr (inl (refl, tt))))) ∙ h.1,
+  h.2,
+)
+recalls_at s t z r (model.InRename q model.RenameCustomer) alike held h = tt
+recalls_at s t z r (model.InRename q (model.RenameOld last)) alike held h = tt
+recalls_at s t z r (model.InRename q (model.RenameEnd last)) alike held h = tt
+recalls_at s t z r (model.InPayment q p) alike held h = tt
+recalls_at s t z r (model.InNewOrder q p) alike held h = tt
+recalls_at s t z r (model.InDelivery q p) alike held h = tt
+recalls_at s t z r (model.InDeliveries q done p) alike held h = tt
+recalls_at s t z r (model.DeliveriesEnd done) alike held h = tt
+
+pub recalls_here : {s : CoreState} {t : ℕ} {x : Handle} {w : WorkState} → HasOpen s t x w → Recalls s.engine w.position
+recalls_here {s} {t} {x} {w} h =
+    let p : Slot system = here s t x w h in
+    let o : Open system = opened_by system ((store_of s).undo.active t) (store_of s).tables p in
+    let w' : World system = theory.world_of system (store_of s) in
+    let sound = reached_sound system laws w' (standing s h.orderly).reached in
+    let i = is_open_in system laws (store_of s) t p (slot_here h) in
+    let course = sound.each t o i in
+    recalls_at s.engine t (tx_in system t p) (overlay system o.now.changes (latest system w')) w.position
+    (subst (λ (r : Rows). Alike system (held_of system ((view_of s.engine).held t)) (tx_in system t p) r
+    (overlay system o.now.changes (latest system w'))) (tables_here system laws (store_of s) (standing s h.orderly))
+    (alike_tables system laws w' sound t o i o.held (λ u z ne g. sound.apart t u o z ne i g)))
+    (λ n m g. taken_held system laws ((view_of s.engine).held t) (tx_in system t p) (latest system w') o.now course.now
+    n m g)
+    (recalls_alone (tx_in system t p) (latest system w') o.now (to_alone system laws w' sound t o i))
 
 -- what no program ends with
 

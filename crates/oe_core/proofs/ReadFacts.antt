@@ -1,7 +1,7 @@
 -- A query of a moment is answered as by a step of the world, which stays as it is.
 use Rattle.std.proofs.Common.{◌≡◌, ℕ, ◌≤◌, ◌<◌, cond, Bool, true, false, List, [], ◌∷◌, Option, Some, None, inl, inr}
 use Rattle.std.proofs.Common.{refl, sym, ap, subst, ◌∙◌}
-use Rattle.std.specs.Prelude.{is_some, count_by}
+use Rattle.std.specs.Prelude.{IsTrue, is_some, count_by}
 use Rattle.std.specs.FinMap.{get, entries}
 use Rattle.oe_theory.specs.Machine.{Outcome, Here, Missing}
 use Rattle.oe_theory.specs.Next.{Read, Answer, Replied, Rejected, Too_old, Future}
@@ -20,13 +20,14 @@ use Rattle.oe_requests.specs.declared.steps.Step.TheVariants as step
 use Rattle.oe_model.specs.Rows.{Rows, row_at}
 use Rattle.oe_model.specs.Requests.{warehouse_no, first_absent, query_rejection}
 use Rattle.oe_model.specs.Keys.{customer_in}
-use Rattle.oe_model.specs.Choice.{chosen}
+use Rattle.oe_model.specs.Choice.{chosen, HaveSameNames}
 use Rattle.oe_model.specs.Queries.{found, last_order, status_of, recent_lines, is_low, answer_of}
 use Rattle.oe_model.specs.System.{system}
 use Rattle.oe_store.specs.Places.{rows}
 use Rattle.oe_store.specs.Places as tables
 use Rattle.oe_log.specs.Log as undo
-use Rattle.oe_engine.specs.View.{view_of, view_from}
+use Rattle.oe_engine.specs.View.{EngineState, view_of, view_from}
+use Rattle.oe_engine.specs.Renames.{NamesStand}
 use Rattle.oe_log.specs.Moments.{store_with, IsKeptMoment, IsUnkept, horizon, newest}
 use Rattle.oe_versions.specs.Versions.{Stand}
 use Rattle.oe_versions.specs.Versions as versions
@@ -43,6 +44,15 @@ stand_here s o ts u e f = (
   subst (λ (v : undo.SegmentLog). IsStanding system (store_with (rows ts) v (store_of s).slots)) (sym f)
       (subst (λ (r : Rows). IsStanding system (store_with r s.engine.undo (store_of s).slots)) (sym e) (standing s o)),
 )
+
+-- where customers had their names in the engine they had them in what is lent
+pub names_here : (s : EngineState) (ts : tables.Places) (u : undo.SegmentLog) (m : ℕ) (stand : Bool)
+    → rows ts ≡ (view_of s).rows → u ≡ s.undo → (IsTrue stand → NamesStand s m) → IsTrue stand
+    → HaveSameNames (versions.version ts u m) (rows ts)
+unfolding view_of view_from
+names_here s ts u m stand e f named h =
+    subst (λ (v : undo.SegmentLog). HaveSameNames (versions.version ts v m) (rows ts)) (sym f)
+    (subst (λ (r : Rows). HaveSameNames (version_of system (versions.without_slots r s.undo) m) r) (sym e) (named h))
 
 -- what is said of the tables and the log that are lent is said of the store
 module _ (s : CoreState) (ts : tables.Places) (u : undo.SegmentLog) (m : ℕ) (q : Query)

@@ -58,6 +58,11 @@ begun q = record { request = q; position = start_of q; mark = start_of q; mark_r
 abbrev pub HoldsTaken : EngineState → Handle → Request → Position → Type 0
 HoldsTaken s x q p = HoldsAll (view_of s) x.terminal (taken (tx_of s x q) p)
 
+-- and where a rename holds the old last name, it is still the customer's
+abbrev pub Recalls : EngineState → Position → Type 0
+Recalls s (InRename q p) = rename.Recalls q s p
+Recalls s _ = Unit {0}
+
 -- after a stage that went on to this position, where n records stood before it: where the stage moves the mark, the
 -- mark is where the program stood
 abbrev pub gone_on : ℕ → WorkState → Position → WorkState

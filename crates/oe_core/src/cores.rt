@@ -253,7 +253,14 @@ impl Core {
         ensures { Carries (world_of self.now) (Step.Read moment query.now) result
             (world_of self.now) }
     {
-        match oe_enquiry::answer(self.engine.tables(), self.engine.undo(), query, moment) {
+        let names_stand = self.engine.names_stand(moment);
+        match oe_enquiry::answer(
+            self.engine.tables(),
+            self.engine.undo(),
+            query,
+            moment,
+            names_stand,
+        ) {
             Ok(reply) => Answer::Replied(reply),
             Err(cause) => Answer::Refused(cause),
         }

@@ -12,7 +12,7 @@ ghost use Rattle.oe_model.specs.System.{ask};
 ghost use Rattle.oe_store.specs.Places.{rows};
 ghost use Rattle.oe_engine.specs.Programs.{Progresses, hold_of, reply_at, wanted};
 ghost use Rattle.oe_delivery.specs.Deliveries.{place_of, HoldsNames};
-ghost use Rattle.oe_core.specs.Works.{begun, state_of, HoldsTaken, Leaves};
+ghost use Rattle.oe_core.specs.Works.{begun, state_of, HoldsTaken, Recalls, Leaves};
 
 use oe_engine::{Engine, Lock, Progress, Savepoint, Tx};
 use oe_requests::{
@@ -296,6 +296,8 @@ impl Work {
     pub fn next(&mut self, engine: &mut Engine, tx: &Tx) -> Progress
         requires held { IsOpen engine.old tx.now
             → HoldsTaken engine.old tx.now self.old.request self.old.position }
+        requires recalls { IsOpen engine.old tx.now
+            → Recalls engine.old self.old.position }
         ensures progresses { Progresses self.old.request tx.now engine.old self.old.position
             result engine.new self.new.position }
         ensures left { Leaves (length ((view_of engine.old).undo.active tx.now.terminal))
@@ -317,6 +319,8 @@ impl Work {
     fn next_other(&mut self, engine: &mut Engine, tx: &Tx) -> Progress
         requires held { IsOpen engine.old tx.now
             → HoldsTaken engine.old tx.now self.old.request self.old.position }
+        requires recalls { IsOpen engine.old tx.now
+            → Recalls engine.old self.old.position }
         ensures progresses { Progresses self.old.request tx.now engine.old self.old.position
             result engine.new self.new.position }
         ensures left { Leaves (length ((view_of engine.old).undo.active tx.now.terminal))

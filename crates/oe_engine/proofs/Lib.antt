@@ -29,5 +29,6 @@ pub mod PastFacts
 mod WriteFacts
 pub mod ReplyFacts
 pub mod PartFacts
+pub mod RenameFacts
 pub mod SafeFacts
 mod SendFacts

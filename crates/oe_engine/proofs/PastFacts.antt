@@ -34,12 +34,15 @@ use Rattle.oe_locks.specs.Held.{Holdings}
 use Rattle.oe_engine.specs.View.{View, view_from}
 use Rattle.oe_engine.specs.Covered.{AreOwned, Unwinds, IsSafe}
 use Rattle.oe_engine.specs.Kept.{IsKept, IsSound}
+use Rattle.oe_engine.specs.Renames.{AreNamed}
+use Rattle.oe_engine.specs.declared.renames.Renames.{Renames}
 use Rattle.oe_engine.specs.Calls.{IsQuiet, CantRewind, purged_to}
 use Rattle.oe_engine.specs.Calls as calls
 use Rattle.oe_engine.proofs.CoveredFacts.{purged_unwinds, all_left, none_unwinds}
 use Rattle.oe_engine.proofs.LinkFacts.{linked_less}
 use Rattle.oe_engine.proofs.NeededFacts.{purged_needed}
 use Rattle.oe_engine.proofs.LockFacts.{held_of}
+use Rattle.oe_engine.proofs.RenameFacts.{named_purged, named_rewound}
 
 -- the commits that are kept have places
 taken_places : (ts : tables.Places) (n : ℕ) (ss : List (List Record)) → AllHavePlaces ts ss
@@ -136,6 +139,17 @@ purge_sound (Ok x) ts ts' u u' ls m is rows_same places links_same same s =
     }
 purge_sound (Err e) ts ts' u u' ls m is rows_same places links_same same s =
     subst (λ z. IsSound z u' ls) (sym same.0) (subst (λ z. IsSound ts z ls) (sym same.1) s)
+
+pub purge_named : {T E : Type 0} (r : Result T E) (ts ts' : tables.Places) (u u' : UndoState) (ls : Holdings) (m : ℕ)
+    (a : Renames)
+    → OnOk r (u'.log ≡ with_newest (past.newest u.log - m) u.log) → rows ts' ≡ rows ts
+    → OnErr r ((ts' ≡ ts) × (u' ≡ u)) → AreNamed (view_from ts u.log ls) a → AreNamed (view_from ts' u'.log ls) a
+purge_named (Ok x) ts ts' u u' ls m a is same err h =
+    subst (λ v. AreNamed v a) (sym (ap (λ z. view_from ts' z ls) is ∙ purged_view ts ts' u.log ls m same))
+    (named_purged m (view_from ts u.log ls) a h)
+purge_named (Err e) ts ts' u u' ls m a is same err h =
+    subst (λ z. AreNamed (view_from z u'.log ls) a) (sym err.0)
+    (subst (λ z. AreNamed (view_from ts z.log ls) a) (sym err.1) h)
 
 pub purge_view : {T E : Type 0} (r : Result T E) (ts ts' : tables.Places) (u u' : UndoState) (ls : Holdings) (m : ℕ)
     → OnOk r (u'.log ≡ with_newest (past.newest u.log - m) u.log)
@@ -235,6 +249,21 @@ rewind_sound (Ok x) ts ts' u u' ls m none log is places stay same same_tables me
     }
 rewind_sound (Err e) ts ts' u u' ls m none log is places stay same same_tables meets s =
     subst (λ z. IsSound z u' ls) (sym same_tables) (subst (λ z. IsSound ts z ls) (sym same) s)
+
+pub rewind_named : (ts ts' : tables.Places) (u u' : UndoState) (ls : Holdings) (m : ℕ) (b : Renames)
+    → open_total u.log ≡ 0 → u'.log ≡ without_newest (past.newest u.log - m) u.log
+    → ((slots : ℕ → Option (Slot system))
+    → store_with (rows ts') u'.log slots ≡ rewound_to system m (store_with (rows ts) u.log slots))
+    → b.since ≡ past.newest u'.log → AreNamed (view_from ts' u'.log ls) b
+unfolding view_from
+rewind_named ts ts' u u' ls m b none log is since =
+    let quiet = none_open u.log none in
+    let stored = subst (λ z. (slots : ℕ → Option (Slot system))
+    → store_with (rows ts') z slots ≡ rewound_to system m (store_with (rows ts) u.log slots)) log is in
+    let view : view_from ts' u'.log ls ≡ calls.rewound_to m (view_from ts u.log ls) =
+    ap (λ z. view_from ts' z ls) log ∙ rewound_view ts ts' u.log ls m quiet stored in
+    subst (λ v. AreNamed v b) (sym view)
+    (named_rewound m (view_from ts u.log ls) b (no_records_of u.log quiet) (since ∙ ap calls.newest view))
 
 pub rewind_view : {T E : Type 0} (r : Result T E) (ts ts' : tables.Places) (u u' : UndoState) (ls : Holdings) (m : ℕ)
     → OnOk r (open_total u.log ≡ 0)

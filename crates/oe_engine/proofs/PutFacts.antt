@@ -19,11 +19,14 @@ use Rattle.oe_engine.proofs.RecordFacts.{write_records}
 use Rattle.oe_locks.specs.Held.{Holdings}
 use Rattle.oe_engine.specs.View.{view_from}
 use Rattle.oe_engine.specs.Covered.{MayMake, IsSafe}
-use Rattle.oe_engine.specs.Kept.{IsKept, IsSound}
+use Rattle.oe_engine.specs.Kept.{IsKept, IsSound, IsOrderly}
+use Rattle.oe_engine.specs.Renames.{AreNamed, Notes}
+use Rattle.oe_engine.specs.declared.renames.Renames.{Renames}
 use Rattle.oe_engine.specs.Calls.{made}
 use Rattle.oe_engine.specs.Writes.{MayWrite}
 use Rattle.oe_engine.proofs.MakeFacts.{change_view, change_kept}
 use Rattle.oe_engine.proofs.SafeFacts.{safe_made}
+use Rattle.oe_engine.proofs.RenameFacts.{named_made, named_noted}
 use Rattle.oe_engine.proofs.WriteFacts.{at_change, of_change, may_make}
 
 module _ (ts ts' : tables.Places) (u x : UndoState) (ls : Holdings) (t : ℕ) where
@@ -33,7 +36,9 @@ module _ (ts ts' : tables.Places) (u x : UndoState) (ls : Holdings) (t : ℕ) wh
 
   -- or this write
   abbrev pub MayWriteHere : Write → Type 0
-  MayWriteHere w = MayWrite ((view_from ts u.log ls).held t) t (suc ((view_from ts u.log ls).counts t)) w
+  MayWriteHere w =
+      MayWrite (view_from ts u.log ls).rows ((view_from ts u.log ls).held t) t
+      (suc ((view_from ts u.log ls).counts t)) w
 
   change_sound : (c : Change) → MayHere c → IsRecorded c ts ts' u x t → AreLinked ts' x.links → IsSound ts u ls
       → IsSound ts' x ls
@@ -72,11 +77,27 @@ module _ (ts ts' : tables.Places) (u x : UndoState) (ls : Holdings) (t : ℕ) wh
   module _ (w : Write) where
     pub put_sound : {T E : Type 0} (r : Result T E) → MayWriteHere w → OnOk r (HasRecorded w ts ts' u x t)
         → OnErr r (ts' ≡ ts) → OnErr r (x.log ≡ u.log) → AreLinked ts' x.links → IsSound ts u ls → IsSound ts' x ls
+    unfolding view_from
     put_sound (Ok v) may h tables log linked s =
         let (c, found, is) = at_change _ _ h in
         change_sound c (may_make ((view_from ts u.log ls).held t) t (suc ((view_from ts u.log ls).counts t)) w (rows ts)
         c found may) is linked s
     put_sound (Err e) may h tables log linked s = same_sound tables log linked s
+
+    pub put_named : {T E : Type 0} (r : Result T E) (a b : Renames) → MayWriteHere w
+        → OnOk r (HasRecorded w ts ts' u x t) → OnErr r (ts' ≡ ts) → OnErr r (x.log ≡ u.log) → Notes w t a b
+        → IsOrderly ts u ls a → AreNamed (view_from ts' x.log ls) b
+    unfolding view_from
+    put_named (Ok v) a b may h tables log noted s =
+        let (c, found, is) = at_change _ _ h in
+        subst (λ z. AreNamed z b) (sym (change_view ts ts' u x ls t c is))
+        (named_made w t c (view_from ts u.log ls) a b found
+        (may_make ((view_from ts u.log ls).held t) t (suc ((view_from ts u.log ls).counts t)) w (rows ts) c found may)
+        s.sound.safe noted s.named)
+    put_named (Err e) a b may h tables log noted s =
+        named_noted w t (view_from ts' x.log ls) a b noted
+        (subst (λ z. AreNamed (view_from z x.log ls) a) (sym tables)
+        (subst (λ z. AreNamed (view_from ts z ls) a) (sym log) s.named))
 
     put_recorded : {T E : Type 0} (r : Result T E) (c : Change) → written w (rows ts) ≡ Some c
         → OnOk r (HasRecorded w ts ts' u x t) → OnOk r (IsRecorded c ts ts' u x t)

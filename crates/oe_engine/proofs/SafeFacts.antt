@@ -42,7 +42,7 @@ use Rattle.oe_engine.proofs.CoveredFacts.{RefersTo, AreApart, whole_made, made_u
 use Rattle.oe_engine.proofs.CoveredFacts.{all_go_back, all_back, sealed_unwinds, none_unwinds}
 
 -- what holds at a terminal that was replaced, and at each other
-at_each : {A : Type 0} (P : ℕ → A → Type 0) (t : ℕ) (x : A) (f : ℕ → A) → P t x → ((u : ℕ) → u ≢ t → P u (f u))
+pub at_each : {A : Type 0} (P : ℕ → A → Type 0) (t : ℕ) (x : A) (f : ℕ → A) → P t x → ((u : ℕ) → u ≢ t → P u (f u))
     → (u : ℕ) → P u (set t x f u)
 at_each P t x f own others u = go (cases_eq u t)
   where
@@ -68,7 +68,7 @@ at_pair {A} P t x f first second others u w ne = go (cases_eq u t) (cases_eq w t
     go (inr e) (inr d) = put (f u) (f w) (set_other t x f u e) (set_other t x f w d) (others u w ne)
 
 -- no two transactions own rows under one guard
-two_owners : (v : View) → IsSafe v → (t u j k : ℕ) → u ≢ t → (g : Guard Name) → Owns (v.held t) t j g
+pub two_owners : (v : View) → IsSafe v → (t u j k : ℕ) → u ≢ t → (g : Guard Name) → Owns (v.held t) t j g
     → Owns (v.held u) u k g → ⊥
 two_owners v s t u j k ne Free a b = a
 two_owners v s t u j k ne (Under n) a b =
@@ -112,7 +112,7 @@ apart_all v s t c m u ne (b ∷ bs) h = (
 )
 
 -- no other transaction has a record of a key that one owns
-has_none : (v : View) → IsSafe v → (t : ℕ) (k : Key) → Owns (v.held t) t (suc (v.counts t)) (governs k) → (u : ℕ)
+pub has_none : (v : View) → IsSafe v → (t : ℕ) (k : Key) → Owns (v.held t) t (suc (v.counts t)) (governs k) → (u : ℕ)
     → u ≢ t → (bs : List Record)
     → AreOwned (v.held u) u (suc (v.counts u)) bs → HaveNone k bs
 has_none v s t k own u ne [] h = tt
@@ -176,7 +176,7 @@ pub taken_alone : (held : Name → Option theory.Mode) (n : Name)
     → held_after system (Take n theory.Exclusive) held n ≡ Some theory.Exclusive
 taken_alone held n = ap (λ b. cond b (Some theory.Exclusive) (held n)) (model.name_refl n)
 
-still_exclusive : (held : Name → Option theory.Mode) (n : Name) (m : theory.Mode) (q : Name)
+pub still_exclusive : (held : Name → Option theory.Mode) (n : Name) (m : theory.Mode) (q : Name)
     → held q ≡ Some theory.Exclusive → held_after system (Take n m) held q ≡ Some theory.Exclusive
 still_exclusive held n m q e =
     ap (λ o. cond (is_name q n) (Some (risen m o)) o) e ∙ go (is_name q n)

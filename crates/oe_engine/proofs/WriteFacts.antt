@@ -59,42 +59,42 @@ module _ (P : Change → Type 0) where
   of_this d c h e = subst P (some_inj d c e) h
 
 -- a change at the write's key, of an order whose name the write's transaction holds
-abbrev IsOf : (Name → Option theory.Mode) → Write → Change → Type 0
-IsOf held w c = (key_of c ≡ key_written w) × (HoldsBeside held w → HoldsOrder held c)
+abbrev IsOf : Rows → (Name → Option theory.Mode) → Write → Change → Type 0
+IsOf r held w c = (key_of c ≡ key_written w) × (HoldsBeside r held w → HoldsOrder held c)
 
-is_of : (held : Name → Option theory.Mode) (w : Write) (r : Rows) (c : Change) → written w r ≡ Some c → IsOf held w c
-is_of held (WarehouseYtd k y) r c e = of_row (IsOf held (WarehouseYtd k y)) _ (get r.warehouses k) c
+is_of : (held : Name → Option theory.Mode) (w : Write) (r : Rows) (c : Change) → written w r ≡ Some c → IsOf r held w c
+is_of held (WarehouseYtd k y) r c e = of_row (IsOf r held (WarehouseYtd k y)) _ (get r.warehouses k) c
     (λ x. (refl, λ h. tt)) e
-is_of held (DistrictYtd k y) r c e = of_row (IsOf held (DistrictYtd k y)) _ (get r.districts k) c (λ x. (refl, λ h. tt))
-    e
-is_of held (NextOrder k n) r c e = of_row (IsOf held (NextOrder k n)) _ (get r.districts k) c (λ x. (refl, λ h. tt)) e
-is_of held (CustomerAccount k a) r c e = of_row (IsOf held (CustomerAccount k a)) _ (get r.customers k) c
+is_of held (DistrictYtd k y) r c e = of_row (IsOf r held (DistrictYtd k y)) _ (get r.districts k) c
     (λ x. (refl, λ h. tt)) e
-is_of held (BadCredit k a t) r c e = of_row (IsOf held (BadCredit k a t)) _ (get r.customers k) c (λ x. (refl, λ h. tt))
-    e
-is_of held (CustomerNames k n m) r c e = of_row (IsOf held (CustomerNames k n m)) _ (get r.customers k) c
+is_of held (NextOrder k n) r c e = of_row (IsOf r held (NextOrder k n)) _ (get r.districts k) c (λ x. (refl, λ h. tt)) e
+is_of held (CustomerAccount k a) r c e = of_row (IsOf r held (CustomerAccount k a)) _ (get r.customers k) c
     (λ x. (refl, λ h. tt)) e
-is_of held (StockCounters k n) r c e = of_row (IsOf held (StockCounters k n)) _ (get r.stocks k) c
+is_of held (BadCredit k a t) r c e = of_row (IsOf r held (BadCredit k a t)) _ (get r.customers k) c
     (λ x. (refl, λ h. tt)) e
-is_of held (Carrier k n) r c e = of_row (IsOf held (Carrier k n)) _ (get r.orders k) c (λ x. (refl, λ h. tt)) e
-is_of held (DeliveryDate k t) r c e = of_row (IsOf held (DeliveryDate k t)) _ (get r.order_lines k) c
+is_of held (CustomerNames k n m) r c e = of_row (IsOf r held (CustomerNames k n m)) _ (get r.customers k) c
     (λ x. (refl, λ h. tt)) e
-is_of held (InsertHistory k x) r c e = of_this (IsOf held (InsertHistory k x)) _ c (refl, λ h. tt) e
-is_of held (InsertNewOrder k) r c e = of_this (IsOf held (InsertNewOrder k)) _ c (refl, λ h. h) e
-is_of held (InsertOrder k x) r c e = of_this (IsOf held (InsertOrder k x)) _ c (refl, λ h. tt) e
-is_of held (InsertOrderLine k x) r c e = of_this (IsOf held (InsertOrderLine k x)) _ c (refl, λ h. tt) e
-is_of held (DeleteNewOrder k) r c e = of_this (IsOf held (DeleteNewOrder k)) _ c (refl, λ h. tt) e
+is_of held (StockCounters k n) r c e = of_row (IsOf r held (StockCounters k n)) _ (get r.stocks k) c
+    (λ x. (refl, λ h. tt)) e
+is_of held (Carrier k n) r c e = of_row (IsOf r held (Carrier k n)) _ (get r.orders k) c (λ x. (refl, λ h. tt)) e
+is_of held (DeliveryDate k t) r c e = of_row (IsOf r held (DeliveryDate k t)) _ (get r.order_lines k) c
+    (λ x. (refl, λ h. tt)) e
+is_of held (InsertHistory k x) r c e = of_this (IsOf r held (InsertHistory k x)) _ c (refl, λ h. tt) e
+is_of held (InsertNewOrder k) r c e = of_this (IsOf r held (InsertNewOrder k)) _ c (refl, λ h. h) e
+is_of held (InsertOrder k x) r c e = of_this (IsOf r held (InsertOrder k x)) _ c (refl, λ h. tt) e
+is_of held (InsertOrderLine k x) r c e = of_this (IsOf r held (InsertOrderLine k x)) _ c (refl, λ h. tt) e
+is_of held (DeleteNewOrder k) r c e = of_this (IsOf r held (DeleteNewOrder k)) _ c (refl, λ h. tt) e
 
 -- so a transaction that may make the write may make the change
 pub may_make : (held : Name → Option theory.Mode) (t k : ℕ) (w : Write) (r : Rows) (c : Change) → written w r ≡ Some c
-    → MayWrite held t k w → MayMake held t k c
+    → MayWrite r held t k w → MayMake held t k c
 may_make held t k w r c e may =
     let (same, holds) = is_of held w r c e in
     (subst (λ j. Owns held t k (governs j)) (sym same) may.0, holds may.1)
 
 -- it may make the write once its name was taken
-beside_still : (v : View) (t : ℕ) (w : Write) → HoldsBeside (v.held t) w
-    → HoldsBeside (held_after system (ask_of_write w) (v.held t)) w
+beside_still : (v : View) (t : ℕ) (w : Write) → HoldsBeside v.rows (v.held t) w
+    → HoldsBeside v.rows (held_after system (ask_of_write w) (v.held t)) w
 beside_still v t (InsertNewOrder k) h = h
 beside_still v t (WarehouseYtd k y) h = tt
 beside_still v t (DistrictYtd k y) h = tt
@@ -111,15 +111,15 @@ beside_still v t (InsertOrderLine k x) h = tt
 beside_still v t (DeleteNewOrder k) h = tt
 
 pub may_write : (v : View) (t : ℕ) (w : Write) → IsOwn t (suc (v.counts t)) (governs (key_written w))
-    → HoldsBeside (v.held t) w
-    → MayWrite (held_after system (ask_of_write w) (v.held t)) t (suc (v.counts t)) w
+    → HoldsBeside v.rows (v.held t) w
+    → MayWrite v.rows (held_after system (ask_of_write w) (v.held t)) t (suc (v.counts t)) w
 may_write v t w own order =
     (owns_to_write v t (suc (v.counts t)) (governs (key_written w)) own, beside_still v t w order)
 
 pub may_after : (t : ℕ) (n : Name) (m : theory.Mode) (w : Write) (v : View)
-    → MayWrite (held_after system (Take n m) (v.held t)) t (suc (v.counts t)) w
-    → MayWrite ((locked t n m v).held t) t (suc ((locked t n m v).counts t)) w
-may_after t n m w v h = subst (λ held. MayWrite held t (suc (v.counts t)) w)
+    → MayWrite v.rows (held_after system (Take n m) (v.held t)) t (suc (v.counts t)) w
+    → MayWrite v.rows ((locked t n m v).held t) t (suc ((locked t n m v).counts t)) w
+may_after t n m w v h = subst (λ held. MayWrite v.rows held t (suc (v.counts t)) w)
     (sym (set_at t (held_after system (Take n m) (v.held t)) v.held)) h
 
 -- ---- why it is refused

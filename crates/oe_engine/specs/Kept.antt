@@ -12,6 +12,8 @@ use Rattle.oe_engine.specs.Linked.{AreLinked}
 use Rattle.oe_engine.specs.Named.{AreNeeded}
 use Rattle.oe_engine.specs.View.{view_from}
 use Rattle.oe_engine.specs.Covered.{IsSafe}
+use Rattle.oe_engine.specs.Renames.{AreNamed}
+use Rattle.oe_engine.specs.declared.renames.Renames.{Renames}
 
 pub record IsKept (ts : tables.Places) (u : undo.SegmentLog) (ls : Holdings) : Type 0 where
   pub size : length u.terminals ≡ suc TERMINALS
@@ -25,9 +27,14 @@ pub record IsKept (ts : tables.Places) (u : undo.SegmentLog) (ls : Holdings) : T
   -- the number of an open transaction is in its range
   pub counted : (t : ℕ) → is_some (active_at u t) ≡ true → count_at u t < 4_294_967_295
 
--- an engine's tables, undo log and locks
+-- its tables, undo log and locks
 pub record IsSound (ts : tables.Places) (s : UndoState) (ls : Holdings) : Type 0 where
   pub kept : IsKept ts s.log ls
   pub safe : IsSafe (view_from ts s.log ls)
   -- only an insert at a key without a place in its table takes memory for a link
   pub linked : AreLinked ts s.links
+
+-- and what it knows of its customers' names
+pub record IsOrderly (ts : tables.Places) (s : UndoState) (ls : Holdings) (n : Renames) : Type 0 where
+  pub sound : IsSound ts s ls
+  pub named : AreNamed (view_from ts s.log ls) n

@@ -15,4 +15,5 @@ pub mod Opened
 pub mod Calls
 pub mod Writes
 pub mod Programs
+pub mod Renames
 pub mod Stages

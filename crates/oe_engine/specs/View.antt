@@ -15,6 +15,7 @@ use Rattle.oe_log.specs.Log as undo
 use Rattle.oe_log.specs.Stands.{undo_of, seals_of, counts_of}
 use Rattle.oe_undo.specs.Links.{LinkMaps}
 use Rattle.oe_locks.specs.Held.{Holdings, held}
+use Rattle.oe_engine.specs.declared.renames.Renames.{Renames}
 
 -- the rows as they are, open work included; the undo records of open transactions and of commits; the commits, newest
 -- first; the terminals' counts of commits; what each terminal holds; which have a transaction open; and how many
@@ -48,9 +49,11 @@ pub record EngineState : Type 0 where
   pub undo : undo.SegmentLog
   pub links : LinkMaps
   pub locks : Holdings
+  pub renames : Renames
   pub name : ℕ
 
--- what it stands for. Places of blanked keys, links, and the order in which names are kept are not part of that
+-- what it stands for. Places of blanked keys, links, the order in which names are kept, and what is known of renames
+-- are not part of that
 unfoldable pub view_of : EngineState → View
 view_of s = view_from s.tables s.undo s.locks
 

@@ -8,7 +8,10 @@ use Rattle.oe_rows.specs.declared.locks.Name.{Name}
 use Rattle.oe_rows.specs.declared.locks.Name.TheVariants as name
 use Rattle.oe_requests.specs.declared.refusals.Refusal.{Refusal}
 use Rattle.oe_requests.specs.declared.refusals.Refusal.TheVariants.{Busy, NotOpen, NoMemory, NoSuchRow}
+use Rattle.std.specs.FinMap.{get}
+use Rattle.oe_rows.specs.declared.customers.Customer.{Customer}
 use Rattle.oe_model.specs.Keys.{order_of_new_order}
+use Rattle.oe_model.specs.Rows.{Rows}
 use Rattle.oe_model.specs.Changes.{Change}
 use Rattle.oe_model.specs.Locks.{governs}
 use Rattle.oe_model.specs.Rename.{names_of}
@@ -29,15 +32,17 @@ abbrev pub change_written : Write → View → Option Change
 change_written w v = written w v.rows
 
 -- beside the name of its row, whoever inserts a NEW-ORDER row holds the name of its order, and whoever gives a customer
--- other names holds alone who has the new last name
-abbrev pub HoldsBeside : (Name → Option theory.Mode) → Write → Type 0
-HoldsBeside held (InsertNewOrder k) = IsSome (held (name.Order (order_of_new_order k)))
-HoldsBeside held (CustomerNames k last first) = held (names_of k last) ≡ Some theory.Exclusive
-HoldsBeside held _ = Unit {0}
+-- other names holds alone who has the last name that it gives, and who has the last name that the customer has
+abbrev pub HoldsBeside : Rows → (Name → Option theory.Mode) → Write → Type 0
+HoldsBeside r held (InsertNewOrder k) = IsSome (held (name.Order (order_of_new_order k)))
+HoldsBeside r held (CustomerNames k last first) =
+    (held (names_of k last) ≡ Some theory.Exclusive)
+    × ((x : Customer) → get r.customers k ≡ Some x → held (names_of k x.name.last) ≡ Some theory.Exclusive)
+HoldsBeside r held _ = Unit {0}
 
 -- transaction k of terminal t may make the write beside others' open work: of a row that it alone may change
-abbrev pub MayWrite : (Name → Option theory.Mode) → ℕ → ℕ → Write → Type 0
-MayWrite held t k w = Owns held t k (governs (key_written w)) × HoldsBeside held w
+abbrev pub MayWrite : Rows → (Name → Option theory.Mode) → ℕ → ℕ → Write → Type 0
+MayWrite r held t k w = Owns held t k (governs (key_written w)) × HoldsBeside r held w
 
 -- why a write without its row is refused: the row is absent
 abbrev pub AbsentRefused : Key → Refusal → Type 0

@@ -20,6 +20,7 @@ ghost use Rattle.oe_engine.specs.Calls.{ask_of, IsFree, IsBusy, IsBelow, begun, 
 use crate::journal;
 use crate::opening::beside;
 use crate::programs::Lock;
+use crate::renames::Renames;
 use oe_locks::Locks;
 use oe_log::Segment;
 use oe_requests::{Column, Refusal, Reply, Request};
@@ -37,6 +38,8 @@ pub struct Engine {
     pub(crate) tables: Tables,
     pub(crate) undo: Undo,
     pub(crate) locks: Locks,
+    // Since when customers have had their names.
+    pub(crate) renames: Renames,
     name: u32,
     alloc: Global,
 }
@@ -45,7 +48,7 @@ impl Model for Engine {
     ghost use Rattle.std.specs.Coded.{codes};
     ghost use Rattle.std.specs.FinMap.{code as map_code};
     ghost use Rattle.oe_engine.specs.View.{EngineState};
-    ghost use Rattle.oe_engine.specs.Kept.{IsSound};
+    ghost use Rattle.oe_engine.specs.Kept.{IsOrderly};
 
     ghost Value = { EngineState };
 
@@ -56,10 +59,11 @@ impl Model for Engine {
       undo = e.undo.log;
       links = e.undo.links;
       locks = e.locks;
+      renames = e.renames;
       name = e.name;
     } };
 
-    ghost invariant = { λ e. IsSound e.tables e.undo e.locks };
+    ghost invariant = { λ e. IsOrderly e.tables e.undo e.locks e.renames };
 }
 
 /// An open transaction of an engine. It can't be dropped: `commit` or `rollback` spends it.
@@ -140,10 +144,12 @@ impl Engine {
             return Err(NoMemory);
         };
         tables.schema_holds();
+        let renames = Renames::none(undo.segments().newest());
         Ok(Engine {
             tables,
             undo,
             locks,
+            renames,
             name,
             alloc,
         })
@@ -382,6 +388,7 @@ impl Engine {
         let segment = Segment::of(terminal);
         let moment = self.undo.seal(segment, request, reply);
         self.locks.release_all(segment.terminal());
+        self.renames = self.renames.ended(terminal, moment);
         Ok(moment)
     }
 
@@ -409,6 +416,8 @@ impl Engine {
         journal::take_back(&mut self.tables, &mut self.undo, segment, count);
         self.undo.drop_segment(segment);
         self.locks.release_all(terminal);
+        let newest = self.undo.segments().newest();
+        self.renames = self.renames.ended(terminal, newest);
         Ok(())
     }
 
@@ -422,6 +431,7 @@ impl Engine {
             tables,
             undo,
             locks,
+            renames: _,
             name: _,
             alloc: _,
         } = self;

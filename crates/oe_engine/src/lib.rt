@@ -21,6 +21,7 @@ pub mod journal;
 mod opening;
 pub mod past;
 pub mod programs;
+pub mod renames;
 pub mod stages;
 pub mod writes;
 

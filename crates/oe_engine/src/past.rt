@@ -1,17 +1,28 @@
-//! Commits that a purge forgets or a rewind undoes. Neither takes memory; refused, either changes
-//! nothing.
-ghost use Rattle.std.specs.Prelude.{◌≡◌, IfErr, OnOk, OnErr};
+//! Commits that a purge forgets or a rewind undoes, and whether customers had their names before
+//! them. Nothing takes memory; a purge or a rewind that is refused changes nothing.
+ghost use Rattle.std.specs.Prelude.{◌≡◌, IsTrue, IfErr, OnOk, OnErr};
 ghost use Rattle.oe_log.specs.Moments.{IsOutside};
 ghost use Rattle.oe_engine.specs.GivesUp.{GivesUpDeleted};
+ghost use Rattle.oe_engine.specs.Renames.{NamesStand};
 ghost use Rattle.oe_engine.specs.View.{view_of};
 ghost use Rattle.oe_engine.specs.Calls.{newest, horizon, records_up_to, IsQuiet, IsKeptMoment, CantRewind, purged_to, rewound_to};
 
 use crate::engine::Engine;
 use crate::journal;
+use crate::renames::Renames;
 use oe_requests::Refusal;
 use oe_values::Moment;
 
 impl Engine {
+    /// Tells whether each customer had the names at a moment that it has now, as far as is known
+    /// without a look at rows or records: no open transaction may be renaming one, and none that
+    /// has ended since was.
+    pub fn names_stand(&self, moment: Moment) -> bool
+        ensures { IsTrue result → NamesStand self.now moment }
+    {
+        self.renames.stand(moment)
+    }
+
     /// Forgets the commits up to a moment, which becomes the oldest that can be read. All rows,
     /// open work and the later commits stay as they are; the NEW-ORDER keys that the forgotten
     /// commits deleted, that have no row and no record left, have no place any more. It takes no
@@ -30,7 +41,8 @@ impl Engine {
             (IsOutside (horizon (view_of self.old)) (newest (view_of self.old)) moment) }
         ensures err { OnErr result (self.new ≡ self.old) }
     {
-        journal::purge(&mut self.tables, &mut self.undo, moment)
+        let may_forget = !self.renames.stand(self.undo.segments().horizon());
+        journal::purge(&mut self.tables, &mut self.undo, moment, may_forget)
     }
 
     /// Undoes the commits after a moment, the newest first, while no transaction is open: the
@@ -50,6 +62,12 @@ impl Engine {
     {
         let answer = journal::rewind(&mut self.tables, &mut self.undo, moment);
         self.tables.schema_holds();
-        answer
+        match answer {
+            Ok(()) => {
+                self.renames = Renames::none(self.undo.segments().newest());
+                Ok(())
+            }
+            Err(refusal) => Err(refusal),
+        }
     }
 }

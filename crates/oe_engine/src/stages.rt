@@ -48,7 +48,8 @@ pub fn put(engine: &mut Engine, tx: &Tx, write: &Write) -> Result<(), Refusal>
         → IsOwn tx.now.terminal (suc ((view_of engine.old).counts tx.now.terminal))
         (governs (key_written write.now)) }
     requires beside { IsOpen engine.old tx.now
-        → HoldsBeside ((view_of engine.old).held tx.now.terminal) write.now }
+        → HoldsBeside (view_of engine.old).rows ((view_of engine.old).held tx.now.terminal)
+        write.now }
     ensures does { (c : model.Change) → change_written write.now (view_of engine.old) ≡ Some c
         → Does engine.old tx.now (ask_of_write write.now) (Some c) result engine.new }
     ensures there { OnOk result
@@ -68,7 +69,8 @@ pub fn put_held(engine: &mut Engine, tx: &Tx, write: &Write) -> Result<(), Refus
         → Owns ((view_of engine.old).held tx.now.terminal) tx.now.terminal
         (suc ((view_of engine.old).counts tx.now.terminal)) (governs (key_written write.now)) }
     requires beside { IsOpen engine.old tx.now
-        → HoldsBeside ((view_of engine.old).held tx.now.terminal) write.now }
+        → HoldsBeside (view_of engine.old).rows ((view_of engine.old).held tx.now.terminal)
+        write.now }
     ensures does { (c : model.Change) → change_written write.now (view_of engine.old) ≡ Some c
         → Does engine.old tx.now Plain (Some c) result engine.new }
     ensures there { OnOk result
@@ -84,7 +86,8 @@ pub fn put_held(engine: &mut Engine, tx: &Tx, write: &Write) -> Result<(), Refus
 /// transaction holds alone. After an error the engine stands for what it stood for before.
 pub fn put_under(engine: &mut Engine, tx: &Tx, lock: &Lock, write: &Write) -> Result<(), Refusal>
     requires covered { IsOpen engine.old tx.now
-        → MayWrite (held_after system (Take lock.now.name (mode_of lock.now.mode))
+        → MayWrite (view_of engine.old).rows
+        (held_after system (Take lock.now.name (mode_of lock.now.mode))
         ((view_of engine.old).held tx.now.terminal)) tx.now.terminal
         (suc ((view_of engine.old).counts tx.now.terminal)) write.now }
     ensures does { (c : model.Change) → change_written write.now (view_of engine.old) ≡ Some c

@@ -26,7 +26,8 @@ impl Engine {
     #[inline]
     fn put(&mut self, terminal: Terminal, write: &Write) -> Result<(), Refusal>
         requires open { (view_of self.old).is_open terminal ≡ true }
-        requires covered { MayWrite ((view_of self.old).held terminal) terminal
+        requires covered { MayWrite (view_of self.old).rows ((view_of self.old).held terminal)
+            terminal
             (suc ((view_of self.old).counts terminal)) write.now }
         ensures there { OnOk result (IsSome (change_written write.now (view_of self.old))) }
         ensures accepted { ForSome (change_written write.now (view_of self.old))
@@ -48,6 +49,7 @@ impl Engine {
         ensures err { OnErr result (view_of self.new ≡ view_of self.old) }
     {
         let segment = Segment::of(terminal);
+        self.renames = self.renames.noted(terminal, write);
         journal::write(&mut self.tables, &mut self.undo, segment, write)
     }
 
@@ -61,7 +63,7 @@ impl Engine {
         write: &Write,
     ) -> Result<(), Refusal>
         requires open { (view_of self.old).is_open terminal ≡ true }
-        requires covered { MayWrite
+        requires covered { MayWrite (view_of self.old).rows
             (held_after system (Take lock.now.name (mode_of lock.now.mode))
             ((view_of self.old).held terminal)) terminal
             (suc ((view_of self.old).counts terminal)) write.now }
@@ -123,7 +125,8 @@ impl Engine {
             → IsOwn tx.now.terminal (suc ((view_of self.old).counts tx.now.terminal))
             (governs (key_written write.now)) }
         requires beside { IsOpen self.old tx.now
-            → HoldsBeside ((view_of self.old).held tx.now.terminal) write.now }
+            → HoldsBeside (view_of self.old).rows ((view_of self.old).held tx.now.terminal)
+            write.now }
         ensures open { OnOk result (IsOpen self.old tx.now) }
         ensures free { OnOk result
             (IsFree (view_of self.old) tx.now.terminal (ask_of_write write.now)) }
@@ -167,7 +170,8 @@ impl Engine {
     /// Refused as `change`, where the lock is this one: after an error nothing has changed.
     pub fn change_under(&mut self, tx: &Tx, lock: &Lock, write: &Write) -> Result<(), Refusal>
         requires covered { IsOpen self.old tx.now
-            → MayWrite (held_after system (Take lock.now.name (mode_of lock.now.mode))
+            → MayWrite (view_of self.old).rows
+            (held_after system (Take lock.now.name (mode_of lock.now.mode))
             ((view_of self.old).held tx.now.terminal)) tx.now.terminal
             (suc ((view_of self.old).counts tx.now.terminal)) write.now }
         ensures open { OnOk result (IsOpen self.old tx.now) }

@@ -1,10 +1,11 @@
 //! A query of a moment, of either kind, with the refusals that come before its answer.
-ghost use Rattle.std.specs.Prelude.{◌≡◌, IfOk, IfErr};
+ghost use Rattle.std.specs.Prelude.{◌≡◌, IsTrue, IfOk, IfErr};
 ghost use Rattle.oe_theory.specs.Machine.{Here, Missing};
 ghost use Rattle.oe_model.specs.Requests.{query_rejection};
+ghost use Rattle.oe_model.specs.Choice.{HaveSameNames};
 ghost use Rattle.oe_model.specs.Queries.{answer_of};
 ghost use Rattle.oe_store.specs.Places.{rows};
-ghost use Rattle.oe_versions.specs.Versions.{rows_of, Stand};
+ghost use Rattle.oe_versions.specs.Versions.{version, rows_of, Stand};
 ghost use Rattle.oe_enquiry.specs.Reply.{IsReply, IsRefused};
 
 use crate::level::stock_level;
@@ -48,6 +49,8 @@ fn answer_of(version: &Version<'_>, query: &Query) -> Result<QueryReply, Refusal
 /// Gives what a query is answered of a moment, as all commits up to it have left the rows, without
 /// anybody's open work: what `order_status` or `stock_level` answers of that version.
 ///
+/// Where `names_stand` says that customers had their names, they are found by last name as now.
+///
 /// `NoSuchRow` with the warehouse where that is absent; otherwise `TooOld` with the horizon and
 /// `Future` with the newest moment, exactly where the moment is not between the two; otherwise as
 /// `order_status` and `stock_level` refuse it.
@@ -57,8 +60,11 @@ pub fn answer(
     undo: &Undo,
     query: &Query,
     moment: Moment,
+    names_stand: bool,
 ) -> Result<QueryReply, Refusal>
-    requires { Stand tables.now undo.now.log }
+    requires stand { Stand tables.now undo.now.log }
+    requires names { IsTrue names_stand
+        → HaveSameNames (version tables.now undo.now.log moment) (rows tables.now) }
     ensures reply { IfOk result (λ f. IsReply query.now tables.now undo.now.log moment f) }
     ensures refusal { IfErr result (λ e. IsRefused query.now tables.now undo.now.log moment e) }
 {
@@ -66,7 +72,7 @@ pub fn answer(
         return Err(refusal);
     }
     match Version::at(tables, undo, moment) {
-        Ok(version) => answer_of(&version, query),
+        Ok(version) => answer_of(&version.with_names(names_stand), query),
         Err(refusal) => Err(refusal),
     }
 }

@@ -27,6 +27,7 @@ use name_map::NameMap;
 use oe_requests::Refusal;
 use oe_rows::{Mode, Name};
 use oe_values::{PerTerminal, TERMINALS, Terminal};
+pub use sets::TerminalSet;
 use std::alloc::{AllocError, Global};
 use std::marker::Model;
 

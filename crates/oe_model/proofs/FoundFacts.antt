@@ -1,14 +1,14 @@
 -- What is found in the tables: whether an order is local, a district's oldest order, a delivery's lines, a customer's
 -- last order.
 use Rattle.std.proofs.Common.{◌≡◌, ◌≢◌, ℕ, suc, ◌≤◌, refl, sym, subst, ◌∙◌, ap, Bool, true, false, cond, List, [], ◌∷◌}
-use Rattle.std.proofs.Common.{Option, Some, None, arith}
-use Rattle.std.specs.Prelude.{◌==◌, option_map, find, not, nat_le}
+use Rattle.std.proofs.Common.{Option, Some, None, inl, inr, arith}
+use Rattle.std.specs.Prelude.{◌⊎◌, ◌==◌, option_map, find, not, nat_le}
 use Rattle.std.specs.List.{All, list_all}
 use Rattle.std.specs.Ordering.{eq_by_cmp}
 use Rattle.std.proofs.lemmas.Int.{ints}
 use Rattle.std.proofs.lemmas.Bool.{leb-false, eqb-true, eq-eqb}
 use Rattle.std.proofs.lemmas.List.Sums.{AllPass-from_list_all, list_all-from_AllPass}
-use Rattle.std.specs.FinMap.{get, entries, get-entries}
+use Rattle.std.specs.FinMap.{get, insert, entries, get-entries}
 use Rattle.std.specs.FinMap.Entries as listed
 use Rattle.oe_rows.specs.Key.{district_cmp, customer_cmp, new_order_cmp, order_cmp, order_line_cmp}
 use Rattle.oe_rows.specs.declared.keys.DistrictKey.{DistrictKey}
@@ -16,11 +16,14 @@ use Rattle.oe_rows.specs.declared.keys.CustomerKey.{CustomerKey}
 use Rattle.oe_rows.specs.declared.keys.NewOrderKey.{NewOrderKey}
 use Rattle.oe_rows.specs.declared.keys.OrderKey.{OrderKey}
 use Rattle.oe_rows.specs.declared.keys.OrderLineKey.{OrderLineKey}
+use Rattle.oe_rows.specs.declared.customers.Customer.{Customer}
 use Rattle.oe_rows.specs.declared.orders.NewOrder.{NewOrder}
 use Rattle.oe_rows.specs.declared.orders.Order.{Order}
 use Rattle.oe_rows.specs.declared.orders.OrderLine.{OrderLine}
 use Rattle.oe_requests.specs.declared.requests.RequestLine.{RequestLine}
 use Rattle.oe_requests.specs.declared.requests.DeliveryRequest.{DeliveryRequest}
+use Rattle.oe_requests.specs.declared.requests.RenameRequest.{RenameRequest}
+use Rattle.oe_requests.specs.declared.replies.Reply.{Reply}
 use Rattle.oe_requests.specs.declared.replies.DistrictDelivery.{DistrictDelivery}
 use Rattle.oe_requests.specs.declared.replies.DistrictDelivery.TheVariants.{Skipped}
 use Rattle.oe_rows.proofs.KeyFacts.{district_total, exact_district, customer_total, exact_customer, new_order_total}
@@ -32,13 +35,15 @@ use Rattle.oe_model.specs.Rows.{Rows}
 use Rattle.oe_model.specs.Conditions.{HasNewOrder}
 use Rattle.oe_model.specs.Delivery.{undelivered, oldest, lines_of, worth, dated, delivered_to, delivered_out}
 use Rattle.oe_model.specs.Delivery.{delivery_of, district_effect}
+use Rattle.oe_model.specs.Rename.{renamed, rename_effect}
 use Rattle.oe_model.specs.Queries.{orders_of, last_order}
-use Rattle.oe_model.specs.Rules.{Order_is_local, Oldest_is_least, Delivery_is_exact, IsLastOrder, Order_is_last}
+use Rattle.oe_model.specs.Rules.{Order_is_local, Oldest_is_least, Delivery_is_exact, Rename_is_exact, IsLastOrder}
+use Rattle.oe_model.specs.Rules.{Order_is_last}
 use Rattle.oe_model.proofs.MapFacts.{get-each, is_same, is_self}
 use Rattle.oe_model.proofs.EntryFacts.{get_kept, entries_at, row_among}
 use Rattle.oe_model.proofs.ListFacts.{each_among, none_is, found_passes, none_passes, unbeaten, top, kept_among}
 use Rattle.oe_model.proofs.ListFacts.{each_kept, not_above}
-use Rattle.oe_model.proofs.PresenceFacts.{missing}
+use Rattle.oe_model.proofs.PresenceFacts.{missing, key_cases, get_other}
 use Rattle.oe_model.proofs.EffectFacts.{made_by, there, there_in_range}
 use Rattle.oe_model.proofs.QueueFacts.{oldest_least}
 
@@ -115,6 +120,27 @@ delivery_is_exact = record {
       (lines_of_effect q r one.0 one.1 o k x at
       (sym (ap (λ (v : Option ℕ). let w : Option (Rows × DistrictDelivery) = elim v
       [ None ↦ Some (r, Skipped) | Some o ↦ delivery_of q o r ] in w) is) ∙ one_at))));
+}
+
+-- a rename leaves each other customer as it is
+other_stays : (q : RenameRequest) (r after : Rows) (y : Reply) (k : CustomerKey) → rename_effect q r ≡ Some (after, y)
+    → k ≢ q.customer → get after.customers k ≡ get r.customers k
+other_stays q r after y k e n =
+    there (get after.customers k ≡ get r.customers k) (get r.customers q.customer) _ _ e (λ x _ e.
+    sym (ap (λ (s : Rows). get s.customers k) (made_by _ after _ y e))
+    ∙ by_case x (key_cases customer_total exact_customer k q.customer))
+  where
+    by_case : (x : Customer) → (k ≡ q.customer) ⊎ (eq_by_cmp customer_cmp k q.customer ≡ false)
+        → get (insert r.customers q.customer (renamed q x)) k ≡ get r.customers k
+    by_case x (inl s) = absurd (n s)
+    by_case x (inr t) = get_other customer_total exact_customer r.customers q.customer (renamed q x) k t
+
+pub rename_is_exact : Rename_is_exact
+rename_is_exact = record {
+  last = λ q x. refl;
+  first = λ q x. refl;
+  others = λ q x. refl;
+  alone = other_stays;
 }
 
 -- Order-Status finds the customer's last order

@@ -47,6 +47,7 @@ use Rattle.oe_model.specs.Locks.{governs, governs_part, Facet, WarehouseThere, D
 use Rattle.oe_model.specs.Locks.{CustomerNamed}
 use Rattle.oe_model.specs.Locks.{StockThere, WholeItem, There, First, Whole, facet_key, part, first_if_named}
 use Rattle.oe_model.specs.Positions.{Position, InRename, RenameOld, RenameNew}
+use Rattle.oe_model.specs.Rename.{HasLast}
 use Rattle.oe_model.specs.Effects.{Doing, given, within}
 use Rattle.oe_model.specs.Choice.{middle, chosen}
 use Rattle.oe_model.specs.NewOrder.{item_at}
@@ -127,9 +128,6 @@ Knows P (InsertNewOrder k x) = P (name.Order (order_of_new_order k)) Shared
 Knows P _ = Unit {0}
 
 -- what a position has read of a row that its program holds, and that still stands there
-abbrev pub HasLast : CustomerKey → List ℕ → Rows → Type 0
-HasLast k last r = (x : Customer) × (get r.customers k ≡ Some x) × (x.name.last ≡ last)
-
 abbrev pub Recalls : Position → Rows → Type 0
 Recalls (InRename q (RenameOld last)) r = HasLast q.customer last r
 Recalls (InRename q (RenameNew last)) r = HasLast q.customer last r

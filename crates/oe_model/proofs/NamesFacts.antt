@@ -10,9 +10,12 @@ use Rattle.oe_rows.specs.Key.{district_cmp, customer_cmp}
 use Rattle.oe_rows.specs.declared.keys.DistrictKey.{DistrictKey}
 use Rattle.oe_rows.specs.declared.keys.CustomerKey.{CustomerKey}
 use Rattle.oe_rows.specs.declared.customers.Customer.{Customer}
+use Rattle.oe_rows.specs.declared.customers.CustomerName.{CustomerName}
+use Rattle.oe_rows.specs.declared.rows.Row.TheVariants as row
 use Rattle.oe_rows.proofs.KeyFacts.{district_total, exact_district, customer_total, exact_customer}
 use Rattle.oe_model.specs.Keys.{district_of_customer}
-use Rattle.oe_model.specs.Choice.{named, namesakes}
+use Rattle.oe_model.specs.Choice.{named, namesakes, name_in, HaveSameNames}
+use Rattle.oe_model.specs.Rows.{Rows}
 use Rattle.oe_model.specs.Locks.{first_if_named}
 use Rattle.oe_model.proofs.MapFacts.{is_self, mapped, same_mapped}
 use Rattle.oe_model.proofs.PresenceFacts.{key_cases}
@@ -67,3 +70,28 @@ module _ (h : DistrictKey) (last : List ℕ) where
       (λ k. by_rows k (get a k) (get b k) (p k) (n k)
       (key_cases district_total exact_district (district_of_customer k) h)))
       ∙ sym (taken_from (entries b))
+
+-- what a row's names alone tell
+abbrev name_of : Option Customer → Option CustomerName
+name_of v = name_in (option_map row.Customer v)
+
+abbrev first_in : List ℕ → Option CustomerName → Option (List ℕ)
+first_in last None = None
+first_in last (Some n) = cond (eq_by_cmp (slice_cmp nat_cmp) n.last last) (Some n.first) None
+
+first_by_name : (last : List ℕ) (v : Option Customer) → first_if_named last v ≡ first_in last (name_of v)
+first_by_name last None = refl
+first_by_name last (Some x) = refl
+
+there_by_name : (v : Option Customer) → is_some v ≡ is_some (name_of v)
+there_by_name None = refl
+there_by_name (Some x) = refl
+
+-- who has a last name is told by all customers' names
+pub named_alike : (h : DistrictKey) (last : List ℕ) (r s : Rows) → HaveSameNames r s
+    → namesakes h last r.customers ≡ namesakes h last s.customers
+named_alike h last r s e =
+    same_namesakes h last r.customers s.customers
+    (λ k. there_by_name (get r.customers k) ∙ ap is_some (e k) ∙ sym (there_by_name (get s.customers k)))
+    (λ k own. first_by_name last (get r.customers k) ∙ ap (first_in last) (e k)
+    ∙ sym (first_by_name last (get s.customers k)))

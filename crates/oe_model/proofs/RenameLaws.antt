@@ -24,12 +24,12 @@ use Rattle.oe_model.specs.Locks.{WarehouseThere, DistrictThere, CustomerThere, C
 use Rattle.oe_model.specs.Locks.{There, First, Facet, Part, facet_key, part, first_if_named, governs_part}
 use Rattle.oe_model.specs.Positions.{Position, InRename, RenamePosition, RenameCustomer, RenameOld, RenameNew}
 use Rattle.oe_model.specs.Positions.{RenameEnd}
-use Rattle.oe_model.specs.Rename.{renamed, names_of}
+use Rattle.oe_model.specs.Rename.{HasLast, renamed, names_of}
 use Rattle.oe_model.specs.System.{system, ask, act, taken}
 use Rattle.oe_model.proofs.PresenceFacts.{key_cases}
 use Rattle.oe_model.proofs.RowFacts.{un_customer}
 use Rattle.oe_model.proofs.LawFacts.{IsAskedNow, HeldThen, held_then, holds_asked, given_same, given_goes, IsLawful}
-use Rattle.oe_model.proofs.LawFacts.{HasLast, Recalls, MayTurn, lawful_at, lawful_none, changes_one, alike_customer}
+use Rattle.oe_model.proofs.LawFacts.{Recalls, MayTurn, lawful_at, lawful_none, changes_one, alike_customer}
 
 -- the customer's lock, where it is there
 abbrev customer_lock : RenameRequest → Option Customer → Ask Name Refusal

@@ -217,7 +217,7 @@ overlay-add : (c : Option Change) (cs : List Change) (r : Rows)
 overlay-add None cs r = refl
 overlay-add (Some c) cs r = refl
 
-recalls_alone : (x : Tx Request) (r : Rows) (s : State system) → Alone system x r s
+pub recalls_alone : (x : Tx Request) (r : Rows) (s : State system) → Alone system x r s
     → Recalls s.position (overlay system s.changes r)
 recalls_alone x r _ at_start = recalls_first x x.request r
 recalls_alone x r _ (one_more s c p before i e) =

@@ -1,6 +1,6 @@
 -- Which customer is meant, by number or by last name (clauses 2.5.2.2 and 2.6.2.2).
-use Rattle.std.specs.Prelude.{ℕ, ◌+◌, ◌/◌, ◌==◌, Bool, cond, ◌&&◌, List, length, count_by, find, Option, None, Some}
-use Rattle.std.specs.Prelude.{option_map}
+use Rattle.std.specs.Prelude.{◌≡◌, ℕ, ◌+◌, ◌/◌, ◌==◌, Bool, cond, ◌&&◌, List, length, count_by, find, Option, None}
+use Rattle.std.specs.Prelude.{Some, option_map, option_and_then}
 use Rattle.std.specs.List.{filter_map}
 use Rattle.std.specs.Ordering.{eq_by_cmp, nat_cmp, ordering_then, is_lt}
 use Rattle.std.specs.Cmp.Lexicographic.{slice_cmp}
@@ -8,10 +8,14 @@ use Rattle.std.specs.FinMap.{FinMap, get, entries}
 use Rattle.oe_rows.specs.Key.{district_cmp, customer_cmp}
 use Rattle.oe_rows.specs.declared.keys.DistrictKey.{DistrictKey}
 use Rattle.oe_rows.specs.declared.keys.CustomerKey.{CustomerKey}
+use Rattle.oe_rows.specs.declared.keys.Key.TheVariants as key
 use Rattle.oe_rows.specs.declared.customers.Customer.{Customer}
+use Rattle.oe_rows.specs.declared.customers.CustomerName.{CustomerName}
+use Rattle.oe_rows.specs.declared.rows.Row.{Row}
 use Rattle.oe_requests.specs.declared.requests.CustomerChoice.{CustomerChoice}
 use Rattle.oe_requests.specs.declared.requests.CustomerChoice.TheVariants.{Number, LastName}
 use Rattle.oe_model.specs.Keys.{district_of_customer, customer_in}
+use Rattle.oe_model.specs.Rows.{Rows, row_at, as_customer}
 
 -- C_FIRST and C_ID of a customer of the district with this C_LAST
 abbrev pub named : DistrictKey → List ℕ → CustomerKey → Customer → Option (List ℕ × ℕ)
@@ -35,3 +39,15 @@ middle xs = option_map (λ x. x.1) (find (λ x. count_by (λ y. comes_before y x
 abbrev pub chosen : DistrictKey → CustomerChoice → FinMap customer_cmp Customer → Option ℕ
 chosen h (Number c) customers = option_map (λ x. c) (get customers (customer_in h c))
 chosen h (LastName last) customers = middle (namesakes h last customers)
+
+-- what the customer of a row is called
+abbrev pub name_in : Option Row → Option CustomerName
+name_in v = option_map (λ (x : Customer). x.name) (option_and_then as_customer v)
+
+-- what a customer is called
+abbrev pub name_at : Rows → CustomerKey → Option CustomerName
+name_at r k = name_in (row_at r (key.Customer k))
+
+-- each customer has the same names in both
+abbrev pub HaveSameNames : Rows → Rows → Type 0
+HaveSameNames r s = (k : CustomerKey) → name_at r k ≡ name_at s k

@@ -1,5 +1,5 @@
 -- A rename: a customer gets another last and first name. It is none of the standard's transactions.
-use Rattle.std.specs.Prelude.{ℕ, List, [], ◌∷◌, Option, None, Some}
+use Rattle.std.specs.Prelude.{◌≡◌, ℕ, List, [], ◌∷◌, Option, None, Some}
 use Rattle.std.specs.FinMap.{get, insert}
 use Rattle.oe_theory.specs.Machine.{Exclusive, Ask, Stop, Plain, Take, Go, Ready, Hold}
 use Rattle.oe_rows.specs.declared.keys.CustomerKey.{CustomerKey}
@@ -37,6 +37,10 @@ rename_effect q r = do
     record r { customers = insert r.customers q.customer (renamed q x) },
     reply.Rename (rename_reply q),
   )
+
+-- the customer is there, with that C_LAST
+abbrev pub HasLast : CustomerKey → List ℕ → Rows → Type 0
+HasLast k last r = (x : Customer) × (get r.customers k ≡ Some x) × (x.name.last ≡ last)
 
 -- who of the customer's district has a last name lies under this lock
 abbrev pub names_of : CustomerKey → List ℕ → Name

@@ -26,6 +26,7 @@ use Rattle.oe_requests.specs.declared.requests.LevelQuery.{LevelQuery}
 use Rattle.oe_requests.specs.declared.replies.QueryReply.TheVariants as told
 use Rattle.oe_requests.specs.declared.requests.RequestLine.{RequestLine}
 use Rattle.oe_requests.specs.declared.requests.NewOrderRequest.{NewOrderRequest}
+use Rattle.oe_requests.specs.declared.requests.RenameRequest.{RenameRequest}
 use Rattle.oe_requests.specs.declared.requests.DeliveryRequest.{DeliveryRequest}
 use Rattle.oe_requests.specs.declared.replies.Reply.{Reply}
 use Rattle.oe_model.specs.Keys.{customer_in, customer_of_order, order_of_line, order_in, district_of_order}
@@ -36,6 +37,7 @@ use Rattle.oe_model.specs.Choice.{namesakes, comes_before, middle, chosen}
 use Rattle.oe_model.specs.Payment.{paid_warehouse, paid_district, paid_customer}
 use Rattle.oe_model.specs.NewOrder.{supplied, asked, after_lines, occurs_in, order_row}
 use Rattle.oe_model.specs.Delivery.{oldest, delivered_to, dated, delivery_effect}
+use Rattle.oe_model.specs.Rename.{renamed, rename_effect}
 use Rattle.oe_model.specs.Queries.{last_order, stock_level}
 use Rattle.oe_model.specs.Conditions.{HasNewOrder, IsLeast}
 
@@ -130,6 +132,19 @@ pub record Delivery_is_exact : Type 0 where
       → get r.order_lines k ≡ Some x
       → (order_of_line k ≡ order_in q.district o → get after.order_lines k ≡ Some (dated q.stamp x))
       × (order_of_line k ≢ order_in q.district o → get after.order_lines k ≡ Some x)
+
+-- a rename, which is none of the standard's transactions
+pub record Rename_is_exact : Type 0 where
+  pub last : (q : RenameRequest) (x : Customer) → (renamed q x).name.last ≡ q.last
+  pub first : (q : RenameRequest) (x : Customer) → (renamed q x).name.first ≡ q.first
+  -- no other column changes
+  pub others : (q : RenameRequest) (x : Customer)
+      → record (renamed q x) {
+        name = record (renamed q x).name { last = x.name.last; first = x.name.first };
+      } ≡ x
+  -- nor does another customer
+  pub alone : (q : RenameRequest) (r after : Rows) (y : Reply) (k : CustomerKey) → rename_effect q r ≡ Some (after, y)
+      → k ≢ q.customer → get after.customers k ≡ get r.customers k
 
 -- the customer that is chosen by last name has that C_LAST, and with those before it, by C_FIRST and C_ID, is half of
 -- the district's customers with that name, rounded up; and one is chosen where there is any (clause 2.5.2.2)

@@ -7,7 +7,7 @@ pub mod populations;
 pub mod verdicts;
 
 ghost use Rattle.oe_model.specs.RowLaws.{Tables_are_a_map, Records_undo, Changes_are_judged};
-ghost use Rattle.oe_model.specs.Rules.{Payment_is_exact, Stock_is_exact, Text_occurs, Order_is_local, Oldest_is_least, Delivery_is_exact, Order_is_last, Level_is_exact, Name_is_middle, Modes_conflict, Worked};
+ghost use Rattle.oe_model.specs.Rules.{Payment_is_exact, Stock_is_exact, Text_occurs, Order_is_local, Oldest_is_least, Delivery_is_exact, Rename_is_exact, Order_is_last, Level_is_exact, Name_is_middle, Modes_conflict, Worked};
 ghost use Rattle.oe_model.specs.Headline.{System_is_lawful, Programs_end, Runs_begin, Transactions_are_atomic, Versions_are_serial, Records_bring_back, Store_is_exact, Answers_are_known, Schema_always_holds, Conditions_hold};
 
 /// The nine tables are one map from key to row.
@@ -111,6 +111,11 @@ pub fn oldest_is_least()
 /// What a delivery leaves of its customer and of its lines (clause 2.7.4.2).
 pub fn delivery_is_exact()
     ensures { Delivery_is_exact }
+{}
+
+/// What a rename leaves of its customer, and of the others.
+pub fn rename_is_exact()
+    ensures { Rename_is_exact }
 {}
 
 /// Order-Status tells of the customer's last order (clause 2.6.2.2).

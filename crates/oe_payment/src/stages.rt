@@ -53,7 +53,8 @@ fn go(engine: &mut Engine, tx: &Tx, write: &Write, stage: &mut Stage, next: Stag
     requires open { IsOpen engine.old tx.now }
     requires own { IsOwn tx.now.terminal (suc ((view_of engine.old).counts tx.now.terminal))
         (governs (key_written write.now)) }
-    requires beside { HoldsBeside ((view_of engine.old).held tx.now.terminal) write.now }
+    requires beside { HoldsBeside (view_of engine.old).rows
+        ((view_of engine.old).held tx.now.terminal) write.now }
     ensures does { (q : PaymentRequest) (p p' : PaymentPosition) (c : Change)
         → IsStage q tx.now engine.old p write.now c p'
         → Does q tx.now engine.old p result engine.new p' }

@@ -1,13 +1,12 @@
 -- What the stages of a rename ask for and do, of the rows as they are.
-use Rattle.std.proofs.Common.{◌≡◌, ℕ, suc, refl, ap, ◌∙◌, inl, inr, true, cond, List, Option, None, Some}
-use Rattle.std.specs.Borrow.{Bor}
-use Rattle.std.specs.Prelude.{is_some, option_map}
-use Rattle.std.specs.Option.{option_copied}
+use Rattle.std.proofs.Common.{◌≡◌, ℕ, suc, refl, sym, ap, subst, ◌∙◌, inl, inr, cond, List, Option, None, Some}
+use Rattle.std.specs.Prelude.{option_map}
 use Rattle.std.specs.FinMap.{get}
-use Rattle.oe_theory.specs.Machine.{Ask, Stop, Take, Fail, Go, Exclusive}
+use Rattle.oe_theory.specs.Machine.{Ask, Stop, Take, Go, Exclusive}
 use Rattle.oe_theory.specs.Machine as theory
 use Rattle.oe_theory.specs.World.{IsEnough}
 use Rattle.oe_theory.specs.Next.{held_after}
+use Rattle.oe_theory.proofs.Sets.{some_inj}
 use Rattle.oe_rows.specs.declared.locks.Name.{Name}
 use Rattle.oe_rows.specs.declared.locks.Name.TheVariants as name
 use Rattle.oe_rows.specs.declared.customers.Customer.{Customer}
@@ -20,7 +19,7 @@ use Rattle.oe_requests.specs.declared.refusals.Refusal.TheVariants.{NoCustomer}
 use Rattle.oe_model.specs.Changes.{UpdateCustomer}
 use Rattle.oe_model.specs.Effects.{Doing, given}
 use Rattle.oe_model.specs.Positions.{RenameCustomer, RenameOld, RenameNew, RenameEnd, InRename}
-use Rattle.oe_model.specs.Rename.{renamed, rename_reply, rename_taken, names_of}
+use Rattle.oe_model.specs.Rename.{HasLast, renamed, rename_reply, rename_taken, names_of}
 use Rattle.oe_model.specs.System.{system}
 use Rattle.oe_model.proofs.SystemLaws.{name_refl}
 use Rattle.oe_change.specs.declared.writes.Write.TheVariants as write
@@ -28,6 +27,7 @@ use Rattle.oe_engine.specs.View.{EngineState, View, view_of, Handle, IsOpen}
 use Rattle.oe_engine.specs.Stages.{HoldsAll}
 use Rattle.oe_engine.specs.Writes.{change_written, MayWrite}
 use Rattle.oe_engine.specs.Programs.{ask_here, act_here, IsReady}
+use Rattle.oe_engine.proofs.SafeFacts.{still_exclusive}
 use Rattle.oe_rename.specs.Program.{position_of, HasEnded}
 use Rattle.oe_rename.specs.declared.programs.Program.{Program}
 use Rattle.oe_rename.specs.declared.programs.Program.TheVariants as program
@@ -38,25 +38,25 @@ alone None h = absurd h
 alone (Some theory.Exclusive) h = refl
 alone (Some theory.Shared) h = absurd h
 
--- the customer's name is held alone before the names are set, and the new name once its lock is taken
-pub may_set : (v : View) (t : ℕ) (q : RenameRequest) (last : List ℕ)
+-- the customer's name and the old last name are held alone before the names are set, and the new name once its lock is
+-- taken
+pub may_set : (v : View) (t : ℕ) (q : RenameRequest) (last : List ℕ) → HasLast q.customer last v.rows
     → HoldsAll v t (rename_taken q (RenameNew last))
-    → MayWrite (held_after system (Take (names_of q.customer q.last) Exclusive) (v.held t)) t (suc (v.counts t))
+    → MayWrite v.rows (held_after system (Take (names_of q.customer q.last) Exclusive) (v.held t)) t (suc (v.counts t))
     (write.CustomerNames q.customer q.last q.first)
-may_set v t q last h = (
+may_set v t q last stands h = (
   alone (v.held t (name.Customer q.customer)) (h (name.Customer q.customer) theory.Exclusive (inr (inl (refl, tt)))),
-  ap (λ b. cond b (Some theory.Exclusive) (v.held t (names_of q.customer q.last)))
-      (name_refl (names_of q.customer q.last)),
+  (
+    ap (λ b. cond b (Some theory.Exclusive) (v.held t (names_of q.customer q.last)))
+        (name_refl (names_of q.customer q.last)),
+    λ x there.
+        let same : stands.0 ≡ x = some_inj _ _ (sym stands.1 ∙ there) in
+        let is : last ≡ x.name.last = sym stands.2 ∙ ap (λ (z : Customer). z.name.last) same in
+        still_exclusive (v.held t) (names_of q.customer q.last) theory.Exclusive (names_of q.customer x.name.last)
+        (subst (λ l. v.held t (names_of q.customer l) ≡ Some theory.Exclusive) is
+        (alone (v.held t (names_of q.customer last)) (h (names_of q.customer last) theory.Exclusive (inl (refl, tt))))),
+  ),
 )
-
--- a row that is found is there
-pub there : (o : Option Customer) → is_some o ≡ true → (y : Customer) × (o ≡ Some y)
-there None e = let no : ⊥ = cc in absurd no
-there (Some y) e = (y, refl)
-
-pub some_copied : (o : Option (Bor Customer)) → is_some (option_copied o) ≡ is_some o
-some_copied None = refl
-some_copied (Some y) = refl
 
 pub is_ready : (s : EngineState) (x : Handle) (q : RenameRequest) (p : Program) → IsOpen s x → HasEnded p
     → (y : Reply) × IsReady s x (request.Rename q) (InRename q (position_of p)) y
@@ -80,10 +80,6 @@ module _ (q : RenameRequest) (x : Handle) (s : EngineState) where
   pub absent_stops : get (view_of s).rows.customers q.customer ≡ None
       → ask_here s x (request.Rename q) (InRename q RenameCustomer) ≡ Stop NoCustomer
   absent_stops e = ap lock_of e
-
-  pub absent_fails : (last : List ℕ) → get (view_of s).rows.customers q.customer ≡ None
-      → act_here s x (request.Rename q) (InRename q (RenameNew last)) ≡ Fail NoCustomer
-  absent_fails last e = ap (λ o. given NoCustomer o (set_name last)) e
 
   module _ (y : Customer) (here : get (view_of s).rows.customers q.customer ≡ Some y) where
     pub customer_asks : ask_here s x (request.Rename q) (InRename q RenameCustomer) ≡ Take (name.Customer q.customer)

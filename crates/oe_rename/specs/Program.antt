@@ -4,7 +4,7 @@ use Rattle.oe_requests.specs.declared.requests.RenameRequest.{RenameRequest}
 use Rattle.oe_requests.specs.declared.requests.Request.TheVariants as request
 use Rattle.oe_requests.specs.declared.refusals.Refusal.{Refusal}
 use Rattle.oe_model.specs.Positions.{RenamePosition, RenameCustomer, RenameOld, RenameNew, RenameEnd, InRename}
-use Rattle.oe_model.specs.Rename.{rename_taken}
+use Rattle.oe_model.specs.Rename.{HasLast, rename_taken}
 use Rattle.oe_engine.specs.View.{EngineState, view_of, Handle}
 use Rattle.oe_engine.specs.Stages.{HoldsAll}
 use Rattle.oe_engine.specs.Programs.{GoesOn, IsRefused}
@@ -26,6 +26,11 @@ HasEnded _ = ⊥
 -- the names that are taken on the way to this position are held
 abbrev pub HoldsTaken : RenameRequest → Handle → EngineState → RenamePosition → Type 0
 HoldsTaken q x s p = HoldsAll (view_of s) x.terminal (rename_taken q p)
+
+-- where the old last name is held, it is still the customer's
+abbrev pub Recalls : RenameRequest → EngineState → RenamePosition → Type 0
+Recalls q s (RenameNew last) = HasLast q.customer last (view_of s).rows
+Recalls q s _ = Unit {0}
 
 -- a stage: the program after it, or its refusal
 abbrev pub Steps : RenameRequest → Handle → EngineState → RenamePosition → Result Program Refusal → EngineState → Type 0

@@ -9,7 +9,7 @@ ghost use Rattle.oe_model.specs.Rename.{rename_ask};
 ghost use Rattle.oe_store.specs.Places.{rows};
 ghost use Rattle.oe_engine.specs.View.{IsOpen};
 ghost use Rattle.oe_engine.specs.Programs.{Progresses, hold_of, renamed_reply, wanted};
-ghost use Rattle.oe_rename.specs.Program.{position_of, HasEnded, HoldsTaken, Steps};
+ghost use Rattle.oe_rename.specs.Program.{position_of, HasEnded, HoldsTaken, Recalls, Steps};
 
 use crate::stages::{set_names, take_customer, take_old_name};
 use oe_engine::{Engine, Lock, Progress, Tx};
@@ -117,6 +117,7 @@ impl Program {
         requires underway { HasEnded self.now → ⊥ }
         requires open { IsOpen engine.old tx.now }
         requires held { HoldsTaken request.now tx.now engine.old (position_of self.now) }
+        requires recalls { Recalls request.now engine.old (position_of self.now) }
         ensures { Steps request.now tx.now engine.old (position_of self.now) result engine.new }
     {
         match self {
@@ -128,7 +129,7 @@ impl Program {
     }
 
     /// Carries out one stage of the rename: its lock and its one change. The names that the stages
-    /// before have taken are held.
+    /// before have taken are held, and the old last name is still the customer's.
     ///
     /// `NotOpen`: the transaction is not one of this engine. `NoCustomer`: there is no such
     /// customer. `Busy`: another holds the stage's name. `UndoFull`: the record of the change has
@@ -138,6 +139,8 @@ impl Program {
     pub fn next(&mut self, request: &RenameRequest, engine: &mut Engine, tx: &Tx) -> Progress
         requires held { IsOpen engine.old tx.now
             → HoldsTaken request.now tx.now engine.old (position_of self.old) }
+        requires recalls { IsOpen engine.old tx.now
+            → Recalls request.now engine.old (position_of self.old) }
         ensures { Progresses (Request.Rename request.now) tx.now
             engine.old (InRename request.now (position_of self.old))
             result engine.new (InRename request.now (position_of self.new)) }

@@ -2,11 +2,11 @@
 ghost use Rattle.std.specs.Prelude.{◌≡◌};
 ghost use Rattle.oe_model.specs.Positions.{RenameCustomer, RenameOld, RenameNew};
 ghost use Rattle.oe_engine.specs.View.{IsOpen};
-ghost use Rattle.oe_rename.specs.Program.{HoldsTaken, Steps};
+ghost use Rattle.oe_rename.specs.Program.{HoldsTaken, Recalls, Steps};
 
 use crate::programs::{Program, new_name};
 use oe_change::Write;
-use oe_engine::stages::{failed, hold, put_under};
+use oe_engine::stages::{hold, put_under};
 use oe_engine::{Engine, Lock, Tx};
 use oe_requests::{Refusal, RenameRequest};
 use oe_rows::Name;
@@ -49,8 +49,7 @@ pub fn take_old_name(
     }
 }
 
-/// Takes the name of who has the new C_LAST alone, and sets C_LAST and C_FIRST. `NoCustomer` where
-/// the customer, whose name is held, is absent.
+/// Takes the name of who has the new C_LAST alone, and sets C_LAST and C_FIRST.
 pub fn set_names(
     request: &RenameRequest,
     last: ShortText,
@@ -59,13 +58,11 @@ pub fn set_names(
 ) -> Result<Program, Refusal>
     requires open { IsOpen engine.old tx.now }
     requires held { HoldsTaken request.now tx.now engine.old (RenameNew last) }
+    requires recalls { Recalls request.now engine.old (RenameNew last) }
     ensures { Steps request.now tx.now engine.old (RenameNew last) result engine.new }
 {
     let key = &request.customer;
     let lock = &Lock::exclusive(new_name(request));
-    if engine.tables().customer(*key).is_none() {
-        return Err(failed(engine, tx, *lock, Refusal::NoCustomer));
-    }
     let write = Write::CustomerNames(*key, request.last.as_text(), request.first.as_text());
     match put_under(engine, tx, lock, &write) {
         Ok(()) => Ok(Program::End(last)),

@@ -37,7 +37,7 @@ total_set zero t v f h = refl
 total_set (suc n) t v f h =
     omega (arith, total_set n t v f (omega (arith, h)), set_other t v f n (λ e. omega (arith, e, h)))
 
-total_bump : (n t : ℕ) (f : ℕ → ℕ) → t < n → total n (bump t f) ≡ suc (total n f)
+pub total_bump : (n t : ℕ) (f : ℕ → ℕ) → t < n → total n (bump t f) ≡ suc (total n f)
 total_bump zero t f h = absurd (omega (arith, h))
 total_bump (suc n) t f h = go (cases_eq n t) (total_bump n t f)
   where

@@ -187,6 +187,8 @@ impl PartialEq for ShortText {
 
     ghost laws = { partial_equiv_from_equiv nat_list_eq_equiv };
 
+    // In no caller, so that names of locks without a text are compared where they are looked for.
+    #[inline(never)]
     fn eq(&self, other: &Self) -> bool {
         let other = other.as_str();
         self.as_str() == other
@@ -202,6 +204,7 @@ impl Hash for ShortText {
 
     ghost respects_eq = { Prim.search (hashing, rules) };
 
+    #[inline(never)]
     fn hash<H: Hasher>(&self, state: &mut H) {
         self.as_str().hash(state);
     }

@@ -208,6 +208,6 @@ rows_stand u m r last quiet =
     (all_below system terminal_limit) r
 
 -- so each row stands
-pub all_stand : (ts : tables.Places) (u : SegmentLog) (m : ℕ) (settled : Bool) (k : Key) → IsVersion u m settled
-    → settled ≡ true → row_at (version ts u m) k ≡ row_at (rows ts) k
-all_stand ts u m settled k v is = ap (λ z. row_at z k) (rows_stand u m (rows ts) (v.commits is) (v.quiet is))
+pub all_stand : (ts : tables.Places) (u : SegmentLog) (m : ℕ) (settled named : Bool) (k : Key)
+    → IsVersion ts u m settled named → settled ≡ true → row_at (version ts u m) k ≡ row_at (rows ts) k
+all_stand ts u m settled named k v is = ap (λ z. row_at z k) (rows_stand u m (rows ts) (v.commits is) (v.quiet is))

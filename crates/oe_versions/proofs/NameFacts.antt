@@ -27,10 +27,9 @@ use Rattle.oe_store.specs.Places.{rows, entries_of}
 use Rattle.oe_store.specs.Places as tables
 use Rattle.oe_log.specs.Log.{SegmentLog}
 use Rattle.oe_log.specs.Moments.{store_with}
-use Rattle.oe_versions.specs.Versions.{version, Stand, IsVersion}
+use Rattle.oe_versions.specs.Versions.{version, Stand}
 use Rattle.oe_versions.proofs.ChosenFacts.{rows_at, kept_is}
 use Rattle.oe_versions.proofs.ClimbFacts.{Climb, climb, lower, same_number}
-use Rattle.oe_versions.proofs.FoundFacts.{all_stand}
 use Rattle.oe_versions.proofs.LastingFacts.{rows_last}
 use Rattle.oe_versions.proofs.ReadFacts.{customer_stands}
 
@@ -147,13 +146,6 @@ module _ (ts : tables.Places) (u : SegmentLog) (m : ℕ) where
             let high : k.customer < 3_001 = (let most : k.customer ≤ 3_000 = range.1 in omega (arith, most)) in
             let is : customer_in h k.customer ≡ k = ap (λ (d : DistrictKey). customer_in d k.customer) (sym own) in
             subst IsSame is (same k.customer range.0 high)
-
-    pub all_settled : (settled : Bool) → IsVersion u m settled → settled ≡ true
-        → namesakes h last past ≡ namesakes h last now
-    all_settled settled v is =
-        same_namesakes h last past now
-        (λ k. ap is_some (customer_stands ts u m k (all_stand ts u m settled (key.Customer k) v is)))
-        (λ k own. name_stands k last (all_stand ts u m settled (key.Customer k) v is))
 
     abbrev pub all : List (List ℕ × ℕ)
     all = namesakes h last past

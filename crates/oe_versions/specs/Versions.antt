@@ -3,6 +3,7 @@ use Rattle.std.specs.Prelude.{◌≡◌, ℕ, Bool, IsTrue, Option, None}
 use Rattle.oe_theory.specs.Store.{Slot, Store, version_of}
 use Rattle.oe_theory.specs.StoreTheorems.{IsStanding}
 use Rattle.oe_model.specs.Rows.{Rows}
+use Rattle.oe_model.specs.Choice.{HaveSameNames}
 use Rattle.oe_model.specs.System.{system}
 use Rattle.oe_store.specs.Places.{rows}
 use Rattle.oe_store.specs.Places as tables
@@ -31,8 +32,10 @@ pub record VersionState : Type 0 where
 abbrev pub rows_of : VersionState → Rows
 rows_of s = version s.tables s.log s.moment
 
--- what a version knows of its moment: that it is kept; and where it says so, that there is nothing to put back
-pub record IsVersion (u : SegmentLog) (m : ℕ) (settled : Bool) : Type 0 where
+-- what a version knows of its moment: that it is kept; where it says so, that there is nothing to put back; where it
+-- says so, that customers had the names that they have
+pub record IsVersion (ts : tables.Places) (u : SegmentLog) (m : ℕ) (settled named : Bool) : Type 0 where
   pub kept : IsKeptMoment u m
   pub commits : IsTrue settled → newest u ≡ m
   pub quiet : IsTrue settled → open_total u ≡ 0
+  pub names : IsTrue named → HaveSameNames (version ts u m) (rows ts)

@@ -4,8 +4,11 @@
 //! from the horizon to the newest, so that no read of it can be refused. Only its making can be:
 //! the moment is checked there, once.
 ghost use Rattle.std.specs.Prelude.{◌≡◌, IsTrue, IfOk, IfErr, OnOk};
+ghost use Rattle.oe_model.specs.Choice.{HaveSameNames};
+ghost use Rattle.oe_store.specs.Places.{rows};
 ghost use Rattle.oe_log.specs.Log.{open_total};
 ghost use Rattle.oe_log.specs.Moments.{newest, IsKeptMoment, IsUnkept};
+ghost use Rattle.oe_versions.specs.Versions.{rows_of};
 
 use oe_requests::Refusal;
 use oe_store::Tables;
@@ -27,6 +30,8 @@ pub struct Version<'a> {
     pub(crate) moment: Moment,
     // Each row stands as it was: nothing is open, and no commit is later.
     pub(crate) is_settled: bool,
+    // Each customer had the names that it has.
+    pub(crate) names_stand: bool,
 }
 
 impl<'a> Model for Version<'a> {
@@ -40,7 +45,8 @@ impl<'a> Model for Version<'a> {
       moment = v.moment;
     } };
 
-    ghost invariant = { λ v. IsVersion v.undo.now.log v.moment v.is_settled };
+    ghost invariant = { λ v.
+        IsVersion v.tables.now v.undo.now.log v.moment v.is_settled v.names_stand };
 }
 
 /// Tells whether there is nothing to put back: no commit is later than the moment, and no
@@ -67,8 +73,24 @@ impl<'a> Version<'a> {
                 undo,
                 moment,
                 is_settled: is_settled(undo, moment),
+                names_stand: false,
             }),
             Err(refusal) => Err(refusal),
+        }
+    }
+
+    /// Gives the same version, which finds customers by last name as they are found now where each
+    /// had the names that it has.
+    pub fn with_names(&self, names_stand: bool) -> Version<'a>
+        requires { IsTrue names_stand → HaveSameNames (rows_of self.now) (rows self.now.tables) }
+        ensures { result ≡ self.now }
+    {
+        Version {
+            tables: self.tables,
+            undo: self.undo,
+            moment: self.moment,
+            is_settled: self.is_settled,
+            names_stand,
         }
     }
 

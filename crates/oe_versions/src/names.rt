@@ -99,8 +99,9 @@ impl<'a> Version<'a> {
     /// Gives C_ID of the customer of a district and last name in position n / 2, rounded up, of the
     /// n that there were, by C_FIRST and where that ties by C_ID (clauses 2.5.2.2 and 2.6.2.2).
     ///
-    /// A name rarely changes, so it is mostly the customer whom the name means now. Where somebody
-    /// has been given or has lost the name since, it walks over the district's customers.
+    /// A name rarely changes, so it is mostly the customer whom the name means now. Where that is
+    /// not known, each of the district's customers is asked; where somebody has been given or has
+    /// lost the name since, it walks over them.
     pub fn customer_named(
         &self,
         district: &DistrictKey,
@@ -110,7 +111,7 @@ impl<'a> Version<'a> {
         ensures { result
             ≡ middle (namesakes district.now last.now (rows_of self.now).customers) }
     {
-        if self.is_settled || self.keeps_names(district, last) {
+        if self.names_stand || self.keeps_names(district, last) {
             return self.tables().middle(district, last);
         }
         self.middle_before(district, last)

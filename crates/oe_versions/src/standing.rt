@@ -24,7 +24,6 @@ impl<'a> Version<'a> {
     /// Tells whether a key's row of the moment stands, as each does where nothing is open and no
     /// commit is later.
     #[inline(always)]
-    #[tactic(auto, using(crate::proofs::FoundFacts::all_stand))]
     pub(crate) fn stands(&self, key: &Key) -> bool
         ensures { IsTrue result
             → row_at (rows_of self.now) key.now ≡ row_at (rows self.now.tables) key.now }

@@ -1,6 +1,7 @@
 //! A purge: the log drops its oldest commits, and the tables give up the places of NEW-ORDER keys
-//! that these deleted and that nothing names any more. Nor is a customer found any longer by a last
-//! name that the commits took away. The cost grows with the commits that go alone.
+//! that these deleted and that nothing names any more. Where one of them renamed a customer and did
+//! nothing else, and the customer has no later record, the customer is also taken off the list of
+//! the last name before. The cost grows with the commits that go alone.
 ghost use Rattle.std.specs.Prelude.{◌≡◌, ◌-◌, ◌<◌, ◌≤◌, ◌↔◌, [], ℕ, Option, length, drop, get_or, IsTrue, IfErr, OnOk, OnErr};
 ghost use Rattle.oe_theory.specs.Store.{Slot, purged_to};
 ghost use Rattle.oe_model.specs.Rows.{Rows};
@@ -25,11 +26,17 @@ use oe_values::{Moment, Text};
 /// Gives up the segments of the commits up to a moment, which becomes the horizon, and the places
 /// of the NEW-ORDER keys that these commits deleted, that have no row and no record left. Rows,
 /// counts of commits and open segments stay as they are, and so do all later versions. It takes no
-/// memory, and visits no segment that is kept.
+/// memory, and visits no segment that is kept. Lists of last names are looked at only where
+/// `may_forget` says that a commit may have renamed a customer.
 ///
 /// `TooOld` with the horizon, `Future` with the newest moment: the moment is not between the two.
 /// Nothing has changed then.
-pub fn purge(tables: &mut Tables, undo: &mut Undo, moment: Moment) -> Result<(), Refusal>
+pub fn purge(
+    tables: &mut Tables,
+    undo: &mut Undo,
+    moment: Moment,
+    may_forget: bool,
+) -> Result<(), Refusal>
     ensures kept { OnOk result (IsKeptMoment undo.old.log moment) }
     ensures log { OnOk result
         (undo.new.log ≡ with_newest (newest undo.old.log - moment) undo.old.log) }
@@ -47,7 +54,7 @@ pub fn purge(tables: &mut Tables, undo: &mut Undo, moment: Moment) -> Result<(),
     match undo.segments().commits_after(moment) {
         Ok(later) => {
             let count = undo.segments().kept() - later;
-            forget_names(tables, undo, moment, count);
+            forget_names(tables, undo, moment, count, may_forget);
             forget_oldest(tables, undo, moment, count);
             Ok(())
         }
@@ -56,11 +63,14 @@ pub fn purge(tables: &mut Tables, undo: &mut Undo, moment: Moment) -> Result<(),
 }
 
 /// Takes the customers whom the `count` oldest commits renamed off the lists of their last names
-/// before; the last of these commits made `moment`.
-fn forget_names(tables: &mut Tables, undo: &Undo, moment: Moment, count: usize)
+/// before, where it may; the last of these commits made `moment`.
+fn forget_names(tables: &mut Tables, undo: &Undo, moment: Moment, count: usize, may_forget: bool)
     requires { count ≤ length undo.now.log.committed }
     ensures { tables.new ≡ tables.old }
 {
+    if !may_forget {
+        return;
+    }
     let kept = undo.segments().kept();
     for earlier in 0..count {
         forget_name(tables, undo, kept - 1 - earlier, moment);

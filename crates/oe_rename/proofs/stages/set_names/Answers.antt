@@ -1,13 +1,12 @@
-use Rattle.std.proofs.Common.{◌≡◌, refl, sym, ap, ◌∙◌, Some}
+use Rattle.std.proofs.Common.{◌≡◌, refl, Some}
 use Rattle.std.specs.FinMap.{get}
-use Rattle.std.specs.Prelude.{is_some}
 use Rattle.oe_rows.specs.declared.customers.Customer.{Customer}
 use Rattle.oe_requests.specs.declared.requests.Request.TheVariants as request
 use Rattle.oe_model.specs.Changes.{UpdateCustomer}
 use Rattle.oe_model.specs.Positions.{RenameNew, RenameEnd, InRename}
 use Rattle.oe_model.specs.Rename.{renamed}
 use Rattle.oe_engine.specs.View.{view_of}
-use Rattle.oe_rename.proofs.StageFacts.{may_set, there, some_copied, names_written, names_set}
+use Rattle.oe_rename.proofs.StageFacts.{may_set, names_written, names_set}
 use Rattle.oe_rename.proofs.stages.set_names.Goals.{After-put_under}
 use Rattle.oe_rename.proofs.stages.set_names.Goals as goal
 
@@ -15,16 +14,14 @@ use Rattle.oe_rename.proofs.stages.set_names.Goals as goal
 pub put_under-requires : goal.put_under-requires
 put_under-requires c = record {
   covered = λ o. rw (c.exclusive.ensures, c.new_name.ensures, c.as_text.ensures)
-      (may_set (view_of c.args.engine.now) c.args.tx.now.terminal c.args.request.now c.args.last c.requires.held);
+      (may_set (view_of c.args.engine.now) c.args.tx.now.terminal c.args.request.now c.args.last c.requires.recalls
+      c.requires.held);
 }
 
 -- the customer is there
 found : (c : After-put_under) → (y : Customer)
     × (get (view_of c.args.engine.now).rows.customers c.args.request.now.customer ≡ Some y)
-found c =
-    there (get (view_of c.args.engine.now).rows.customers c.args.request.now.customer)
-    (ap (λ r. is_some (get r.customers c.args.request.now.customer)) (sym c.tables.ensures)
-    ∙ ap is_some (sym c.customer.ensures) ∙ some_copied c.customer.result ∙ c.if-is_none.ensures)
+found c = (c.requires.recalls.0, c.requires.recalls.1)
 
 pub returns-in-Ok : goal.returns-in-Ok
 returns-in-Ok c =

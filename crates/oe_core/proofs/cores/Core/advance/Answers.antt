@@ -11,7 +11,8 @@ use Rattle.oe_core.specs.Works.{WorkState}
 use Rattle.oe_requests.specs.declared.requests.Request.{Request}
 use Rattle.oe_core.specs.Steps.{refusal_in}
 use Rattle.oe_core.proofs.MoveFacts.{carries, nothing_open, HasOpen, lent_tx, lent_here}
-use Rattle.oe_core.proofs.AdvanceFacts.{holds_taken, went_on_here, taken_is, taken_is_open, has_reply, committed_here}
+use Rattle.oe_core.proofs.AdvanceFacts.{holds_taken, recalls_here, went_on_here, taken_is, taken_is_open, has_reply}
+use Rattle.oe_core.proofs.AdvanceFacts.{committed_here}
 use Rattle.oe_core.proofs.AdvanceFacts.{left_here, told_last, kept_here, given_up_here}
 use Rattle.oe_core.proofs.cores.Core.advance.Goals.{In-Some-at_mut, In-Ready, After-self-in-More-1}
 use Rattle.oe_core.proofs.cores.Core.advance.Goals.{After-self-in-Ready-1, Then-keeps_open, After-roll_back}
@@ -34,7 +35,10 @@ is_there c =
     c.at_mut.ensures.value c.in-Some-at_mut.is
 
 pub next-requires : goal.next-requires
-next-requires c = record { held = λ o. holds_taken (is_there (goal.at.next-requires c).In-Some-at_mut) }
+next-requires c = record {
+  held = λ o. holds_taken (is_there (goal.at.next-requires c).In-Some-at_mut);
+  recalls = λ o. recalls_here (is_there (goal.at.next-requires c).In-Some-at_mut);
+}
 
 -- the row went on
 went_on : (c : After-self-in-More-1)

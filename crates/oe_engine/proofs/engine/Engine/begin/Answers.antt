@@ -13,6 +13,8 @@ use Rattle.oe_engine.proofs.SafeFacts.{safe_begun}
 use Rattle.oe_engine.proofs.LogFacts.{opened_is, is_none}
 use Rattle.oe_engine.proofs.PartFacts.{idle_is, not_so}
 use Rattle.oe_engine.specs.Linked.{AreLinked}
+use Rattle.oe_engine.specs.Renames.{AreNamed}
+use Rattle.oe_engine.proofs.RenameFacts.{named_begun}
 use Rattle.oe_engine.proofs.engine.Engine.begin.Goals as goal
 
 number_there : (n : ℕ) → n < 4_294_967_295 → number_rejection (suc n) ≡ None
@@ -25,7 +27,8 @@ closed_here u v t same so closed = subst (λ z. is_some (active_at z t) ≡ fals
 pub returns-then-is_open-clause-idle : goal.returns-then-is_open-clause-idle
 unfolding view_of
 returns-then-is_open-clause-idle c = rw (← c.self.view_is)
-    (idle_is c.self.inside.tables c.self.inside.undo.log c.self.inside.locks c.args.terminal c.self.invariant.kept)
+    (idle_is c.self.inside.tables c.self.inside.undo.log c.self.inside.locks c.args.terminal
+    c.self.invariant.sound.kept)
 
 pub returns-then-is_open-clause-cause : goal.returns-then-is_open-clause-cause
 unfolding view_of view_from
@@ -36,7 +39,8 @@ returns-then-is_open-clause-cause c = rw (← c.self.view_is)
 pub returns-then-count-clause-idle : goal.returns-then-count-clause-idle
 unfolding view_of
 returns-then-count-clause-idle c = rw (← c.self.view_is)
-    (idle_is c.self.inside.tables c.self.inside.undo.log c.self.inside.locks c.args.terminal c.self.invariant.kept)
+    (idle_is c.self.inside.tables c.self.inside.undo.log c.self.inside.locks c.args.terminal
+    c.self.invariant.sound.kept)
 
 pub returns-then-count-clause-cause : goal.returns-then-count-clause-cause
 unfolding view_of view_from
@@ -51,7 +55,8 @@ returns-then-count-clause-cause c =
 pub returns-in_default-clause-idle : goal.returns-in_default-clause-idle
 unfolding view_of
 returns-in_default-clause-idle c = rw (← c.self.view_is)
-    (idle_is c.self.inside.tables c.self.inside.undo.log c.self.inside.locks c.args.terminal c.self.invariant.kept)
+    (idle_is c.self.inside.tables c.self.inside.undo.log c.self.inside.locks c.args.terminal
+    c.self.invariant.sound.kept)
 
 pub returns-in_default-clause-cause : goal.returns-in_default-clause-cause
 unfolding view_of view_from
@@ -86,7 +91,7 @@ unfolding view_of
 returns-clause-begun c =
     let closed : active_at c.self.inside.undo.log c.args.terminal ≡ None =
     is_none _ (closed_here _ _ c.args.terminal c.segments.ensures c.is_open.ensures.1 c.if-is_open.false) in
-    let size : length c.self.inside.undo.log.terminals ≡ 65 = c.self.invariant.kept.size in
+    let size : length c.self.inside.undo.log.terminals ≡ 65 = c.self.invariant.sound.kept.size in
     let within : c.args.terminal < length c.self.inside.undo.log.terminals =
     omega (arith, c.get-number.ensures.value, c.get-number.ensures.high) in
     rw (← c.self.view_is)
@@ -96,24 +101,32 @@ returns-clause-begun c =
 pub returns-clause-idle : goal.returns-clause-idle
 unfolding view_of
 returns-clause-idle c = rw (← c.self.view_is)
-    (idle_is c.self.inside.tables c.self.inside.undo.log c.self.inside.locks c.args.terminal c.self.invariant.kept)
+    (idle_is c.self.inside.tables c.self.inside.undo.log c.self.inside.locks c.args.terminal
+    c.self.invariant.sound.kept)
 
 pub invariant_of-self-2 : goal.invariant_of-self-2
 invariant_of-self-2 c =
     let closed : active_at c.self.inside.undo.log c.args.terminal ≡ None =
     is_none _ (closed_here _ _ c.args.terminal c.segments.ensures c.is_open.ensures.1 c.if-is_open.false) in
-    let size : length c.self.inside.undo.log.terminals ≡ 65 = c.self.invariant.kept.size in
+    let size : length c.self.inside.undo.log.terminals ≡ 65 = c.self.invariant.sound.kept.size in
     let within : c.args.terminal < length c.self.inside.undo.log.terminals =
     omega (arith, c.get-number.ensures.value, c.get-number.ensures.high) in
     let below : count_at c.self.inside.undo.log c.args.terminal < 4_294_967_295 = search rules in
     record {
-      kept = subst (λ u. IsKept c.self.inside.tables u c.self.inside.locks) (sym c.in-Ok.ensures.opened)
-          (opened_kept c.self.inside.tables c.self.inside.undo.log c.self.inside.locks c.args.terminal within closed
-          below c.self.invariant.kept);
-      safe = subst IsSafe
+      sound = record {
+        kept = subst (λ u. IsKept c.self.inside.tables u c.self.inside.locks) (sym c.in-Ok.ensures.opened)
+            (opened_kept c.self.inside.tables c.self.inside.undo.log c.self.inside.locks c.args.terminal within closed
+            below c.self.invariant.sound.kept);
+        safe = subst IsSafe
+            (sym (ap (λ u. view_from c.self.inside.tables u c.self.inside.locks) c.in-Ok.ensures.opened
+            ∙ opened_is c.self.inside.tables c.self.inside.undo.log c.self.inside.locks c.args.terminal within closed))
+            (safe_begun c.args.terminal (view_from c.self.inside.tables c.self.inside.undo.log c.self.inside.locks)
+            c.self.invariant.sound.safe);
+        linked = subst (AreLinked c.self.inside.tables) (sym c.in-Ok.ensures.links) c.self.invariant.sound.linked;
+      };
+      named = subst (λ v. AreNamed v c.self.inside.renames)
           (sym (ap (λ u. view_from c.self.inside.tables u c.self.inside.locks) c.in-Ok.ensures.opened
           ∙ opened_is c.self.inside.tables c.self.inside.undo.log c.self.inside.locks c.args.terminal within closed))
-          (safe_begun c.args.terminal (view_from c.self.inside.tables c.self.inside.undo.log c.self.inside.locks)
-          c.self.invariant.safe);
-      linked = subst (AreLinked c.self.inside.tables) (sym c.in-Ok.ensures.links) c.self.invariant.linked;
+          (named_begun c.args.terminal (view_from c.self.inside.tables c.self.inside.undo.log c.self.inside.locks)
+          c.self.inside.renames c.self.invariant.named);
     }

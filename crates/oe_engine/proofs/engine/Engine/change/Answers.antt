@@ -15,9 +15,9 @@ pub take_and_put-requires-clause-covered : goal.take_and_put-requires-clause-cov
 take_and_put-requires-clause-covered c =
     let v = view_of c.args.self.now in
     let open_here = c.is_open.ensures.0 c.if-not-is_open.false in
-    subst (λ t. MayWrite (held_after system (Take c.in-Some.lock.name (mode_of c.in-Some.lock.mode)) (v.held t)) t
-    (suc (v.counts t)) c.args.write.now) (sym c.terminal-terminal.ensures)
-    (subst (λ a. MayWrite (held_after system a (v.held c.args.tx.now.terminal)) c.args.tx.now.terminal
+    subst (λ t. MayWrite v.rows (held_after system (Take c.in-Some.lock.name (mode_of c.in-Some.lock.mode)) (v.held t))
+    t (suc (v.counts t)) c.args.write.now) (sym c.terminal-terminal.ensures)
+    (subst (λ a. MayWrite v.rows (held_after system a (v.held c.args.tx.now.terminal)) c.args.tx.now.terminal
     (suc (v.counts c.args.tx.now.terminal)) c.args.write.now) (sym c.in-Some.ensures)
     (may_write v c.args.tx.now.terminal c.args.write.now (c.requires.own open_here) (c.requires.beside open_here)))
 
@@ -26,8 +26,8 @@ pub put-requires-clause-covered : goal.put-requires-clause-covered
 put-requires-clause-covered c =
     let v = view_of c.args.self.now in
     let open_here = c.is_open.ensures.0 c.if-not-is_open.false in
-    subst (λ t. MayWrite (v.held t) t (suc (v.counts t)) c.args.write.now) (sym c.terminal-terminal.ensures)
-    (subst (λ a. MayWrite (held_after system a (v.held c.args.tx.now.terminal)) c.args.tx.now.terminal
+    subst (λ t. MayWrite v.rows (v.held t) t (suc (v.counts t)) c.args.write.now) (sym c.terminal-terminal.ensures)
+    (subst (λ a. MayWrite v.rows (held_after system a (v.held c.args.tx.now.terminal)) c.args.tx.now.terminal
     (suc (v.counts c.args.tx.now.terminal)) c.args.write.now) (sym c.in-None.ensures)
     (may_write v c.args.tx.now.terminal c.args.write.now (c.requires.own open_here) (c.requires.beside open_here)))
 

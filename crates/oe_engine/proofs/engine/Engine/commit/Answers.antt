@@ -1,5 +1,6 @@
 use Rattle.std.proofs.Common.{◌≡◌, ◌<◌, suc, sym, ap, ◌∙◌, subst, length, arith, add-one}
 use Rattle.std.specs.Prelude.{IsSome}
+use Rattle.oe_model.specs.System.{terminal_limit}
 use Rattle.oe_log.specs.Log.{active_at}
 use Rattle.oe_log.proofs.StandsFacts.{totals}
 use Rattle.oe_locks.specs.Held.{HoldsNothing, OthersKeep}
@@ -11,6 +12,7 @@ use Rattle.oe_engine.proofs.LogFacts.{sealed_is}
 use Rattle.oe_engine.specs.Covered.{IsSafe}
 use Rattle.oe_engine.proofs.KeptFacts.{sealed_kept}
 use Rattle.oe_engine.proofs.SafeFacts.{safe_committed}
+use Rattle.oe_engine.proofs.RenameFacts.{commit_named}
 use Rattle.oe_engine.proofs.engine.Engine.commit.Goals as goal
 
 pub seal-moment-requires : goal.seal-moment-requires
@@ -26,10 +28,11 @@ pub returns-clause-moment : goal.returns-clause-moment
 unfolding view_of view_from
 returns-clause-moment c =
     rw (← c.self.view_is)
-    (c.seal-moment.ensures.moment ∙ add-one _ ∙ ap suc (sym (totals c.self.inside.undo.log c.self.invariant.kept.size)))
+    (c.seal-moment.ensures.moment ∙ add-one _
+    ∙ ap suc (sym (totals c.self.inside.undo.log c.self.invariant.sound.kept.size)))
 
 pub invariant_of-self : goal.invariant_of-self
-unfolding view_of view_from
+unfolding view_of view_from terminal_limit
 invariant_of-self c =
     let o : IsOpen c.args.self.now c.args.tx = c.is_open.ensures.0 c.if-not-is_open.false in
     let given = rw (← c.self.view_is) at o.terminal in
@@ -41,20 +44,32 @@ invariant_of-self c =
     subst (HoldsNothing c.release_all.new.self) c.terminal.ensures c.release_all.ensures.own in
     let others : OthersKeep c.self.inside.locks c.release_all.new.self c.of-segment.result =
     subst (OthersKeep c.self.inside.locks c.release_all.new.self) c.terminal.ensures c.release_all.ensures.others in
-    let size : length c.self.inside.undo.log.terminals ≡ 65 = c.self.invariant.kept.size in
+    let size : length c.self.inside.undo.log.terminals ≡ 65 = c.self.invariant.sound.kept.size in
     let within : c.of-segment.result < length c.self.inside.undo.log.terminals =
     omega (arith, c.get-number.ensures.value, c.get-number.ensures.high, c.of-segment.ensures) in
     record {
-      kept = subst (λ u. IsKept c.self.inside.tables u c.release_all.new.self) (sym c.seal-moment.ensures.sealed)
-          (sealed_kept c.self.inside.tables c.self.inside.undo.log c.self.inside.locks c.release_all.new.self
-          c.of-segment.result c.args.request.value c.args.reply.value within here own others c.self.invariant.kept);
-      safe = subst IsSafe
-          (sym (ap (λ u. view_from c.self.inside.tables u c.release_all.new.self) c.seal-moment.ensures.sealed
+      sound = record {
+        kept = subst (λ u. IsKept c.self.inside.tables u c.release_all.new.self) (sym c.seal-moment.ensures.sealed)
+            (sealed_kept c.self.inside.tables c.self.inside.undo.log c.self.inside.locks c.release_all.new.self
+            c.of-segment.result c.args.request.value c.args.reply.value within here own others
+            c.self.invariant.sound.kept);
+        safe = subst IsSafe
+            (sym (ap (λ u. view_from c.self.inside.tables u c.release_all.new.self) c.seal-moment.ensures.sealed
+            ∙ sealed_is c.self.inside.tables c.self.inside.undo.log c.self.inside.locks c.release_all.new.self
+            c.of-segment.result c.args.request.value c.args.reply.value within here own others))
+            (safe_committed c.of-segment.result c.args.request.value c.args.reply.value
+            (view_from c.self.inside.tables c.self.inside.undo.log c.self.inside.locks) c.self.invariant.sound.safe);
+        linked = subst (AreLinked c.self.inside.tables) (sym c.seal-moment.ensures.links) c.self.invariant.sound.linked;
+      };
+      named = commit_named c.of-segment.result _ _
+          (view_from c.self.inside.tables c.self.inside.undo.log c.self.inside.locks) _ c.self.inside.renames
+          c.ended-self-inside.result c.args.request.value c.args.reply.value
+          (ap (λ u. view_from c.self.inside.tables u c.release_all.new.self) c.seal-moment.ensures.sealed
           ∙ sealed_is c.self.inside.tables c.self.inside.undo.log c.self.inside.locks c.release_all.new.self
-          c.of-segment.result c.args.request.value c.args.reply.value within here own others))
-          (safe_committed c.of-segment.result c.args.request.value c.args.reply.value
-          (view_from c.self.inside.tables c.self.inside.undo.log c.self.inside.locks) c.self.invariant.safe);
-      linked = subst (AreLinked c.self.inside.tables) (sym c.seal-moment.ensures.links) c.self.invariant.linked;
+          c.of-segment.result c.args.request.value c.args.reply.value within here own others)
+          (sym c.of-segment.ensures) (omega (arith, within, size))
+          (c.seal-moment.ensures.moment ∙ add-one _ ∙ ap suc (sym (totals c.self.inside.undo.log size)))
+          c.ended-self-inside.ensures c.self.invariant.named;
     }
 
 pub returns-clause-committed : goal.returns-clause-committed
@@ -70,7 +85,7 @@ returns-clause-committed c =
     subst (HoldsNothing c.release_all.new.self) c.terminal.ensures c.release_all.ensures.own in
     let others : OthersKeep c.self.inside.locks c.release_all.new.self c.of-segment.result =
     subst (OthersKeep c.self.inside.locks c.release_all.new.self) c.terminal.ensures c.release_all.ensures.others in
-    let size : length c.self.inside.undo.log.terminals ≡ 65 = c.self.invariant.kept.size in
+    let size : length c.self.inside.undo.log.terminals ≡ 65 = c.self.invariant.sound.kept.size in
     let within : c.of-segment.result < length c.self.inside.undo.log.terminals =
     omega (arith, c.get-number.ensures.value, c.get-number.ensures.high, c.of-segment.ensures) in
     rw (← c.self.view_is)

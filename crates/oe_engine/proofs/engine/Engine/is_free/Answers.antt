@@ -9,7 +9,7 @@ returns-in-Some-clause-busy c =
     rw (← c.self.view_is, ← c.tx.view_is) (
       refl,
       way_is c.self.inside.tables c.self.inside.undo.log c.self.inside.locks c.tx.inside.terminal c.args.lock.name
-          c.args.lock.mode c.in-Some.holder c.self.invariant.kept c.in-Some.ensures,
+          c.args.lock.mode c.in-Some.holder c.self.invariant.sound.kept c.in-Some.ensures,
     )
 
 pub returns-in-None-clause-free : goal.returns-in-None-clause-free

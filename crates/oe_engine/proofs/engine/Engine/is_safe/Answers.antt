@@ -9,11 +9,11 @@ unfolding view_of
 returns-clause-unwinds c =
     rw (← c.self.view_is)
     (λ t. all_unwind t (view_from c.self.inside.tables c.self.inside.undo.log c.self.inside.locks)
-    c.self.invariant.safe)
+    c.self.invariant.sound.safe)
 
 pub returns-clause-exact : goal.returns-clause-exact
 unfolding view_of view_from
 returns-clause-exact c =
     rw (← c.self.view_is)
-    (exact_is c.self.inside.tables (undo_of c.self.inside.undo.log) c.self.invariant.kept.active
-    c.self.invariant.kept.history c.self.invariant.kept.needed)
+    (exact_is c.self.inside.tables (undo_of c.self.inside.undo.log) c.self.invariant.sound.kept.active
+    c.self.invariant.sound.kept.history c.self.invariant.sound.kept.needed)

@@ -8,6 +8,8 @@ use Rattle.oe_engine.specs.Covered.{IsSafe}
 use Rattle.oe_engine.proofs.LogFacts.{first_is}
 use Rattle.oe_engine.proofs.KeptFacts.{first_kept}
 use Rattle.oe_engine.proofs.SafeFacts.{safe_first}
+use Rattle.oe_engine.specs.Renames.{AreNamed}
+use Rattle.oe_engine.proofs.RenameFacts.{named_first}
 use Rattle.oe_engine.proofs.engine.Engine.open.Goals as goal
 
 pub invariant_of-result : goal.invariant_of-result
@@ -15,14 +17,20 @@ invariant_of-result c =
     let quiet = rw c.in-Ok.is at c.beside.ensures.locks in
     let first = rw c.in-Ok.is at c.beside.ensures.log in
     record {
-      kept = subst (λ u. IsKept c.sweep.new.self u c.in-Ok.locks) (sym first)
-          (first_kept c.sweep.new.self c.args.extents c.args.layout c.in-Ok.locks
-          (λ k. subst (λ (r : Rows). HasPlace c.sweep.new.self k ↔ IsSome (row_at r k)) (sym c.sweep.ensures.rows)
-          (c.sweep.ensures.places k)) quiet);
-      safe = subst IsSafe (sym (ap (λ u. view_from c.sweep.new.self u c.in-Ok.locks) first
+      sound = record {
+        kept = subst (λ u. IsKept c.sweep.new.self u c.in-Ok.locks) (sym first)
+            (first_kept c.sweep.new.self c.args.extents c.args.layout c.in-Ok.locks
+            (λ k. subst (λ (r : Rows). HasPlace c.sweep.new.self k ↔ IsSome (row_at r k)) (sym c.sweep.ensures.rows)
+            (c.sweep.ensures.places k)) quiet);
+        safe = subst IsSafe (sym (ap (λ u. view_from c.sweep.new.self u c.in-Ok.locks) first
+            ∙ first_is c.sweep.new.self c.args.extents c.args.layout c.in-Ok.locks quiet))
+            (safe_first (rows c.sweep.new.self) c.args.extents c.args.layout c.schema_holds.ensures);
+        linked = rw c.in-Ok.is at c.beside.ensures.linked;
+      };
+      named = subst (λ v. AreNamed v c.none-renames.result)
+          (sym (ap (λ u. view_from c.sweep.new.self u c.in-Ok.locks) first
           ∙ first_is c.sweep.new.self c.args.extents c.args.layout c.in-Ok.locks quiet))
-          (safe_first (rows c.sweep.new.self) c.args.extents c.args.layout c.schema_holds.ensures);
-      linked = rw c.in-Ok.is at c.beside.ensures.linked;
+          (named_first (rows c.sweep.new.self) c.args.extents c.args.layout c.none-renames.result);
     }
 
 pub returns-clause-view : goal.returns-clause-view

@@ -9,7 +9,7 @@ use Rattle.oe_engine.specs.View.{view_of, view_from}
 use Rattle.oe_engine.proofs.PartFacts.{if_err, on_ok}
 use Rattle.oe_engine.proofs.SafeFacts.{is_alone}
 use Rattle.oe_engine.proofs.FullFacts.{full_so, full_as}
-use Rattle.oe_engine.proofs.PutFacts.{MayWriteHere, put_sound, put_view, put_accepted, put_fits, same_view}
+use Rattle.oe_engine.proofs.PutFacts.{MayWriteHere, put_sound, put_named, put_view, put_accepted, put_fits, same_view}
 use Rattle.oe_engine.proofs.WriteFacts.{refused_written, refused_full, refused_absent, wants_row}
 use Rattle.oe_engine.proofs.engine.Engine.put.Goals as goal
 
@@ -28,7 +28,7 @@ write-requires-clause-alone c =
     c.self.inside.locks c.args.terminal c.args.write.now = rw (← c.self.view_is) at c.requires.covered in
     subst (λ t. IsAlone c.self.inside.undo.log t (key_written c.args.write.now)) (sym c.of-segment.ensures)
     (is_alone c.self.inside.tables c.self.inside.undo.log c.self.inside.locks c.args.terminal
-    (key_written c.args.write.now) c.self.invariant.safe may.0)
+    (key_written c.args.write.now) c.self.invariant.sound.safe may.0)
 
 -- the segment is the terminal's
 recorded : (c : goal.After-write)
@@ -55,10 +55,16 @@ pub invariant_of-self : goal.invariant_of-self
 unfolding view_of view_from
 invariant_of-self c =
     let covered = rw (← c.self.view_is) at c.requires.covered in
-    put_sound c.self.inside.tables c.write.new.tables c.self.inside.undo c.write.new.undo c.self.inside.locks
-    c.args.terminal c.args.write.now
-    c.write.result covered (recorded c) c.write.ensures.err c.write.ensures.err_undo c.write.ensures.linked
-    c.self.invariant
+    record {
+      sound = put_sound c.self.inside.tables c.write.new.tables c.self.inside.undo c.write.new.undo c.self.inside.locks
+          c.args.terminal c.args.write.now
+          c.write.result covered (recorded c) c.write.ensures.err c.write.ensures.err_undo c.write.ensures.linked
+          c.self.invariant.sound;
+      named = put_named c.self.inside.tables c.write.new.tables c.self.inside.undo c.write.new.undo c.self.inside.locks
+          c.args.terminal c.args.write.now
+          c.write.result c.self.inside.renames c.noted-self-inside.result covered (recorded c) c.write.ensures.err
+          c.write.ensures.err_undo c.noted-self-inside.ensures c.self.invariant;
+    }
 
 pub returns-clause-there : goal.returns-clause-there
 unfolding view_of view_from
@@ -95,7 +101,7 @@ unfolding view_of view_from
 returns-clause-full c = rw (← c.self.view_is) (λ d found.
     if_err c.write.result
     (λ e h same. full_so c.self.inside.tables c.self.inside.undo.log c.self.inside.locks c.args.terminal d
-    c.self.invariant.kept.size
+    c.self.invariant.sound.kept.size
     (refused_full c.args.write.now c.self.inside.tables c.self.inside.undo.log c.args.terminal d e found h same))
     (refused c))
 
@@ -104,7 +110,7 @@ unfolding view_of view_from
 returns-clause-fits c = rw (← c.self.view_is) (λ d found.
     on_ok c.write.result (λ fits full. fits
     (full_as c.self.inside.tables c.self.inside.undo.log c.self.inside.locks c.args.terminal d
-    c.self.invariant.kept.size full))
+    c.self.invariant.sound.kept.size full))
     (put_fits c.self.inside.tables c.write.new.tables c.self.inside.undo c.write.new.undo c.self.inside.locks
     c.args.terminal c.args.write.now c.write.result d found (recorded c) (has_room c)))
 

@@ -10,6 +10,7 @@ use Rattle.oe_engine.specs.Covered.{IsSafe, IsUnused}
 use Rattle.oe_engine.specs.Calls as calls
 use Rattle.oe_engine.proofs.SafeFacts.{safe_put}
 use Rattle.oe_engine.proofs.PartFacts.{below_as, mode_put, put_nothing}
+use Rattle.oe_engine.proofs.RenameFacts.{named_locked}
 use Rattle.oe_engine.proofs.engine.Engine.restore.Goals as goal
 
 pub invariant_of-self : goal.invariant_of-self
@@ -24,13 +25,18 @@ invariant_of-self c =
     let unused = rw (← c.self.view_is) at c.requires.unused in
     let none : IsUnused c.args.name (v.undo.active c.args.terminal) = unused below in
     record {
-      kept = locks_kept c.self.inside.tables c.self.inside.undo.log c.self.inside.locks c.give_back.new.self
-          c.args.terminal is c.give_back.ensures.others c.self.invariant.kept;
-      safe = subst IsSafe
-          (sym (mode_put c.self.inside.tables c.self.inside.undo.log c.self.inside.locks c.give_back.new.self
-          c.args.terminal c.args.name c.args.mode c.give_back.ensures.own c.give_back.ensures.others))
-          (safe_put c.args.terminal c.args.name (option_map mode_of c.args.mode) v below none c.self.invariant.safe);
-      linked = c.self.invariant.linked;
+      sound = record {
+        kept = locks_kept c.self.inside.tables c.self.inside.undo.log c.self.inside.locks c.give_back.new.self
+            c.args.terminal is c.give_back.ensures.others c.self.invariant.sound.kept;
+        safe = subst IsSafe
+            (sym (mode_put c.self.inside.tables c.self.inside.undo.log c.self.inside.locks c.give_back.new.self
+            c.args.terminal c.args.name c.args.mode c.give_back.ensures.own c.give_back.ensures.others))
+            (safe_put c.args.terminal c.args.name (option_map mode_of c.args.mode) v below none
+            c.self.invariant.sound.safe);
+        linked = c.self.invariant.sound.linked;
+      };
+      named = named_locked c.self.inside.tables c.self.inside.undo.log c.self.inside.locks c.give_back.new.self
+          c.self.inside.renames c.self.invariant.named;
     }
 
 pub returns-then-is_below-clause-put : goal.returns-then-is_below-clause-put

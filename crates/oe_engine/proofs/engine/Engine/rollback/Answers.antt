@@ -1,6 +1,7 @@
 use Rattle.std.proofs.Common.{◌≡◌, ◌<◌, [], sym, ap, ◌∙◌, subst, length, arith}
 use Rattle.std.specs.Prelude.{IsSome}
 use Rattle.oe_log.specs.Log.{active_at, records_at}
+use Rattle.oe_log.specs.Moments.{newest}
 use Rattle.oe_locks.specs.Held.{HoldsNothing, OthersKeep}
 use Rattle.oe_engine.specs.View.{view_of, view_from, IsOpen}
 use Rattle.oe_engine.specs.Kept.{IsKept}
@@ -9,6 +10,7 @@ use Rattle.oe_engine.specs.Covered.{IsSafe}
 use Rattle.oe_engine.proofs.SafeFacts.{safe_rolled_back, newest_unwind}
 use Rattle.oe_engine.proofs.EndFacts.{counted, taken_kept, dropped_kept, none_is_left, rolled_back_is}
 use Rattle.oe_engine.specs.Linked.{AreLinked}
+use Rattle.oe_engine.proofs.RenameFacts.{rollback_named}
 use Rattle.oe_engine.proofs.engine.Engine.rollback.Goals as goal
 
 pub mark-count-requires : goal.mark-count-requires
@@ -34,7 +36,7 @@ pub take_back-requires-clause-unwinds : goal.take_back-requires-clause-unwinds
 unfolding view_from
 take_back-requires-clause-unwinds c =
     newest_unwind c.of-segment.result c.mark-count.result
-    (view_from c.self.inside.tables c.self.inside.undo.log c.self.inside.locks) c.self.invariant.safe
+    (view_from c.self.inside.tables c.self.inside.undo.log c.self.inside.locks) c.self.invariant.sound.safe
 
 pub drop_segment-requires-clause-open : goal.drop_segment-requires-clause-open
 unfolding view_of view_from
@@ -54,6 +56,7 @@ drop_segment-requires-clause-empty c =
     c.mark-count.ensures) c.take_back.ensures.back
 
 pub invariant_of-self : goal.invariant_of-self
+unfolding view_from
 invariant_of-self c =
     let empty : records_at c.take_back.new.undo.log c.of-segment.result ≡ [] =
     none_is_left c.self.inside.tables c.take_back.new.tables c.self.inside.undo.log c.take_back.new.undo.log
@@ -66,29 +69,42 @@ invariant_of-self c =
     subst (OthersKeep c.self.inside.locks c.release_all.new.self) (sym c.of-segment.ensures)
     c.release_all.ensures.others in
     let size : length c.take_back.new.undo.log.terminals ≡ 65 = c.take_back.ensures.back.others.size
-    ∙ c.self.invariant.kept.size in
+    ∙ c.self.invariant.sound.kept.size in
     let within : c.of-segment.result < length c.take_back.new.undo.log.terminals =
     omega (arith, c.get-number.ensures.value, c.get-number.ensures.high, c.of-segment.ensures) in
-    let first : length c.self.inside.undo.log.terminals ≡ 65 = c.self.invariant.kept.size in
+    let first : length c.self.inside.undo.log.terminals ≡ 65 = c.self.invariant.sound.kept.size in
     let there : c.of-segment.result < length c.self.inside.undo.log.terminals =
     omega (arith, c.get-number.ensures.value, c.get-number.ensures.high, c.of-segment.ensures) in
     record {
-      kept = subst (λ u. IsKept c.take_back.new.tables u c.release_all.new.self) (sym c.drop_segment.ensures.log)
-          (dropped_kept c.take_back.new.tables c.take_back.new.undo.log c.self.inside.locks c.release_all.new.self
-          c.of-segment.result within empty own others
-          (taken_kept c.self.inside.tables c.take_back.new.tables c.self.inside.undo.log c.take_back.new.undo.log
-          c.self.inside.locks c.of-segment.result c.mark-count.result c.take_back.ensures.back
-          c.self.invariant.kept));
-      safe = subst IsSafe
-          (sym (ap (λ u. view_from c.take_back.new.tables u c.release_all.new.self) c.drop_segment.ensures.log
+      sound = record {
+        kept = subst (λ u. IsKept c.take_back.new.tables u c.release_all.new.self) (sym c.drop_segment.ensures.log)
+            (dropped_kept c.take_back.new.tables c.take_back.new.undo.log c.self.inside.locks c.release_all.new.self
+            c.of-segment.result within empty own others
+            (taken_kept c.self.inside.tables c.take_back.new.tables c.self.inside.undo.log c.take_back.new.undo.log
+            c.self.inside.locks c.of-segment.result c.mark-count.result c.take_back.ensures.back
+            c.self.invariant.sound.kept));
+        safe = subst IsSafe
+            (sym (ap (λ u. view_from c.take_back.new.tables u c.release_all.new.self) c.drop_segment.ensures.log
+            ∙ rolled_back_is c.self.inside.tables c.take_back.new.tables c.self.inside.undo.log c.take_back.new.undo.log
+            c.self.inside.locks c.release_all.new.self c.of-segment.result c.mark-count.result
+            (counted c.self.inside.undo.log c.segments.result.now c.of-segment.result c.mark-count.result
+            c.segments.ensures c.mark-count.ensures) there c.take_back.ensures.back own others))
+            (safe_rolled_back c.of-segment.result
+            (view_from c.self.inside.tables c.self.inside.undo.log c.self.inside.locks) c.self.invariant.sound.safe);
+        linked = subst (AreLinked c.take_back.new.tables) (sym c.drop_segment.ensures.links)
+            (c.take_back.ensures.links.linked c.self.invariant.sound.linked);
+      };
+      named = rollback_named c.of-segment.result _ _
+          (view_from c.self.inside.tables c.self.inside.undo.log c.self.inside.locks) _ c.self.inside.renames
+          c.ended-self-inside.result
+          (ap (λ u. view_from c.take_back.new.tables u c.release_all.new.self) c.drop_segment.ensures.log
           ∙ rolled_back_is c.self.inside.tables c.take_back.new.tables c.self.inside.undo.log c.take_back.new.undo.log
           c.self.inside.locks c.release_all.new.self c.of-segment.result c.mark-count.result
           (counted c.self.inside.undo.log c.segments.result.now c.of-segment.result c.mark-count.result
-          c.segments.ensures c.mark-count.ensures) there c.take_back.ensures.back own others))
-          (safe_rolled_back c.of-segment.result
-          (view_from c.self.inside.tables c.self.inside.undo.log c.self.inside.locks) c.self.invariant.safe);
-      linked = subst (AreLinked c.take_back.new.tables) (sym c.drop_segment.ensures.links)
-          (c.take_back.ensures.links.linked c.self.invariant.linked);
+          c.segments.ensures c.mark-count.ensures) there c.take_back.ensures.back own others)
+          c.self.invariant.sound.safe (sym c.of-segment.ensures)
+          (c.newest-newest.ensures.moment ∙ ap newest c.segments-2.ensures) c.ended-self-inside.ensures
+          c.self.invariant.named;
     }
 
 pub returns-clause-rolled_back : goal.returns-clause-rolled_back
@@ -99,7 +115,7 @@ returns-clause-rolled_back c =
     let others : OthersKeep c.self.inside.locks c.release_all.new.self c.of-segment.result =
     subst (OthersKeep c.self.inside.locks c.release_all.new.self) (sym c.of-segment.ensures)
     c.release_all.ensures.others in
-    let size : length c.self.inside.undo.log.terminals ≡ 65 = c.self.invariant.kept.size in
+    let size : length c.self.inside.undo.log.terminals ≡ 65 = c.self.invariant.sound.kept.size in
     let within : c.of-segment.result < length c.self.inside.undo.log.terminals =
     omega (arith, c.get-number.ensures.value, c.get-number.ensures.high, c.of-segment.ensures) in
     rw (← c.self.view_is)

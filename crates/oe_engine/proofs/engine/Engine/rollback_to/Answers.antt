@@ -7,6 +7,8 @@ use Rattle.oe_engine.specs.Calls.{back_at}
 use Rattle.oe_engine.specs.Covered.{IsSafe}
 use Rattle.oe_engine.proofs.SafeFacts.{safe_back, newest_unwind}
 use Rattle.oe_engine.proofs.EndFacts.{counted, taken_kept, back_is, since_is, within_mark}
+use Rattle.oe_engine.specs.Renames.{AreNamed}
+use Rattle.oe_engine.proofs.RenameFacts.{named_back}
 use Rattle.oe_engine.proofs.engine.Engine.rollback_to.Goals as goal
 
 pub mark-requires : goal.mark-requires
@@ -40,7 +42,7 @@ pub take_back-requires-clause-unwinds : goal.take_back-requires-clause-unwinds
 unfolding view_from
 take_back-requires-clause-unwinds c =
     newest_unwind c.of-segment.result (c.mark.result - c.savepoint.inside.records)
-    (view_from c.self.inside.tables c.self.inside.undo.log c.self.inside.locks) c.self.invariant.safe
+    (view_from c.self.inside.tables c.self.inside.undo.log c.self.inside.locks) c.self.invariant.sound.safe
 
 pub invariant_of-self : goal.invariant_of-self
 invariant_of-self c =
@@ -54,16 +56,25 @@ invariant_of-self c =
     ((undo_of c.self.inside.undo.log).active c.of-segment.result) =
     ap (λ t. length ((undo_of c.self.inside.undo.log).active t)) (sym same) in
     record {
-      kept = taken_kept c.self.inside.tables c.take_back.new.tables c.self.inside.undo.log c.take_back.new.undo.log
-          c.self.inside.locks c.of-segment.result (c.mark.result - c.savepoint.inside.records) c.take_back.ensures.back
-          c.self.invariant.kept;
-      safe = subst IsSafe
+      sound = record {
+        kept = taken_kept c.self.inside.tables c.take_back.new.tables c.self.inside.undo.log c.take_back.new.undo.log
+            c.self.inside.locks c.of-segment.result (c.mark.result - c.savepoint.inside.records)
+            c.take_back.ensures.back c.self.invariant.sound.kept;
+        safe = subst IsSafe
+            (sym (back_is c.self.inside.tables c.take_back.new.tables c.self.inside.undo.log c.take_back.new.undo.log
+            c.self.inside.locks c.of-segment.result c.args.savepoint (c.mark.result - c.savepoint.inside.records)
+            (n ∙ ap (λ k. k - c.args.savepoint) here) c.take_back.ensures.back))
+            (safe_back c.of-segment.result c.args.savepoint
+            (view_from c.self.inside.tables c.self.inside.undo.log c.self.inside.locks) c.self.invariant.sound.safe);
+        linked = c.take_back.ensures.links.linked c.self.invariant.sound.linked;
+      };
+      named = subst (λ v. AreNamed v c.self.inside.renames)
           (sym (back_is c.self.inside.tables c.take_back.new.tables c.self.inside.undo.log c.take_back.new.undo.log
           c.self.inside.locks c.of-segment.result c.args.savepoint (c.mark.result - c.savepoint.inside.records)
           (n ∙ ap (λ k. k - c.args.savepoint) here) c.take_back.ensures.back))
-          (safe_back c.of-segment.result c.args.savepoint
-          (view_from c.self.inside.tables c.self.inside.undo.log c.self.inside.locks) c.self.invariant.safe);
-      linked = c.take_back.ensures.links.linked c.self.invariant.linked;
+          (named_back c.of-segment.result c.args.savepoint
+          (view_from c.self.inside.tables c.self.inside.undo.log c.self.inside.locks) c.self.inside.renames
+          c.self.invariant.sound.safe c.self.invariant.named);
     }
 
 pub returns-clause-back : goal.returns-clause-back

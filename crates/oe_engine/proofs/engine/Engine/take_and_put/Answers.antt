@@ -14,7 +14,7 @@ use Rattle.oe_engine.proofs.engine.Engine.take_and_put.Goals as goal
 
 pub put-requires-clause-covered : goal.put-requires-clause-covered
 put-requires-clause-covered c =
-    subst (λ (v : View). MayWrite (v.held c.args.terminal) c.args.terminal (suc (v.counts c.args.terminal))
+    subst (λ (v : View). MayWrite v.rows (v.held c.args.terminal) c.args.terminal (suc (v.counts c.args.terminal))
     c.args.write.now) (sym c.in-Ok.ensures.locked)
     (may_after c.args.terminal c.args.lock.now.name (mode_of c.args.lock.now.mode) c.args.write.now
     (view_of c.args.self.now) c.requires.covered)

@@ -1,8 +1,8 @@
 use Rattle.std.proofs.Common.{◌≡◌, sym, ap, ◌∙◌}
 use Rattle.oe_model.specs.Choice.{middle, namesakes}
+use Rattle.oe_model.proofs.NamesFacts.{named_alike}
 use Rattle.oe_store.specs.Places.{rows}
-use Rattle.oe_versions.specs.Versions.{rows_of}
-use Rattle.oe_versions.proofs.NameFacts.{all_settled}
+use Rattle.oe_versions.specs.Versions.{rows_of, version}
 use Rattle.oe_versions.proofs.moments.Version.customer_named.Goals as goal
 use Rattle.oe_versions.proofs.moments.Version.customer_named.Goals.{then-self-via-then-self}
 use Rattle.oe_versions.proofs.moments.Version.customer_named.Goals.{then-self-via-else-self+then-keeps_names}
@@ -13,8 +13,9 @@ returns-then-self c =
     ≡ namesakes c.args.district.now c.args.last.now (rows c.args.self.now.tables).customers =
     elim c.then-self.branch [
       | then-self-via-then-self w ↦ rw (← c.self.view_is)
-          (all_settled c.self.inside.tables.now c.self.inside.undo.now.log c.self.inside.moment c.args.district.now
-          c.args.last.now c.self.inside.is_settled c.self.invariant w.if-self.true)
+          (named_alike c.args.district.now c.args.last.now
+          (version c.self.inside.tables.now c.self.inside.undo.now.log c.self.inside.moment)
+          (rows c.self.inside.tables.now) (c.self.invariant.names w.if-self.true))
       | then-self-via-else-self+then-keeps_names w ↦ w.keeps_names.ensures w.if-keeps_names.true
     ]
     in
