@@ -609,24 +609,15 @@ fn grammar<'a>(alloc: Global) -> Result<Command<'a>, Error> {
 
 /// Makes the grammar of a script.
 fn script_grammar<'a>(alloc: Global) -> Result<Command<'a>, Error> {
-    let explain = Arg::new(alloc, "explain")
-        .long("explain")
-        .action(ArgAction::SetTrue);
-    let command = Command::new(alloc, "script")
-        .about(SCRIPT)
-        .override_usage(USAGE)
-        .after_help(FORMS)
-        .arg(explain.help("Says on standard error why lines are answered BadLine"))?
+    let command = command(alloc, "script", SCRIPT)
+        .arg(flag(alloc, "explain").help("Says on standard error why lines are answered BadLine"))?
         .arg(Arg::new(alloc, "FILE").help("The script; standard input where it is left out"))?;
     Ok(command)
 }
 
 /// Makes the grammar of a file of commits.
 fn serial_grammar<'a>(alloc: Global) -> Result<Command<'a>, Error> {
-    let command = Command::new(alloc, "serial")
-        .about(SERIAL)
-        .override_usage(USAGE)
-        .after_help(FORMS)
+    let command = command(alloc, "serial", SERIAL)
         .arg(Arg::new(alloc, "FILE").help("An opening, and a line for each commit"))?
         .arg(
             Arg::new(alloc, "DIR")
@@ -638,11 +629,7 @@ fn serial_grammar<'a>(alloc: Global) -> Result<Command<'a>, Error> {
 
 /// Makes the grammar of a drive.
 fn drive_grammar<'a>(alloc: Global) -> Result<Command<'a>, Error> {
-    let command = Command::new(alloc, "drive")
-        .about(DRIVE)
-        .override_usage(USAGE)
-        .after_help(FORMS);
-    with_numbers(alloc, command)
+    with_numbers(alloc, command(alloc, "drive", DRIVE))
 }
 
 /// Adds the seven numbers of a drive or a load to a grammar.
@@ -660,17 +647,10 @@ fn with_numbers<'a>(alloc: Global, command: Command<'a>) -> Result<Command<'a>, 
 
 /// Makes the grammar of a load.
 fn load_grammar<'a>(alloc: Global) -> Result<Command<'a>, Error> {
-    let flat = Arg::new(alloc, "flat")
-        .long("flat")
-        .action(ArgAction::SetTrue);
     let kinds = Arg::new(alloc, "KIND").long("kinds");
-    let command = Command::new(alloc, "load")
-        .about(LOAD)
-        .override_usage(USAGE)
-        .after_help(FORMS);
-    let command = with_numbers(alloc, command)?
+    let command = with_numbers(alloc, command(alloc, "load", LOAD))?
         .arg(kinds.help("Draws these kinds alone: neworder,payment,status,delivery,level"))?
-        .arg(flat.help("Prints one request a line, for another engine"))?;
+        .arg(flag(alloc, "flat").help("Prints one request a line, for another engine"))?;
     Ok(command)
 }
 
@@ -679,21 +659,28 @@ fn audit_grammar<'a>(alloc: Global) -> Result<Command<'a>, Error> {
     let first = Arg::new(alloc, "N")
         .long("first")
         .value_parser(value_parser!(u32).range(1..=4_294_967_295));
-    let csv = Arg::new(alloc, "csv")
-        .long("csv")
-        .action(ArgAction::SetTrue);
-    let command = Command::new(alloc, "audit")
-        .about(AUDIT)
-        .override_usage(USAGE)
-        .after_help(FORMS)
+    let command = command(alloc, "audit", AUDIT)
         .arg(
             Arg::new(alloc, "DIR")
                 .required(true)
                 .help("The directory of the nine files"),
         )?
-        .arg(csv.help("Reads comma-separated values"))?
+        .arg(flag(alloc, "csv").help("Reads comma-separated values"))?
         .arg(first.help("Shows the first N findings of each condition"))?;
     Ok(command)
+}
+
+/// Makes a command without arguments, with what it does, and the usage and the forms of all.
+fn command<'a>(alloc: Global, name: &'a str, about: &'a str) -> Command<'a> {
+    Command::new(alloc, name)
+        .about(about)
+        .override_usage(USAGE)
+        .after_help(FORMS)
+}
+
+/// Makes an option without a value.
+fn flag<'a>(alloc: Global, name: &'a str) -> Arg<'a> {
+    Arg::new(alloc, name).long(name).action(ArgAction::SetTrue)
 }
 
 /// Makes an argument that is a number from `low` to `high`.
