@@ -49,6 +49,7 @@ impl Write {
     ghost use Rattle.oe_change.specs.Writes.{key_written};
 
     /// Gives the key of the row that it changes.
+    #[inline(always)]
     pub fn key(&self) -> Key
         ensures { result ≡ key_written self.now }
     {

@@ -8,7 +8,8 @@ ghost use Rattle.oe_delivery.specs.Stages.{Advances, HoldsTaken, Steps};
 use crate::looks::remainder_of;
 use crate::programs::Program;
 use crate::remainders::Remainder;
-use oe_change::Write;
+use oe_engine::kinds::inserts::DeleteNewOrder;
+use oe_engine::kinds::updates::{CustomerAccount, DeliveryDate, OrderCarrier};
 use oe_engine::stages::{failed, hold, put, put_held};
 use oe_engine::{Engine, Lock, Progress, Tx};
 use oe_formulas::deliveries::account_after_delivery;
@@ -36,7 +37,9 @@ pub fn take_oldest(
             Err(refusal) => Err(refusal),
         };
     };
-    let write = Write::DeleteNewOrder(request.district.new_order(order));
+    let write = DeleteNewOrder {
+        order: request.district.new_order(order),
+    };
     match put(engine, tx, &write) {
         Ok(()) => Ok(Program::Order(order)),
         Err(refusal) => Err(refusal),
@@ -61,7 +64,10 @@ pub fn set_carrier(
         };
         return Err(failed(engine, tx, lock, Refusal::NoSuchRow(Key::Order(*key))));
     };
-    let write = Write::Carrier(*key, request.carrier);
+    let write = OrderCarrier {
+        order: *key,
+        carrier: request.carrier,
+    };
     match put(engine, tx, &write) {
         Ok(()) => Ok(Program::Lines(remainder)),
         Err(refusal) => Err(refusal),
@@ -88,7 +94,10 @@ pub fn date_line(
         return Progress::Refused(Refusal::NoSuchRow(Key::OrderLine(*key)));
     };
     let amount = row.amount;
-    let write = Write::DeliveryDate(*key, request.stamp);
+    let write = DeliveryDate {
+        line: *key,
+        stamp: request.stamp,
+    };
     match put_held(engine, tx, &write) {
         Ok(()) => {
             remainder.pass(amount);
@@ -122,7 +131,10 @@ pub fn credit_customer(
     match account_after_delivery(row, remainder.sum()) {
         Err(column) => Err(failed(engine, tx, lock, Refusal::Overflow(column))),
         Ok(account) => {
-            let write = Write::CustomerAccount(*key, account);
+            let write = CustomerAccount {
+                customer: *key,
+                account,
+            };
             match put(engine, tx, &write) {
                 Ok(()) => Ok(Program::End(remainder.delivered())),
                 Err(refusal) => Err(refusal),

@@ -1,10 +1,10 @@
 -- What an engine knows of its customers' names each move keeps.
 use Rattle.std.proofs.Common.{◌≡◌, ◌≢◌, ℕ, zero, suc, ◌-◌, ◌≤◌, ◌<◌, Bool, true, false, cond, refl, sym, ap, ◌∙◌}
 use Rattle.std.proofs.Common.{subst, inl, inr, arith, List, [], ◌∷◌, length, take, drop, Option, None, Some}
-use Rattle.std.specs.Prelude.{◌⊎◌, option_map, option_and_then, nat_eq, Result, Ok, Err, OnOk, OnErr}
+use Rattle.std.specs.Prelude.{◌⊎◌, option_map, option_and_then}
 use Rattle.std.specs.Option.{unwrap_or}
 use Rattle.std.specs.FinMap.{get}
-use Rattle.std.specs.Cmp.Lexicographic.{pointwise, bytes_decides}
+use Rattle.std.specs.Cmp.Lexicographic.{bytes_decides}
 use Rattle.std.proofs.lemmas.Bool.{cases_eq, true≢false}
 use Rattle.std.proofs.lemmas.List.{take_all}
 use mathlib.Core.Path.{fun_ext}
@@ -13,7 +13,6 @@ use Rattle.oe_rows.specs.declared.keys.Key.{Key}
 use Rattle.oe_rows.specs.declared.keys.Key.TheVariants as key
 use Rattle.oe_rows.specs.declared.customers.Customer.{Customer}
 use Rattle.oe_rows.specs.declared.customers.CustomerName.{CustomerName}
-use Rattle.oe_rows.specs.declared.before.CustomerBefore.{CustomerBefore}
 use Rattle.oe_rows.specs.declared.layouts.Layout.{Layout}
 use Rattle.oe_rows.specs.declared.locks.Name.{Name}
 use Rattle.oe_rows.specs.declared.layouts.Layout.TheVariants.{WholeRows, ChangedColumns}
@@ -23,16 +22,16 @@ use Rattle.oe_rows.specs.Before.{text_before, customer_name_before, customer_bef
 use Rattle.oe_requests.specs.declared.replies.Reply.{Reply}
 use Rattle.oe_requests.specs.declared.requests.Request.{Request}
 use Rattle.oe_theory.specs.Machine as theory
-use Rattle.oe_theory.specs.World.{set, bump, total}
+use Rattle.oe_theory.specs.World.{set}
 use Rattle.oe_theory.specs.Next.{record_on}
 use Rattle.oe_theory.specs.Undo.{unwind, unwind_open, unwind_commits}
 use Rattle.oe_theory.specs.Store.{version_of, all_below}
 use Rattle.oe_theory.proofs.Past.{total_bump}
-use Rattle.oe_theory.proofs.Sets.{set_same, set_other, some_inj}
+use Rattle.oe_theory.proofs.Sets.{some_inj}
 use Rattle.oe_model.specs.Rows.{Rows, is_key, row_at, as_customer}
 use Rattle.oe_model.specs.Changes.{Change, InsertHistory, InsertNewOrder, InsertOrder, InsertOrderLine, UpdateWarehouse}
 use Rattle.oe_model.specs.Changes.{UpdateDistrict, UpdateCustomer, UpdateOrder, UpdateOrderLine, UpdateStock}
-use Rattle.oe_model.specs.Changes.{DeleteNewOrder, key_of, row_of, changed, Record, record_key, record_in, restore}
+use Rattle.oe_model.specs.Changes.{DeleteNewOrder, key_of, row_of, changed, Record, record_key, restore}
 use Rattle.oe_model.specs.Changes.{put_back, columns_before, with_columns}
 use Rattle.oe_model.specs.Choice.{name_in, name_at, HaveSameNames}
 use Rattle.oe_model.specs.Locks.{governs}
@@ -292,14 +291,24 @@ pub named_locked : (ts : tables.Places) (u : undo.SegmentLog) (ls ls' : Holdings
 unfolding view_from
 named_locked ts u ls ls' a h = record { names = h.names; now = h.now; active = h.active; commits = h.commits }
 
+-- who may be renaming may be so behind a write
+noted_before : (w : Write) (t : ℕ) (a b : Renames) → Notes w t a b → (u : ℕ) → has b.open u ≡ false
+    → has a.open u ≡ false
+noted_before w t a b n u free = go (is_rename w) (cases_eq u t) refl
+  where
+    go : (r : Bool) → (u ≡ t) ⊎ (u ≢ t) → is_rename w ≡ r → has a.open u ≡ false
+    go true (inl e) is = absurd (true≢false (sym (n.own is) ∙ subst (λ k. has b.open k ≡ false) e free))
+    go false (inl e) is = ap (λ (x : Renames). has x.open u) (sym (n.kept is)) ∙ free
+    go r (inr ne) is = sym (n.others u ne) ∙ free
+
 -- more may be known to be renaming
 pub named_noted : (w : Write) (t : ℕ) (v : View) (a b : Renames) → Notes w t a b → AreNamed v a → AreNamed v b
 named_noted w t v a b n h = record {
   names = h.names;
   now = h.now;
-  active = λ u free. h.active u (n.others u free);
+  active = λ u free. h.active u (noted_before w t a b n u free);
   commits = λ free. subst (λ m. AllKeepNames h.names (take (newest v - m) v.undo.history)) (sym n.since)
-      (h.commits (λ u. n.others u (free u)));
+      (h.commits (λ u. noted_before w t a b n u (free u)));
 }
 
 -- a write was made

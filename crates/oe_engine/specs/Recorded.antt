@@ -1,5 +1,5 @@
 -- What a write makes of the tables and the undo log, and why one is refused.
-use Rattle.std.specs.Prelude.{◌≡◌, ℕ, ◌∷◌, length, None, is_some}
+use Rattle.std.specs.Prelude.{◌≡◌, ℕ, ◌∷◌, length, None, IsSome, is_some}
 use Rattle.std.specs.Option.{IsSomeAnd}
 use Rattle.oe_requests.specs.declared.refusals.Refusal.{Refusal}
 use Rattle.oe_requests.specs.declared.refusals.Refusal.TheVariants.{NoSuchRow, UndoFull}
@@ -12,7 +12,7 @@ use Rattle.oe_model.specs.System.{system}
 use Rattle.oe_change.specs.declared.writes.Write.{Write}
 use Rattle.oe_change.specs.Writes.{key_written, written}
 use Rattle.oe_layout.specs.declared.links.Previous.{Previous}
-use Rattle.oe_store.specs.Places.{Places, rows}
+use Rattle.oe_store.specs.Places.{Places, rows, HasPlace}
 use Rattle.oe_change.specs.Applies.{Applies, Refuses, IsFirst}
 use Rattle.oe_log.specs.Log.{IsFull, SegmentLog, active_at}
 use Rattle.oe_log.specs.Stands.{undo_of}
@@ -21,6 +21,8 @@ use Rattle.oe_undo.specs.declared.holders.Holder.TheVariants.{Open}
 use Rattle.oe_undo.specs.Chains.{link_from}
 use Rattle.oe_undo.specs.Undo.{UndoState, seen, HasPushed}
 use Rattle.oe_engine.specs.Records.{record_of_write}
+use Rattle.oe_engine.specs.declared.journal.writes.NotPushed.{NotPushed}
+use Rattle.oe_engine.specs.declared.journal.writes.NotPushed.TheVariants as pushes
 
 -- a change is accepted and made, and its record would be this in each layout
 abbrev pub IsApplied : Change → Places → Places → Type 0
@@ -70,6 +72,13 @@ HasRoomFor w r u t = IsSomeAnd (record_of_write u.layout w r) (λ b. IsFull u t 
 -- the write's record fits neither there nor in a free extent
 abbrev pub IsFullForWrite : Write → Rows → SegmentLog → ℕ → Type 0
 IsFullForWrite w r u t = IsSomeAnd (record_of_write u.layout w r) (λ b. IsFull u t (record_length b))
+
+-- why its record is not pushed
+abbrev pub IsNotPushed : Write → Places → SegmentLog → ℕ → NotPushed → Type 0
+IsNotPushed w s u t pushes.Absent = written w (rows s) ≡ None
+IsNotPushed w s u t pushes.Full = IsFullForWrite w (rows s) u t
+IsNotPushed w s u t pushes.Unplaced =
+    IsSome (written w (rows s)) × HasRoomFor w (rows s) u t × (HasPlace s (key_written w) → ⊥)
 
 -- why a write is refused, by its first cause
 pub data CantWrite (w : Write) (s : Places) (u : SegmentLog) (t : ℕ) : Refusal → Type 0 where

@@ -46,11 +46,13 @@ is_rename _ = false
 -- a terminal's transaction makes a write
 pub record Notes (w : Write) (t : ℕ) (old new : Renames) : Type 0 where
   pub own : is_rename w ≡ true → has new.open t ≡ true
-  pub others : (u : ℕ) → has new.open u ≡ false → has old.open u ≡ false
+  pub others : (u : ℕ) → u ≢ t → has new.open u ≡ has old.open u
+  pub kept : is_rename w ≡ false → new ≡ old
   pub since : new.since ≡ old.since
 
 -- a terminal's transaction ends, where that moment is the newest
 pub record Forgets (t m : ℕ) (old new : Renames) : Type 0 where
+  pub own : has new.open t ≡ false
   pub others : (u : ℕ) → u ≢ t → has new.open u ≡ has old.open u
   pub kept : has old.open t ≡ false → new.since ≡ old.since
   pub moved : has old.open t ≡ true → new.since ≡ m

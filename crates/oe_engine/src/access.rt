@@ -8,12 +8,10 @@ ghost use Rattle.oe_rows.specs.declared.locks.Name.{Name};
 ghost use Rattle.oe_locks.specs.Listed.{stands};
 ghost use Rattle.oe_engine.specs.View.{view_of, IsOpen};
 ghost use Rattle.oe_engine.specs.Covered.{IsUnused};
-ghost use Rattle.oe_engine.specs.Writes.{ask_of_write};
 ghost use Rattle.oe_engine.specs.Calls.{ask_of, IsFree, IsBelow, MayRead, locked, put_mode, StageRefused};
 
 use crate::engine::{Engine, Tx};
 use crate::programs::Lock;
-use oe_change::Write;
 use oe_requests::Refusal;
 use oe_rows::{Key, Mode, Name, Row};
 use oe_store::Tables;
@@ -21,36 +19,13 @@ use oe_values::Terminal;
 
 // A name alone.
 #[inline(always)]
-fn exclusive(name: Name) -> Option<Lock>
+pub(crate) fn exclusive(name: Name) -> Option<Lock>
     ensures { ask_of result ≡ Take name (mode_of Mode.Exclusive) }
 {
     Some(Lock {
         name,
         mode: Mode::Exclusive,
     })
-}
-
-// The lock under which a row is written: none for a HISTORY row, which is its own transaction's.
-#[inline(always)]
-pub(crate) fn lock_of_write(write: &Write) -> Option<Lock>
-    ensures { ask_of result ≡ ask_of_write write.now }
-{
-    match write {
-        Write::WarehouseYtd(key, _) => exclusive(Name::Warehouse(*key)),
-        Write::DistrictYtd(key, _) => exclusive(Name::District(*key)),
-        Write::NextOrder(key, _) => exclusive(Name::District(*key)),
-        Write::CustomerAccount(key, _) => exclusive(Name::Customer(*key)),
-        Write::BadCredit(key, _, _) => exclusive(Name::Customer(*key)),
-        Write::CustomerNames(key, _, _) => exclusive(Name::Customer(*key)),
-        Write::StockCounters(key, _) => exclusive(Name::Stock(*key)),
-        Write::Carrier(key, _) => exclusive(Name::Order(*key)),
-        Write::DeliveryDate(key, _) => exclusive(Name::Order(key.order_key())),
-        Write::InsertHistory(_, _) => None,
-        Write::InsertNewOrder(key) => exclusive(Name::Queue(key.order_key().district_key())),
-        Write::InsertOrder(key, _) => exclusive(Name::Order(*key)),
-        Write::InsertOrderLine(key, _) => exclusive(Name::Order(key.order_key())),
-        Write::DeleteNewOrder(key) => exclusive(Name::Queue(key.order_key().district_key())),
-    }
 }
 
 // A copy of the row of a key, if it has one.

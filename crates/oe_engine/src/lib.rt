@@ -18,6 +18,7 @@ pub mod choices;
 pub mod crossing;
 pub mod engine;
 pub mod journal;
+pub mod kinds;
 mod opening;
 pub mod past;
 pub mod programs;
@@ -26,4 +27,5 @@ pub mod stages;
 pub mod writes;
 
 pub use engine::{Engine, Savepoint, Tx};
+pub use kinds::OneWrite;
 pub use programs::{Lock, Progress};

@@ -1,11 +1,11 @@
 //! Since when customers have had the names that they have, so that a read of a later moment finds
 //! them as now. Who ends after a rename moves that moment to the newest. Nothing takes memory or
 //! can fail.
-ghost use Rattle.std.specs.Prelude.{◌≡◌, ◌↔◌, ℕ, IsTrue, true, false};
+ghost use Rattle.std.specs.Prelude.{◌≡◌, ◌↔◌, ℕ, IsTrue, false};
 ghost use Rattle.oe_locks.specs.Holders.{has};
 ghost use Rattle.oe_engine.specs.Renames.{is_rename, Notes, Forgets, HasStood};
 
-use oe_change::Write;
+use crate::kinds::OneWrite;
 use oe_locks::TerminalSet;
 use oe_values::{Moment, Terminal};
 
@@ -15,14 +15,6 @@ use oe_values::{Moment, Terminal};
 pub struct Renames {
     pub open: TerminalSet,
     pub since: Moment,
-}
-
-/// Tells whether a write gives a customer other names.
-#[inline(always)]
-fn is_rename(write: &Write) -> bool
-    ensures { result ≡ is_rename write.now }
-{
-    matches!(write, Write::CustomerNames(_, _, _))
 }
 
 impl Renames {
@@ -39,10 +31,10 @@ impl Renames {
 
     /// Gives what there is once a terminal's transaction has made a write, or has tried to.
     #[inline(always)]
-    pub fn noted(self, terminal: Terminal, write: &Write) -> Self
-        ensures { Notes write.now terminal self result }
+    pub fn noted<W: OneWrite>(self, terminal: Terminal, write: &W) -> Self
+        ensures { Notes (W.write write.now) terminal self result }
     {
-        if !is_rename(write) {
+        if !write.is_rename() {
             return self;
         }
         Renames {

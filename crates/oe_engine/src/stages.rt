@@ -12,8 +12,8 @@ ghost use Rattle.oe_engine.specs.Writes.{ask_of_write, change_written, HoldsBesi
 ghost use Rattle.oe_engine.specs.Stages.{is_failure, IsFailure, Does};
 
 use crate::engine::{Engine, Tx};
+use crate::kinds::OneWrite;
 use crate::programs::Lock;
-use oe_change::Write;
 use oe_requests::Refusal;
 
 /// Gives the refusal of a stage that asks for a lock and then fails: who is in the way of the lock,
@@ -43,17 +43,17 @@ pub fn hold(engine: &mut Engine, tx: &Tx, lock: Lock) -> Result<(), Refusal>
 /// Carries out a stage that writes to a row in its place, and takes that row's name alone. After an
 /// error the engine stands for what it stood for before.
 #[inline(always)]
-pub fn put(engine: &mut Engine, tx: &Tx, write: &Write) -> Result<(), Refusal>
+pub fn put<W: OneWrite>(engine: &mut Engine, tx: &Tx, write: &W) -> Result<(), Refusal>
     requires own { IsOpen engine.old tx.now
         → IsOwn tx.now.terminal (suc ((view_of engine.old).counts tx.now.terminal))
-        (governs (key_written write.now)) }
+        (governs (key_written (W.write write.now))) }
     requires beside { IsOpen engine.old tx.now
         → HoldsBeside (view_of engine.old).rows ((view_of engine.old).held tx.now.terminal)
-        write.now }
-    ensures does { (c : model.Change) → change_written write.now (view_of engine.old) ≡ Some c
-        → Does engine.old tx.now (ask_of_write write.now) (Some c) result engine.new }
+        (W.write write.now) }
+    ensures does { (c : model.Change) → change_written (W.write write.now) (view_of engine.old) ≡ Some c
+        → Does engine.old tx.now (ask_of_write (W.write write.now)) (Some c) result engine.new }
     ensures there { OnOk result
-        (IsSome (change_written write.now (view_of engine.old))) }
+        (IsSome (change_written (W.write write.now) (view_of engine.old))) }
     ensures name { engine.new.name ≡ engine.old.name }
     ensures err { OnErr result (view_of engine.new ≡ view_of engine.old) }
 {
@@ -64,17 +64,17 @@ pub fn put(engine: &mut Engine, tx: &Tx, write: &Write) -> Result<(), Refusal>
 /// alone may change: it holds the row's name alone, or the row is its own. After an error the
 /// engine stands for what it stood for before.
 #[inline(always)]
-pub fn put_held(engine: &mut Engine, tx: &Tx, write: &Write) -> Result<(), Refusal>
+pub fn put_held<W: OneWrite>(engine: &mut Engine, tx: &Tx, write: &W) -> Result<(), Refusal>
     requires held { IsOpen engine.old tx.now
         → Owns ((view_of engine.old).held tx.now.terminal) tx.now.terminal
-        (suc ((view_of engine.old).counts tx.now.terminal)) (governs (key_written write.now)) }
+        (suc ((view_of engine.old).counts tx.now.terminal)) (governs (key_written (W.write write.now))) }
     requires beside { IsOpen engine.old tx.now
         → HoldsBeside (view_of engine.old).rows ((view_of engine.old).held tx.now.terminal)
-        write.now }
-    ensures does { (c : model.Change) → change_written write.now (view_of engine.old) ≡ Some c
+        (W.write write.now) }
+    ensures does { (c : model.Change) → change_written (W.write write.now) (view_of engine.old) ≡ Some c
         → Does engine.old tx.now Plain (Some c) result engine.new }
     ensures there { OnOk result
-        (IsSome (change_written write.now (view_of engine.old))) }
+        (IsSome (change_written (W.write write.now) (view_of engine.old))) }
     ensures name { engine.new.name ≡ engine.old.name }
     ensures err { OnErr result (view_of engine.new ≡ view_of engine.old) }
 {
@@ -84,17 +84,22 @@ pub fn put_held(engine: &mut Engine, tx: &Tx, write: &Write) -> Result<(), Refus
 
 /// Carries out a stage that takes a lock and writes to a row in its place, whose name the
 /// transaction holds alone. After an error the engine stands for what it stood for before.
-pub fn put_under(engine: &mut Engine, tx: &Tx, lock: &Lock, write: &Write) -> Result<(), Refusal>
+pub fn put_under<W: OneWrite>(
+    engine: &mut Engine,
+    tx: &Tx,
+    lock: &Lock,
+    write: &W,
+) -> Result<(), Refusal>
     requires covered { IsOpen engine.old tx.now
         → MayWrite (view_of engine.old).rows
         (held_after system (Take lock.now.name (mode_of lock.now.mode))
         ((view_of engine.old).held tx.now.terminal)) tx.now.terminal
-        (suc ((view_of engine.old).counts tx.now.terminal)) write.now }
-    ensures does { (c : model.Change) → change_written write.now (view_of engine.old) ≡ Some c
+        (suc ((view_of engine.old).counts tx.now.terminal)) (W.write write.now) }
+    ensures does { (c : model.Change) → change_written (W.write write.now) (view_of engine.old) ≡ Some c
         → Does engine.old tx.now (Take lock.now.name (mode_of lock.now.mode)) (Some c)
         result engine.new }
     ensures there { OnOk result
-        (IsSome (change_written write.now (view_of engine.old))) }
+        (IsSome (change_written (W.write write.now) (view_of engine.old))) }
     ensures name { engine.new.name ≡ engine.old.name }
     ensures err { OnErr result (view_of engine.new ≡ view_of engine.old) }
 {

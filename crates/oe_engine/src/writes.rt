@@ -12,40 +12,39 @@ ghost use Rattle.oe_engine.specs.Covered.{IsOwn};
 ghost use Rattle.oe_engine.specs.Calls.{IsFree, IsFullFor, locked, made, ChangeRefused, PairRefused, stage_done, StageRefused};
 ghost use Rattle.oe_engine.specs.Writes.{ask_of_write, change_written, HoldsBeside, MayWrite, AbsentRefused, AbsentPairRefused, AbsentRowRefused, WantsRow};
 
-use crate::access::lock_of_write;
 use crate::engine::{Engine, Tx};
 use crate::journal;
+use crate::kinds::OneWrite;
 use crate::programs::Lock;
-use oe_change::Write;
 use oe_log::Segment;
 use oe_requests::Refusal;
 use oe_values::Terminal;
 
 impl Engine {
     // Writes to a row, with its undo record. Memory is wanted for a place in the tables alone.
-    #[inline]
-    fn put(&mut self, terminal: Terminal, write: &Write) -> Result<(), Refusal>
+    #[inline(always)]
+    fn put<W: OneWrite>(&mut self, terminal: Terminal, write: &W) -> Result<(), Refusal>
         requires open { (view_of self.old).is_open terminal ≡ true }
         requires covered { MayWrite (view_of self.old).rows ((view_of self.old).held terminal)
             terminal
-            (suc ((view_of self.old).counts terminal)) write.now }
-        ensures there { OnOk result (IsSome (change_written write.now (view_of self.old))) }
-        ensures accepted { ForSome (change_written write.now (view_of self.old))
+            (suc ((view_of self.old).counts terminal)) (W.write write.now) }
+        ensures there { OnOk result (IsSome (change_written (W.write write.now) (view_of self.old))) }
+        ensures accepted { ForSome (change_written (W.write write.now) (view_of self.old))
             (λ c. OnOk result (Accepts c (view_of self.old).rows)) }
-        ensures made { ForSome (change_written write.now (view_of self.old))
+        ensures made { ForSome (change_written (W.write write.now) (view_of self.old))
             (λ c. OnOk result (view_of self.new ≡ made terminal c (view_of self.old))) }
         ensures name { self.new.name ≡ self.old.name }
-        ensures cause { ForSome (change_written write.now (view_of self.old))
+        ensures cause { ForSome (change_written (W.write write.now) (view_of self.old))
             (λ c. IfErr result (ChangeRefused c (view_of self.old).rows)) }
-        ensures absent { change_written write.now (view_of self.old) ≡ None
-            → IfErr result (AbsentRefused (key_written write.now)) }
-        ensures full { ForSome (change_written write.now (view_of self.old))
+        ensures absent { change_written (W.write write.now) (view_of self.old) ≡ None
+            → IfErr result (AbsentRefused (key_written (W.write write.now))) }
+        ensures full { ForSome (change_written (W.write write.now) (view_of self.old))
             (λ c. IfErr result
             (λ e. e ≡ Refusal.UndoFull → IsFullFor (view_of self.old) terminal c)) }
-        ensures fits { ForSome (change_written write.now (view_of self.old))
+        ensures fits { ForSome (change_written (W.write write.now) (view_of self.old))
             (λ c. OnOk result (IsFullFor (view_of self.old) terminal c → ⊥)) }
         ensures wants { IfErr result (λ e. e ≡ Refusal.NoMemory
-            → WantsRow (change_written write.now (view_of self.old)) self.old.tables) }
+            → WantsRow (change_written (W.write write.now) (view_of self.old)) self.old.tables) }
         ensures err { OnErr result (view_of self.new ≡ view_of self.old) }
     {
         let segment = Segment::of(terminal);
@@ -56,44 +55,44 @@ impl Engine {
     // Takes a lock and writes; where the write is refused, the name is held as it was. Where the
     // name was held before, memory is wanted for a place in the tables alone.
     #[inline(always)]
-    fn take_and_put(
+    fn take_and_put<W: OneWrite>(
         &mut self,
         terminal: Terminal,
         lock: &Lock,
-        write: &Write,
+        write: &W,
     ) -> Result<(), Refusal>
         requires open { (view_of self.old).is_open terminal ≡ true }
         requires covered { MayWrite (view_of self.old).rows
             (held_after system (Take lock.now.name (mode_of lock.now.mode))
             ((view_of self.old).held terminal)) terminal
-            (suc ((view_of self.old).counts terminal)) write.now }
+            (suc ((view_of self.old).counts terminal)) (W.write write.now) }
         ensures free { OnOk result
             (IsFree (view_of self.old) terminal (Take lock.now.name (mode_of lock.now.mode))) }
-        ensures there { OnOk result (IsSome (change_written write.now (view_of self.old))) }
-        ensures accepted { ForSome (change_written write.now (view_of self.old))
+        ensures there { OnOk result (IsSome (change_written (W.write write.now) (view_of self.old))) }
+        ensures accepted { ForSome (change_written (W.write write.now) (view_of self.old))
             (λ c. OnOk result (Accepts c (view_of self.old).rows)) }
-        ensures done { ForSome (change_written write.now (view_of self.old))
+        ensures done { ForSome (change_written (W.write write.now) (view_of self.old))
             (λ c. OnOk result
             (view_of self.new
             ≡ made terminal c
             (locked terminal lock.now.name (mode_of lock.now.mode) (view_of self.old)))) }
         ensures name { self.new.name ≡ self.old.name }
-        ensures cause { ForSome (change_written write.now (view_of self.old))
+        ensures cause { ForSome (change_written (W.write write.now) (view_of self.old))
             (λ c. IfErr result
             (PairRefused (view_of self.old) terminal lock.now.name (mode_of lock.now.mode) c)) }
-        ensures absent { change_written write.now (view_of self.old) ≡ None
+        ensures absent { change_written (W.write write.now) (view_of self.old) ≡ None
             → IfErr result
             (AbsentPairRefused (view_of self.old) terminal lock.now.name (mode_of lock.now.mode)
-            (key_written write.now)) }
-        ensures full { ForSome (change_written write.now (view_of self.old))
+            (key_written (W.write write.now))) }
+        ensures full { ForSome (change_written (W.write write.now) (view_of self.old))
             (λ c. IfErr result
             (λ e. e ≡ Refusal.UndoFull → IsFullFor (view_of self.old) terminal c)) }
-        ensures fits { ForSome (change_written write.now (view_of self.old))
+        ensures fits { ForSome (change_written (W.write write.now) (view_of self.old))
             (λ c. OnOk result (IsFullFor (view_of self.old) terminal c → ⊥)) }
         ensures wants { (IsNew system ((view_of self.old).held terminal)
             (Take lock.now.name (mode_of lock.now.mode)) → ⊥) → IfErr result
             (λ e. e ≡ Refusal.NoMemory
-            → WantsRow (change_written write.now (view_of self.old)) self.old.tables) }
+            → WantsRow (change_written (W.write write.now) (view_of self.old)) self.old.tables) }
         ensures err { OnErr result (view_of self.new ≡ view_of self.old) }
     {
         self.is_safe();
@@ -120,45 +119,47 @@ impl Engine {
     /// tables accept, at a key without a place, or for another C_LAST. Else the tables don't accept
     /// the insert. After an error nothing has changed: a lock that was gained is given back, and a
     /// mode that rose has fallen again.
-    pub fn change(&mut self, tx: &Tx, write: &Write) -> Result<(), Refusal>
+    // In its callers, each of which makes one kind of write: so that no other is asked for there.
+    #[inline(always)]
+    pub fn change<W: OneWrite>(&mut self, tx: &Tx, write: &W) -> Result<(), Refusal>
         requires own { IsOpen self.old tx.now
             → IsOwn tx.now.terminal (suc ((view_of self.old).counts tx.now.terminal))
-            (governs (key_written write.now)) }
+            (governs (key_written (W.write write.now))) }
         requires beside { IsOpen self.old tx.now
             → HoldsBeside (view_of self.old).rows ((view_of self.old).held tx.now.terminal)
-            write.now }
+            (W.write write.now) }
         ensures open { OnOk result (IsOpen self.old tx.now) }
         ensures free { OnOk result
-            (IsFree (view_of self.old) tx.now.terminal (ask_of_write write.now)) }
-        ensures there { OnOk result (IsSome (change_written write.now (view_of self.old))) }
-        ensures accepted { ForSome (change_written write.now (view_of self.old))
+            (IsFree (view_of self.old) tx.now.terminal (ask_of_write (W.write write.now))) }
+        ensures there { OnOk result (IsSome (change_written (W.write write.now) (view_of self.old))) }
+        ensures accepted { ForSome (change_written (W.write write.now) (view_of self.old))
             (λ c. OnOk result (Accepts c (view_of self.old).rows)) }
-        ensures done { ForSome (change_written write.now (view_of self.old))
+        ensures done { ForSome (change_written (W.write write.now) (view_of self.old))
             (λ c. OnOk result
             (view_of self.new
-            ≡ stage_done tx.now.terminal (ask_of_write write.now) (Some c) (view_of self.old))) }
+            ≡ stage_done tx.now.terminal (ask_of_write (W.write write.now)) (Some c) (view_of self.old))) }
         ensures name { self.new.name ≡ self.old.name }
-        ensures cause { ForSome (change_written write.now (view_of self.old))
-            (λ c. IfErr result (StageRefused self.old tx.now (ask_of_write write.now) (Some c))) }
-        ensures absent { change_written write.now (view_of self.old) ≡ None
+        ensures cause { ForSome (change_written (W.write write.now) (view_of self.old))
+            (λ c. IfErr result (StageRefused self.old tx.now (ask_of_write (W.write write.now)) (Some c))) }
+        ensures absent { change_written (W.write write.now) (view_of self.old) ≡ None
             → IfErr result
-            (AbsentRowRefused self.old tx.now (ask_of_write write.now) (key_written write.now)) }
-        ensures full { ForSome (change_written write.now (view_of self.old))
+            (AbsentRowRefused self.old tx.now (ask_of_write (W.write write.now)) (key_written (W.write write.now))) }
+        ensures full { ForSome (change_written (W.write write.now) (view_of self.old))
             (λ c. IfErr result
             (λ e. e ≡ Refusal.UndoFull → IsFullFor (view_of self.old) tx.now.terminal c)) }
-        ensures fits { ForSome (change_written write.now (view_of self.old))
+        ensures fits { ForSome (change_written (W.write write.now) (view_of self.old))
             (λ c. OnOk result (IsFullFor (view_of self.old) tx.now.terminal c → ⊥)) }
         ensures wants { (IsNew system ((view_of self.old).held tx.now.terminal)
-            (ask_of_write write.now) → ⊥) → IfErr result
+            (ask_of_write (W.write write.now)) → ⊥) → IfErr result
             (λ e. e ≡ Refusal.NoMemory
-            → WantsRow (change_written write.now (view_of self.old)) self.old.tables) }
+            → WantsRow (change_written (W.write write.now) (view_of self.old)) self.old.tables) }
         ensures err { OnErr result (view_of self.new ≡ view_of self.old) }
     {
         if !self.is_open(tx) {
             return Err(Refusal::NotOpen);
         }
         let terminal = tx.terminal();
-        match lock_of_write(write) {
+        match write.lock() {
             None => self.put(terminal, write),
             Some(lock) => self.take_and_put(terminal, &lock, write),
         }
@@ -168,40 +169,45 @@ impl Engine {
     /// names go under the name of who has that C_LAST.
     ///
     /// Refused as `change`, where the lock is this one: after an error nothing has changed.
-    pub fn change_under(&mut self, tx: &Tx, lock: &Lock, write: &Write) -> Result<(), Refusal>
+    pub fn change_under<W: OneWrite>(
+        &mut self,
+        tx: &Tx,
+        lock: &Lock,
+        write: &W,
+    ) -> Result<(), Refusal>
         requires covered { IsOpen self.old tx.now
             → MayWrite (view_of self.old).rows
             (held_after system (Take lock.now.name (mode_of lock.now.mode))
             ((view_of self.old).held tx.now.terminal)) tx.now.terminal
-            (suc ((view_of self.old).counts tx.now.terminal)) write.now }
+            (suc ((view_of self.old).counts tx.now.terminal)) (W.write write.now) }
         ensures open { OnOk result (IsOpen self.old tx.now) }
         ensures free { OnOk result
             (IsFree (view_of self.old) tx.now.terminal
             (Take lock.now.name (mode_of lock.now.mode))) }
-        ensures there { OnOk result (IsSome (change_written write.now (view_of self.old))) }
-        ensures accepted { ForSome (change_written write.now (view_of self.old))
+        ensures there { OnOk result (IsSome (change_written (W.write write.now) (view_of self.old))) }
+        ensures accepted { ForSome (change_written (W.write write.now) (view_of self.old))
             (λ c. OnOk result (Accepts c (view_of self.old).rows)) }
-        ensures done { ForSome (change_written write.now (view_of self.old))
+        ensures done { ForSome (change_written (W.write write.now) (view_of self.old))
             (λ c. OnOk result
             (view_of self.new
             ≡ stage_done tx.now.terminal (Take lock.now.name (mode_of lock.now.mode)) (Some c)
             (view_of self.old))) }
         ensures name { self.new.name ≡ self.old.name }
-        ensures cause { ForSome (change_written write.now (view_of self.old))
+        ensures cause { ForSome (change_written (W.write write.now) (view_of self.old))
             (λ c. IfErr result (StageRefused self.old tx.now
             (Take lock.now.name (mode_of lock.now.mode)) (Some c))) }
-        ensures absent { change_written write.now (view_of self.old) ≡ None
+        ensures absent { change_written (W.write write.now) (view_of self.old) ≡ None
             → IfErr result (AbsentRowRefused self.old tx.now
-            (Take lock.now.name (mode_of lock.now.mode)) (key_written write.now)) }
-        ensures full { ForSome (change_written write.now (view_of self.old))
+            (Take lock.now.name (mode_of lock.now.mode)) (key_written (W.write write.now))) }
+        ensures full { ForSome (change_written (W.write write.now) (view_of self.old))
             (λ c. IfErr result
             (λ e. e ≡ Refusal.UndoFull → IsFullFor (view_of self.old) tx.now.terminal c)) }
-        ensures fits { ForSome (change_written write.now (view_of self.old))
+        ensures fits { ForSome (change_written (W.write write.now) (view_of self.old))
             (λ c. OnOk result (IsFullFor (view_of self.old) tx.now.terminal c → ⊥)) }
         ensures wants { (IsNew system ((view_of self.old).held tx.now.terminal)
             (Take lock.now.name (mode_of lock.now.mode)) → ⊥) → IfErr result
             (λ e. e ≡ Refusal.NoMemory
-            → WantsRow (change_written write.now (view_of self.old)) self.old.tables) }
+            → WantsRow (change_written (W.write write.now) (view_of self.old)) self.old.tables) }
         ensures err { OnErr result (view_of self.new ≡ view_of self.old) }
     {
         if !self.is_open(tx) {

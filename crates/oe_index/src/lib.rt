@@ -12,5 +12,6 @@ pub mod orders;
 pub mod walks;
 
 pub use customers::Customers;
+pub use numbers::name_number;
 pub use orders::Orders;
 pub use walks::Found;

@@ -6,8 +6,8 @@ ghost use Rattle.oe_index.specs.Numbers.{name_number, number_in, list_number, ow
 use oe_rows::{CustomerKey, DistrictKey};
 use oe_values::Text;
 
-/// Gives a number below 1,009 of a last name, by all its bytes.
-fn name_number(last: &Text<0, 16>) -> u32
+/// Gives the number of the list of a last name among its district's: below 1,009, by all its bytes.
+pub fn name_number(last: &Text<0, 16>) -> u32
     ensures value { result ≡ name_number last.now }
     ensures few { result < 1_009 }
 {

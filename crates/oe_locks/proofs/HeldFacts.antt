@@ -14,7 +14,7 @@ use Rattle.oe_rows.specs.declared.locks.Name.{Name}
 use Rattle.oe_rows.specs.declared.locks.Mode.{Mode}
 use Rattle.oe_rows.specs.declared.locks.Mode.TheVariants.{Shared, Exclusive}
 use Rattle.oe_rows.specs.contracts.locks.NamePartialEq.TheImpl.{ghosts}
-use Rattle.oe_requests.specs.declared.refusals.Refusal.{Refusal}
+use Rattle.std.specs.declared.alloc.AllocError.{AllocError}
 use Rattle.oe_locks.specs.declared.holders.Holders.{Holders}
 use Rattle.oe_locks.specs.declared.holders.Holders.TheVariants.{Alone, Together}
 use Rattle.oe_locks.specs.Held.{Holdings, held, is_name, go_together, IsIdle, IsFree, IsFreeFor, IsFirstInTheWay}
@@ -264,7 +264,7 @@ popped old new t n before after own is listed q h = own q ∙ go (is_name q n) r
 -- a name that nobody held has its first holders, or all is as before
 module _ (old new : Holdings) (t : ℕ) (n : Name) (h : Holders) (m : Mode) (before after : List Name)
     (one : (u : ℕ) → mode_among h u ≡ (if u == t then Some m else None))
-    (r : Result (Option Holders) Refusal) (found : IfOk r (λ o. o ≡ lookup (ghosts.eq n) old)) where
+    (r : Result (Option Holders) AllocError) (found : IfOk r (λ o. o ≡ lookup (ghosts.eq n) old)) where
   abbrev IsEntered : Type 0
   IsEntered = ((q : Name) → lookup (ghosts.eq q) new ≡ cond (ghosts.eq n q) (Some h) (lookup (ghosts.eq q) old))
       × (after ≡ before ++ n ∷ [])
@@ -275,7 +275,7 @@ module _ (old new : Holdings) (t : ℕ) (n : Name) (h : Holders) (m : Mode) (bef
   pub begun-before : IfOk r (λ o. (u : ℕ) → held old u n ≡ mode_by o u)
   begun-before = go r found
     where
-      go : (r : Result (Option Holders) Refusal) → IfOk r (λ o. o ≡ lookup (ghosts.eq n) old)
+      go : (r : Result (Option Holders) AllocError) → IfOk r (λ o. o ≡ lookup (ghosts.eq n) old)
           → IfOk r (λ o. (u : ℕ) → held old u n ≡ mode_by o u)
       go (Ok o) f = held-is old n o (sym f)
       go (Err e) f = tt
@@ -287,7 +287,7 @@ module _ (old new : Holdings) (t : ℕ) (n : Name) (h : Holders) (m : Mode) (bef
       own e = subst (λ z. GivesBack old new t n z) (one t ∙ cond-true (t == t) (Some m) None (eq-eqb t t refl))
           (own-changed old new n (Some h) e.0 t)
 
-      go : (r : Result (Option Holders) Refusal) → IfOk r (λ o. IfNone o IsEntered)
+      go : (r : Result (Option Holders) AllocError) → IfOk r (λ o. IfNone o IsEntered)
           → IfOk r (λ o. IfNone o (GivesBack old new t n (Some m)))
       go (Ok None) e = own e
       go (Ok (Some x)) e = tt
@@ -296,7 +296,7 @@ module _ (old new : Holdings) (t : ℕ) (n : Name) (h : Holders) (m : Mode) (bef
   pub begun-others : IfOk r (λ o. IfNone o IsEntered) → IfOk r (λ o. IfNone o (OthersKeep old new t))
   begun-others entry = go r found entry
     where
-      go : (r : Result (Option Holders) Refusal) → IfOk r (λ o. o ≡ lookup (ghosts.eq n) old)
+      go : (r : Result (Option Holders) AllocError) → IfOk r (λ o. o ≡ lookup (ghosts.eq n) old)
           → IfOk r (λ o. IfNone o IsEntered) → IfOk r (λ o. IfNone o (OthersKeep old new t))
       go (Ok None) f e = others-changed old new n (Some h) e.0 t (first-others (sym f))
       go (Ok (Some x)) f e = tt
@@ -307,7 +307,7 @@ module _ (old new : Holdings) (t : ℕ) (n : Name) (h : Holders) (m : Mode) (bef
       → OthersKeep old new t × IsListed new t after
   begun-listed entry same err listed = go r found entry same err
     where
-      go : (r : Result (Option Holders) Refusal) → IfOk r (λ o. o ≡ lookup (ghosts.eq n) old)
+      go : (r : Result (Option Holders) AllocError) → IfOk r (λ o. o ≡ lookup (ghosts.eq n) old)
           → IfOk r (λ o. IfNone o IsEntered) → IfOk r (λ o. IsSome o → (new ≡ old) × (after ≡ before))
           → OnErr r ((new ≡ old) × (after ≡ before)) → OthersKeep old new t × IsListed new t after
       go (Ok None) f e s x = entered old new t n (Some h) before after {T = Unit {0}} {E = Unit {0}} (Ok tt) e.0 e.1 tt
@@ -316,7 +316,7 @@ module _ (old new : Holdings) (t : ℕ) (n : Name) (h : Holders) (m : Mode) (bef
       go (Err k) f e s x = stays old new t before after x listed
 
 -- where it was refused, nobody held it
-pub begun-absent : (old : Holdings) (n : Name) {T : Type 0} (r : Result T Refusal)
+pub begun-absent : (old : Holdings) (n : Name) {T : Type 0} (r : Result T AllocError)
     → OnErr r (lookup (ghosts.eq n) old ≡ None) → OnErr r ((u : ℕ) → held old u n ≡ None)
 begun-absent old n (Ok x) h = tt
 begun-absent old n (Err e) h = held-is old n None h

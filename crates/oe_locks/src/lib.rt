@@ -110,13 +110,12 @@ fn enter(
     names: &mut Vec<Name>,
     name: &Name,
     first: Holders,
-) -> Result<Option<Holders>, Refusal>
+) -> Result<Option<Holders>, AllocError>
     ensures before { IfOk result (λ before. before ≡ lookup (ghosts.eq name.now) holders.old) }
     ensures entered { IfOk result (λ before. IfNone before
         (Enters holders.old holders.new names.old.items names.new.items name.now first)) }
     ensures held { IfOk result (λ before. IsSome before →
         (holders.new ≡ holders.old) × (names.new.items ≡ names.old.items)) }
-    ensures cause { IfErr result (λ e. e ≡ NoMemory) }
     ensures absent { OnErr result (lookup (ghosts.eq name.now) holders.old ≡ None) }
     ensures err { OnErr result
         ((holders.new ≡ holders.old) × (names.new.items ≡ names.old.items)) }
@@ -125,11 +124,11 @@ fn enter(
         return Ok(Some(held));
     }
     let Ok(_) = names.push(*name) else {
-        return Err(Refusal::NoMemory);
+        return Err(AllocError);
     };
     let Ok(_) = holders.insert(name, &first) else {
         names.pop();
-        return Err(Refusal::NoMemory);
+        return Err(AllocError);
     };
     Ok(None)
 }
@@ -259,7 +258,7 @@ impl Locks {
         name: &Name,
         terminal: Terminal,
         mode: Mode,
-    ) -> Result<Option<Holders>, Refusal>
+    ) -> Result<Option<Holders>, AllocError>
         ensures before { IfOk result (λ before.
             (u : ℕ) → held self.old u name.now ≡ mode_by before u) }
         ensures own { IfOk result (λ before. IfNone before
@@ -267,7 +266,6 @@ impl Locks {
         ensures others { IfOk result (λ before. IfNone before
             (OthersKeep self.old self.new terminal)) }
         ensures held { IfOk result (λ before. IsSome before → self.new ≡ self.old) }
-        ensures cause { IfErr result (λ e. e ≡ NoMemory) }
         ensures absent { OnErr result ((u : ℕ) → held self.old u name.now ≡ None) }
         ensures err { OnErr result (self.new ≡ self.old) }
     {
@@ -337,7 +335,7 @@ impl Locks {
         ensures err { OnErr result (self.new ≡ self.old) }
     {
         match self.begin(&name, terminal, mode) {
-            Err(refusal) => Err(refusal),
+            Err(AllocError) => Err(Refusal::NoMemory),
             Ok(None) => Ok(None),
             Ok(Some(before)) => self.rise(&name, terminal, mode, &before),
         }

@@ -38,6 +38,24 @@ impl Model for NameMap {
     ghost invariant = { λ m. AreOnce m.few.items };
 }
 
+// Whether two names are one. The derived comparison is a call of its own, and names are compared
+// more often than anything else is done with them.
+#[inline(always)]
+fn is_one(name: &Name, other: &Name) -> bool
+    ensures { result ≡ ghosts.eq name.now other.now }
+{
+    match (name, other) {
+        (Name::Warehouse(key), Name::Warehouse(other)) => key == other,
+        (Name::District(key), Name::District(other)) => key == other,
+        (Name::Customer(key), Name::Customer(other)) => key == other,
+        (Name::Order(key), Name::Order(other)) => key == other,
+        (Name::Queue(key), Name::Queue(other)) => key == other,
+        (Name::Stock(key), Name::Stock(other)) => key == other,
+        (Name::Names(key, last), Name::Names(other, others)) => key == other && last == others,
+        _ => false,
+    }
+}
+
 // The holders of the entry with the name. The newest are looked at first: they are asked for again.
 #[inline(always)]
 fn listed(entries: &[(Name, Holders)], name: &Name) -> Option<Holders>
@@ -47,7 +65,7 @@ fn listed(entries: &[(Name, Holders)], name: &Name) -> Option<Holders>
     let mut left = entries.len();
     while left > 0 {
         left -= 1;
-        if *name == entries[left].0 {
+        if is_one(name, &entries[left].0) {
             return Some(entries[left].1);
         }
     }
@@ -76,7 +94,7 @@ fn place(entries: &[(Name, Holders)], name: &Name) -> Option<usize>
     ensures absent { IfNone result (lookup (ghosts.eq name.now) entries.now ≡ None) }
 {
     for i in 0..entries.len() {
-        if *name == entries[i].0 {
+        if is_one(name, &entries[i].0) {
             return Some(i);
         }
     }
@@ -94,7 +112,7 @@ fn put(entries: &mut Vec<(Name, Holders)>, name: &Name, after: &Holders) -> bool
     ensures once { AreOnce entries.old.items → AreOnce entries.new.items }
 {
     for i in 0..entries.len() {
-        if *name == entries[i].0 {
+        if is_one(name, &entries[i].0) {
             entries[i] = (*name, *after);
             return true;
         }
@@ -131,7 +149,7 @@ fn strike_last(entries: &mut Vec<(Name, Holders)>, name: &Name, terminal: Termin
     if count == 0 {
         return false;
     }
-    if *name != entries[count - 1].0 {
+    if !is_one(name, &entries[count - 1].0) {
         return false;
     }
     match entries[count - 1].1 {

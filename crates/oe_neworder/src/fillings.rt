@@ -19,7 +19,7 @@ ghost use Rattle.oe_neworder.specs.Program.{line_position};
 ghost use Rattle.oe_neworder.specs.Stages.{Advances, HoldsTaken, Fills};
 
 use crate::looks::{Supply, supply_of};
-use oe_change::Write;
+use oe_engine::kinds::{inserts, updates};
 use oe_engine::stages::{failed, put, put_held};
 use oe_engine::{Engine, Lock, Progress, Tx};
 use oe_formulas::orders::{Seen, stock_key};
@@ -98,7 +98,10 @@ fn fill(
             Err(failed(engine, tx, lock, refusal))
         }
         Supply::Fills(key, counters, filled) => {
-            let write = Write::StockCounters(key, counters);
+            let write = updates::StockCounts {
+                stock: key,
+                counters,
+            };
             match put(engine, tx, &write) {
                 Ok(()) => Ok(filled),
                 Err(refusal) => Err(refusal),
@@ -125,7 +128,10 @@ fn insert(
     ensures err { OnErr result (view_of engine.new ≡ view_of engine.old) }
 {
     let key = request.district.order(order).line(filled.number);
-    let write = Write::InsertOrderLine(key, filled.row.copied());
+    let write = inserts::InsertOrderLine {
+        line: key,
+        row: filled.row.copied(),
+    };
     put_held(engine, tx, &write)
 }
 

@@ -10,7 +10,7 @@ ghost use Rattle.oe_neworder.specs.Stages.{Steps};
 use crate::fillings::Filling;
 use crate::looks::{next_number, seen, warehouse_tax};
 use crate::programs::Program;
-use oe_change::Write;
+use oe_engine::kinds::{inserts, updates};
 use oe_engine::stages::{failed, hold, put};
 use oe_engine::{Engine, Lock, Tx};
 use oe_formulas::orders::{Seen, order_row};
@@ -57,7 +57,10 @@ pub fn take_number(
     match next_number(request, engine.tables()) {
         Err(refusal) => Err(failed(engine, tx, lock, refusal)),
         Ok(numbered) => {
-            let write = Write::NextOrder(request.district, numbered.next);
+            let write = updates::NextOrder {
+                district: request.district,
+                order: numbered.next,
+            };
             match put(engine, tx, &write) {
                 Ok(()) => Ok(Program::Customer(numbered.order, tax, numbered.tax)),
                 Err(refusal) => Err(refusal),
@@ -103,7 +106,10 @@ pub fn insert_order(
     ensures { Steps request.now tx.now engine.old
         (NewOrderOrder (seen_by seen.now)) result engine.new }
 {
-    let write = Write::InsertOrder(request.district.order(seen.order), order_row(request));
+    let write = inserts::InsertOrder {
+        order: request.district.order(seen.order),
+        row: order_row(request),
+    };
     match put(engine, tx, &write) {
         Ok(()) => Ok(Program::Queue(seen.copied())),
         Err(refusal) => Err(refusal),
@@ -122,7 +128,9 @@ pub fn insert_new_order(
     ensures { Steps request.now tx.now engine.old
         (NewOrderQueue (seen_by seen.now)) result engine.new }
 {
-    let write = Write::InsertNewOrder(request.district.new_order(seen.order));
+    let write = inserts::InsertNewOrder {
+        order: request.district.new_order(seen.order),
+    };
     match put(engine, tx, &write) {
         Ok(()) => Ok(Program::Lines(Filling {
             seen: seen.copied(),

@@ -16,9 +16,10 @@ ghost use Rattle.oe_payment.specs.Program.{position_in, stage_behind, number_giv
 ghost use Rattle.oe_payment.specs.Stages.{is_failure, IsRefusedHere, Does, stage_after, IsStage};
 
 use crate::positions::{Position, Stage};
-use oe_change::Write;
+use oe_engine::kinds::inserts::InsertHistory;
+use oe_engine::kinds::updates::{BadCredit, CustomerAccount, DistrictYtd, WarehouseYtd};
 use oe_engine::stages::{failed, hold};
-use oe_engine::{Engine, Lock, Progress, Tx};
+use oe_engine::{Engine, Lock, OneWrite, Progress, Tx};
 use oe_formulas::payments::{
     account_after, bad_credit_entry, district_ytd_after, history_data, history_key, history_row,
     warehouse_ytd_after,
@@ -49,14 +50,20 @@ fn failure(engine: &Engine, tx: &Tx, name: Name, refusal: &Refusal) -> Refusal
 
 // Writes a row, after which the payment comes to the next stage.
 #[inline(always)]
-fn go(engine: &mut Engine, tx: &Tx, write: &Write, stage: &mut Stage, next: Stage) -> Progress
+fn go<W: OneWrite>(
+    engine: &mut Engine,
+    tx: &Tx,
+    write: &W,
+    stage: &mut Stage,
+    next: Stage,
+) -> Progress
     requires open { IsOpen engine.old tx.now }
     requires own { IsOwn tx.now.terminal (suc ((view_of engine.old).counts tx.now.terminal))
-        (governs (key_written write.now)) }
+        (governs (key_written (W.write write.now))) }
     requires beside { HoldsBeside (view_of engine.old).rows
-        ((view_of engine.old).held tx.now.terminal) write.now }
+        ((view_of engine.old).held tx.now.terminal) (W.write write.now) }
     ensures does { (q : PaymentRequest) (p p' : PaymentPosition) (c : Change)
-        → IsStage q tx.now engine.old p write.now c p'
+        → IsStage q tx.now engine.old p (W.write write.now) c p'
         → Does q tx.now engine.old p result engine.new p' }
     ensures stage { stage.new ≡ stage_after next result stage.old }
 {
@@ -96,7 +103,10 @@ fn pay_warehouse(
         }
     };
     *warehouse = row.name.copied();
-    let write = Write::WarehouseYtd(*key, ytd);
+    let write = WarehouseYtd {
+        warehouse: *key,
+        ytd,
+    };
     go(engine, tx, &write, stage, Stage::District)
 }
 
@@ -151,7 +161,10 @@ fn pay_district(
         }
     };
     *district = row.name.copied();
-    let write = Write::DistrictYtd(*key, ytd);
+    let write = DistrictYtd {
+        district: *key,
+        ytd,
+    };
     go(engine, tx, &write, stage, stage_behind(&request.customer))
 }
 
@@ -235,12 +248,19 @@ fn pay_customer(
     keep_reply(reply, number, row, &account);
     match row.credit {
         Credit::Good => {
-            let write = Write::CustomerAccount(*key, account);
+            let write = CustomerAccount {
+                customer: *key,
+                account,
+            };
             go(engine, tx, &write, stage, Stage::History)
         }
         Credit::Bad => {
             let entry = bad_credit_entry(number, request);
-            let write = Write::BadCredit(*key, account, entry);
+            let write = BadCredit {
+                customer: *key,
+                account,
+                entry,
+            };
             go(engine, tx, &write, stage, Stage::History)
         }
     }
@@ -259,7 +279,7 @@ fn note(request: &PaymentRequest, position: &mut Position, engine: &mut Engine, 
     let key = history_key(tx.terminal(), engine.number(tx));
     let joined = history_data(&position.warehouse, &position.district);
     let row = history_row(position.reply.customer, &joined, request);
-    let write = Write::InsertHistory(key, row);
+    let write = InsertHistory { history: key, row };
     go(engine, tx, &write, &mut position.stage, Stage::End)
 }
 

@@ -5,7 +5,7 @@ ghost use Rattle.oe_engine.specs.View.{IsOpen};
 ghost use Rattle.oe_rename.specs.Program.{HoldsTaken, Recalls, Steps};
 
 use crate::programs::{Program, new_name};
-use oe_change::Write;
+use oe_engine::kinds::updates::CustomerNames;
 use oe_engine::stages::{hold, put_under};
 use oe_engine::{Engine, Lock, Tx};
 use oe_requests::{Refusal, RenameRequest};
@@ -63,7 +63,11 @@ pub fn set_names(
 {
     let key = &request.customer;
     let lock = &Lock::exclusive(new_name(request));
-    let write = Write::CustomerNames(*key, request.last.as_text(), request.first.as_text());
+    let write = CustomerNames {
+        customer: *key,
+        last: request.last.as_text(),
+        first: request.first.as_text(),
+    };
     match put_under(engine, tx, lock, &write) {
         Ok(()) => Ok(Program::End(last)),
         Err(refusal) => Err(refusal),

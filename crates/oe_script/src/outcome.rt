@@ -139,7 +139,8 @@ fn begin_or_later<W: Outlet>(
         (W.sink to.old) out.old.items (W.sink to.new) out.new.items result }
 {
     if let Some(asked) = payment_to_begin(line) {
-        tell_begin(core, asked.0, &Request::Payment(asked.1), out);
+        let request = Request::Payment(asked.1);
+        tell_begin(core, asked.0, &request, out);
         return Ok(true);
     }
     later_line(core, line, number, out, to)

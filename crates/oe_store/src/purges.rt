@@ -1,5 +1,5 @@
-//! What a purge of old commits gives up of the tables: places of rows that nobody puts back any
-//! more, and names that nobody finds a customer by.
+//! What a purge of old commits gives up of the tables, places of rows that nobody puts back any
+//! more, and with an undo, names that nobody finds a customer by.
 ghost use Rattle.std.specs.Prelude.{◌≡◌};
 ghost use Rattle.oe_store.specs.Places.{rows, GivesUp, IsSwept};
 

@@ -2,7 +2,7 @@
 mod CallFacts
 mod ChainFacts
 mod ChainedFacts
-mod ChainedLinkFacts
+pub mod ChainedLinkFacts
 pub mod ChainWalkFacts
 pub mod LeadFacts
 pub mod LinkFacts
@@ -12,4 +12,4 @@ pub mod OwnerFacts
 mod PlaceFacts
 mod SendFacts
 mod SpreadFacts
-mod WalkFacts
+pub mod WalkFacts

@@ -2,6 +2,7 @@
 //! `OwnedLink` is kept of each. Nothing here takes memory or can fail.
 ghost use Rattle.std.specs.Prelude.{◌≡◌};
 ghost use Rattle.oe_undo.specs.Chains.{link_from, previous_by, previous_of};
+ghost use Rattle.oe_undo.specs.Held.{is_later};
 
 use oe_layout::{Previous, RecordAddress};
 use oe_values::{Moment, Terminal};
@@ -23,8 +24,19 @@ pub struct Link {
 }
 
 impl Holder {
+    /// Tells whether a record of this holder is put back on the way to the moment: it is open, or of
+    /// a later commit.
+    pub fn is_later(&self, moment: Moment) -> bool
+        ensures { result ≡ is_later moment self.now }
+    {
+        match self {
+            Holder::Open(_) => true,
+            Holder::At(made) => moment < *made,
+        }
+    }
+
     /// Gives the link that a previous one is in a record of this holder.
-    pub(crate) fn link_from(self, previous: Previous) -> Option<Link>
+    pub fn link_from(self, previous: Previous) -> Option<Link>
         ensures { result ≡ link_from self previous }
     {
         match previous {

@@ -2,7 +2,7 @@
 //! segment, and tells where the next one lies. No table is read, and nothing takes memory.
 ghost use Rattle.std.specs.Prelude.{◌≡◌, ◌≤◌};
 ghost use Rattle.oe_log.specs.Records.{HasAddress, IsRecordAt};
-ghost use Rattle.oe_undo.specs.Held.{held, of_key, horizon, is_later, count_later};
+ghost use Rattle.oe_undo.specs.Held.{held, of_key, horizon, count_later};
 ghost use Rattle.oe_undo.specs.Restored.{later_of, has_later, restored};
 ghost use Rattle.oe_undo.specs.Walks.{records_by};
 ghost use Rattle.oe_log.specs.Ticks.{ticked};
@@ -13,17 +13,6 @@ use oe_layout::{Previous, StoredRecord};
 use oe_log::Ticks;
 use oe_rows::{Key, Row};
 use oe_values::Moment;
-
-/// Tells whether a record of this holder is put back on the way to the moment: it is open, or of a
-/// later commit.
-fn is_later(holder: &Holder, moment: Moment) -> bool
-    ensures { result ≡ is_later moment holder.now }
-{
-    match holder {
-        Holder::Open(_) => true,
-        Holder::At(made) => moment < *made,
-    }
-}
 
 impl Undo {
     /// Gives the record where a link leads, as it lies in its holder's segment, with what leads to
@@ -53,7 +42,7 @@ impl Undo {
     {
         self.is_chained();
         match self.link(key) {
-            Some(link) => is_later(&link.holder, moment),
+            Some(link) => link.holder.is_later(moment),
             None => false,
         }
     }
@@ -80,7 +69,7 @@ impl Undo {
         let mut link = self.link(key);
         let mut row = now;
         while let Some(newer) = link {
-            if !is_later(&newer.holder, moment) {
+            if !newer.holder.is_later(moment) {
                 return row;
             }
             let (previous, record) = self.read_record(&newer, ticks);

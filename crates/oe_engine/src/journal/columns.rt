@@ -1,70 +1,22 @@
 //! The records of writes that have the columns which an update changes, lent from where they lie.
-ghost use Rattle.std.specs.Prelude.{◌≡◌, Some, None, option_map, IfOk, IfErr, OnErr};
+ghost use Rattle.std.specs.Prelude.{◌≡◌, Some, None, option_map};
 ghost use Rattle.oe_rows.specs.declared.layouts.Layout.TheVariants.{ChangedColumns};
 ghost use Rattle.oe_layout.specs.Records.{record_of_lent};
-ghost use Rattle.oe_change.specs.Writes.{key_written, written};
 ghost use Rattle.oe_change.specs.declared.writes.Write.TheVariants as writes;
 ghost use Rattle.oe_store.specs.Places.{rows};
 ghost use Rattle.oe_engine.specs.Records.{record_of_write};
 
 use crate::journal::parts;
-use oe_change::Write;
 use oe_layout::LentRecord;
-use oe_requests::Refusal;
 use oe_rows::customers::Account;
 use oe_rows::items::StockCounters;
 use oe_rows::{CustomerKey, DistrictKey, OrderKey, OrderLineKey, StockKey, WarehouseKey};
 use oe_store::Tables;
 use oe_values::{Carrier, OrderNumber, Stamp, Text, YearToDate};
 
-/// Gives the record of a write to rows as they stand: of an insert or a delete its key, of an
-/// update the columns that it changes.
-///
-/// `NoSuchRow`: the row to be updated is absent.
-#[inline(always)]
-pub(crate) fn lend_columns<'a>(
-    tables: &'a Tables,
-    write: &'a Write,
-) -> Result<LentRecord<'a>, Refusal>
-    ensures lent { IfOk result
-        (λ b. record_of_write ChangedColumns write.now (rows tables.now)
-        ≡ Some (record_of_lent b)) }
-    ensures absent { OnErr result (written write.now (rows tables.now) ≡ None) }
-    ensures cause { IfErr result (λ e. e ≡ Refusal.NoSuchRow (key_written write.now)) }
-{
-    match columns_before(tables, write) {
-        Some(before) => Ok(before),
-        None => Err(Refusal::NoSuchRow(write.key())),
-    }
-}
-
-/// Gives the record of a write; none exactly where the row to be updated is absent.
-#[inline(always)]
-fn columns_before<'a>(tables: &'a Tables, write: &'a Write) -> Option<LentRecord<'a>>
-    ensures { option_map record_of_lent result
-        ≡ record_of_write ChangedColumns write.now (rows tables.now) }
-{
-    match write {
-        Write::WarehouseYtd(key, ytd) => warehouse_ytd(tables, key, *ytd),
-        Write::DistrictYtd(key, ytd) => district_ytd(tables, key, *ytd),
-        Write::NextOrder(key, order) => next_order(tables, key, *order),
-        Write::CustomerAccount(key, account) => customer_account(tables, key, account),
-        Write::BadCredit(key, account, entry) => bad_credit(tables, key, account, entry),
-        Write::CustomerNames(key, last, first) => customer_names(tables, key, last, first),
-        Write::StockCounters(key, counters) => stock_counters(tables, key, counters),
-        Write::Carrier(key, number) => carrier(tables, key, *number),
-        Write::DeliveryDate(key, stamp) => delivery_date(tables, key, *stamp),
-        Write::InsertHistory(key, _) => Some(LentRecord::InsertedHistory(*key)),
-        Write::InsertNewOrder(key) => Some(LentRecord::InsertedNewOrder(*key)),
-        Write::InsertOrder(key, _) => Some(LentRecord::InsertedOrder(*key)),
-        Write::InsertOrderLine(key, _) => Some(LentRecord::InsertedOrderLine(*key)),
-        Write::DeleteNewOrder(key) => Some(LentRecord::DeletedNewOrder(*key)),
-    }
-}
-
 /// Gives the record of a W_YTD that is set, if the warehouse is there.
 #[inline(always)]
-fn warehouse_ytd<'a>(
+pub(crate) fn warehouse_ytd<'a>(
     tables: &'a Tables,
     key: &WarehouseKey,
     ytd: YearToDate,
@@ -83,7 +35,7 @@ fn warehouse_ytd<'a>(
 
 /// Gives the record of a D_YTD that is set, if the district is there.
 #[inline(always)]
-fn district_ytd<'a>(
+pub(crate) fn district_ytd<'a>(
     tables: &'a Tables,
     key: &DistrictKey,
     ytd: YearToDate,
@@ -102,7 +54,7 @@ fn district_ytd<'a>(
 
 /// Gives the record of a D_NEXT_O_ID that is set, if the district is there.
 #[inline(always)]
-fn next_order<'a>(
+pub(crate) fn next_order<'a>(
     tables: &'a Tables,
     key: &DistrictKey,
     order: OrderNumber,
@@ -121,7 +73,7 @@ fn next_order<'a>(
 
 /// Gives the record of a customer's account that is set, if the customer is there.
 #[inline(always)]
-fn customer_account<'a>(
+pub(crate) fn customer_account<'a>(
     tables: &'a Tables,
     key: &CustomerKey,
     account: &'a Account,
@@ -141,7 +93,7 @@ fn customer_account<'a>(
 
 /// Gives the record of an account and of an entry before C_DATA, if the customer is there.
 #[inline(always)]
-fn bad_credit<'a>(
+pub(crate) fn bad_credit<'a>(
     tables: &'a Tables,
     key: &CustomerKey,
     account: &'a Account,
@@ -162,7 +114,7 @@ fn bad_credit<'a>(
 
 /// Gives the record of a customer's names that are set, if the customer is there.
 #[inline(never)]
-fn customer_names<'a>(
+pub(crate) fn customer_names<'a>(
     tables: &'a Tables,
     key: &CustomerKey,
     last: &Text<0, 16>,
@@ -183,7 +135,7 @@ fn customer_names<'a>(
 
 /// Gives the record of a stock's counters that are set, if the stock is there.
 #[inline(always)]
-fn stock_counters<'a>(
+pub(crate) fn stock_counters<'a>(
     tables: &'a Tables,
     key: &StockKey,
     counters: &StockCounters,
@@ -203,7 +155,11 @@ fn stock_counters<'a>(
 
 /// Gives the record of an O_CARRIER_ID that is set, if the order is there.
 #[inline(always)]
-fn carrier<'a>(tables: &'a Tables, key: &OrderKey, carrier: Carrier) -> Option<LentRecord<'a>>
+pub(crate) fn carrier<'a>(
+    tables: &'a Tables,
+    key: &OrderKey,
+    carrier: Carrier,
+) -> Option<LentRecord<'a>>
     ensures { option_map record_of_lent result
         ≡ record_of_write ChangedColumns (writes.Carrier key.now carrier) (rows tables.now) }
 {
@@ -218,7 +174,11 @@ fn carrier<'a>(tables: &'a Tables, key: &OrderKey, carrier: Carrier) -> Option<L
 
 /// Gives the record of an OL_DELIVERY_D that is set, if the line is there.
 #[inline(always)]
-fn delivery_date<'a>(tables: &'a Tables, key: &OrderLineKey, stamp: Stamp) -> Option<LentRecord<'a>>
+pub(crate) fn delivery_date<'a>(
+    tables: &'a Tables,
+    key: &OrderLineKey,
+    stamp: Stamp,
+) -> Option<LentRecord<'a>>
     ensures { option_map record_of_lent result
         ≡ record_of_write ChangedColumns (writes.DeliveryDate key.now stamp) (rows tables.now) }
 {

@@ -1,16 +1,17 @@
 //! The nine tables and their undo log on the ring as one: a write with its record, records put
 //! back, a purge and a rewind. The record goes first, so that no row is changed without one, and
 //! each row is changed where it lies. Nothing takes memory but an insert at a key without a place.
-mod columns;
-mod inserts;
+pub(crate) mod columns;
+mod forgetting;
+pub(crate) mod inserts;
 pub mod laws;
-mod lending;
+pub(crate) mod lending;
 mod names;
 mod parts;
 pub mod purges;
 pub mod rewinds;
-mod settings;
-mod unplaced;
+pub(crate) mod settings;
+pub(crate) mod unplaced;
 pub mod unwinding;
 pub mod writes;
 

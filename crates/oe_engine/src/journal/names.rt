@@ -1,6 +1,6 @@
 //! Whether records name a key. A key that no record names, and that has no row, has no use for a
 //! place.
-ghost use Rattle.std.specs.Prelude.{◌≡◌, ◌↔◌, IsTrue};
+ghost use Rattle.std.specs.Prelude.{◌↔◌, IsTrue};
 ghost use Rattle.oe_undo.specs.Chains.{IsForgotten, IsEnd};
 ghost use Rattle.oe_undo.specs.Undo.{seen};
 ghost use Rattle.oe_engine.specs.GivesUp.{HasNoRecord};

@@ -1,7 +1,7 @@
 //! A purge: the log drops its oldest commits, and the tables give up the places of NEW-ORDER keys
-//! that these deleted and that nothing names any more. Where one of them renamed a customer and did
-//! nothing else, and the customer has no later record, the customer is also taken off the list of
-//! the last name before. The cost grows with the commits that go alone.
+//! that these deleted and that nothing names any more. Where one of them renamed a customer, the
+//! customer is also taken off the list of the last name before, once nothing has it any more: for
+//! that the customer's later records are read. Else the cost grows with the commits that go alone.
 ghost use Rattle.std.specs.Prelude.{◌≡◌, ◌-◌, ◌<◌, ◌≤◌, ◌↔◌, [], ℕ, Option, length, drop, get_or, IsTrue, IfErr, OnOk, OnErr};
 ghost use Rattle.oe_theory.specs.Store.{Slot, purged_to};
 ghost use Rattle.oe_model.specs.Rows.{Rows};
@@ -11,17 +11,18 @@ ghost use Rattle.oe_log.specs.Log.{with_newest, committed_records};
 ghost use Rattle.oe_log.specs.Stands.{undo_of, model_records};
 ghost use Rattle.oe_log.specs.Moments.{store_with, newest, IsKeptMoment, IsUnkept};
 ghost use Rattle.oe_undo.specs.Chains.{IsEnd};
+ghost use Rattle.oe_undo.specs.Held.{horizon};
 ghost use Rattle.oe_undo.specs.Undo.{seen};
 ghost use Rattle.oe_engine.specs.GivesUp.{IsDeleted, GivesUpThose, GivesUpDeleted};
 
+use crate::journal::forgetting::{forget_name, last_before};
 use crate::journal::names::has_ended;
-use oe_layout::OwnRecord;
 use oe_requests::Refusal;
-use oe_rows::{CustomerKey, Key, NewOrderKey};
+use oe_rows::{Key, NewOrderKey};
 use oe_store::Tables;
 use oe_undo::Undo;
 use oe_undo::laws::{calls_keep_chains, ends_without_records};
-use oe_values::{Moment, Text};
+use oe_values::Moment;
 
 /// Gives up the segments of the commits up to a moment, which becomes the horizon, and the places
 /// of the NEW-ORDER keys that these commits deleted, that have no row and no record left. Rows,
@@ -54,6 +55,8 @@ pub fn purge(
     match undo.segments().commits_after(moment) {
         Ok(later) => {
             let count = undo.segments().kept() - later;
+            // For the proof: the newest moment is the number of all terminals' commits.
+            let _newest = undo.segments().newest();
             forget_names(tables, undo, moment, count, may_forget);
             forget_oldest(tables, undo, moment, count);
             Ok(())
@@ -65,7 +68,8 @@ pub fn purge(
 /// Takes the customers whom the `count` oldest commits renamed off the lists of their last names
 /// before, where it may; the last of these commits made `moment`.
 fn forget_names(tables: &mut Tables, undo: &Undo, moment: Moment, count: usize, may_forget: bool)
-    requires { count ≤ length undo.now.log.committed }
+    requires count { count ≤ length undo.now.log.committed }
+    requires moment { horizon undo.now.log ≤ moment }
     ensures { tables.new ≡ tables.old }
 {
     if !may_forget {
@@ -73,15 +77,16 @@ fn forget_names(tables: &mut Tables, undo: &Undo, moment: Moment, count: usize, 
     }
     let kept = undo.segments().kept();
     for earlier in 0..count {
-        forget_name(tables, undo, kept - 1 - earlier, moment);
+        forget_renamed(tables, undo, kept - 1 - earlier, moment);
     }
 }
 
-/// Takes the customer whom a commit renamed off the list of the last name before, where the
-/// customer has no record that the purge leaves. The commit is given by the number of later ones. A
+/// Takes the customer whom a commit renamed off the list of the last name before, as far as nothing
+/// after the moment has a name of that list. The commit is given by the number of later ones. A
 /// rename has one record: of other commits none is read.
-fn forget_name(tables: &mut Tables, undo: &Undo, later: usize, moment: Moment)
-    requires { later < length undo.now.log.committed }
+fn forget_renamed(tables: &mut Tables, undo: &Undo, later: usize, moment: Moment)
+    requires later { later < length undo.now.log.committed }
+    requires moment { horizon undo.now.log ≤ moment }
     ensures { tables.new ≡ tables.old }
 {
     let mut records = undo.segments().committed_records(later);
@@ -91,26 +96,8 @@ fn forget_name(tables: &mut Tables, undo: &Undo, later: usize, moment: Moment)
     if records.next().is_some() {
         return;
     }
-    match record.read() {
-        OwnRecord::UpdatedCustomer(key, row) => {
-            unlist(tables, undo, &key, &row.name.last, moment);
-        }
-        OwnRecord::ChangedCustomer(key, columns) => {
-            if let Some(last) = &columns.name.last {
-                unlist(tables, undo, &key, last, moment);
-            }
-        }
-        _ => {}
-    }
-}
-
-/// Takes a customer off the list of a last name, where the customer has no record that the purge
-/// leaves.
-fn unlist(tables: &mut Tables, undo: &Undo, key: &CustomerKey, last: &Text<0, 16>, moment: Moment)
-    ensures { tables.new ≡ tables.old }
-{
-    if has_ended(undo, &Key::Customer(*key), moment) {
-        tables.forget_name(key, last);
+    if let Some((key, last)) = last_before(&record.read()) {
+        forget_name(tables, undo, &key, &last, moment);
     }
 }
 

@@ -1,35 +1,17 @@
 //! Which refusal a write answers where memory was refused for the place of a key's link, and the
 //! key has no place in its table either: what the tables would say.
-ghost use Rattle.std.specs.Prelude.{IsSome};
 ghost use Rattle.oe_model.specs.Changes.{key_of, InsertHistory, InsertNewOrder, InsertOrder, InsertOrderLine};
-ghost use Rattle.oe_change.specs.Writes.{key_written, written};
-ghost use Rattle.oe_store.specs.Places.{rows, HasPlace};
-ghost use Rattle.oe_engine.specs.Recorded.{IsRefused, RefusesWrite};
+ghost use Rattle.oe_store.specs.Places.{HasPlace};
+ghost use Rattle.oe_engine.specs.Recorded.{IsRefused};
 
-use oe_change::{Write, accept_history, accept_new_order, accept_order, accept_order_line};
+use oe_change::{accept_history, accept_new_order, accept_order, accept_order_line};
 use oe_requests::Refusal;
 use oe_rows::{History, HistoryKey, NewOrderKey, Order, OrderKey, OrderLine, OrderLineKey};
 use oe_store::Tables;
 
-/// Says why a write at a key without a place is refused: a deleted row is absent, and so is what an
-/// inserted row refers to, or there is no memory. A row to be updated would have a place.
-#[inline(never)]
-pub(crate) fn unplaced(tables: &Tables, write: &Write) -> Refusal
-    requires there { IsSome (written write.now (rows tables.now)) }
-    requires unplaced { HasPlace tables.now (key_written write.now) → ⊥ }
-    ensures { RefusesWrite write.now tables.now result }
-{
-    match write {
-        Write::InsertHistory(key, row) => unplaced_history(tables, key, row),
-        Write::InsertNewOrder(key) => unplaced_new_order(tables, key),
-        Write::InsertOrder(key, row) => unplaced_order(tables, key, row),
-        Write::InsertOrderLine(key, row) => unplaced_order_line(tables, key, row),
-        _ => Refusal::NoSuchRow(write.key()),
-    }
-}
-
 /// Says why a HISTORY row is refused whose key has no place.
-fn unplaced_history(tables: &Tables, key: &HistoryKey, row: &History) -> Refusal
+#[inline(never)]
+pub(crate) fn unplaced_history(tables: &Tables, key: &HistoryKey, row: &History) -> Refusal
     requires { HasPlace tables.now (key_of (InsertHistory key.now row.now)) → ⊥ }
     ensures { IsRefused (InsertHistory key.now row.now) tables.now result }
 {
@@ -40,7 +22,8 @@ fn unplaced_history(tables: &Tables, key: &HistoryKey, row: &History) -> Refusal
 }
 
 /// Says why a NEW-ORDER row is refused whose key has no place.
-fn unplaced_new_order(tables: &Tables, key: &NewOrderKey) -> Refusal
+#[inline(never)]
+pub(crate) fn unplaced_new_order(tables: &Tables, key: &NewOrderKey) -> Refusal
     requires { HasPlace tables.now (key_of (InsertNewOrder key.now (record {}))) → ⊥ }
     ensures { IsRefused (InsertNewOrder key.now (record {})) tables.now result }
 {
@@ -51,7 +34,8 @@ fn unplaced_new_order(tables: &Tables, key: &NewOrderKey) -> Refusal
 }
 
 /// Says why an ORDER row is refused whose key has no place.
-fn unplaced_order(tables: &Tables, key: &OrderKey, row: &Order) -> Refusal
+#[inline(never)]
+pub(crate) fn unplaced_order(tables: &Tables, key: &OrderKey, row: &Order) -> Refusal
     requires { HasPlace tables.now (key_of (InsertOrder key.now row.now)) → ⊥ }
     ensures { IsRefused (InsertOrder key.now row.now) tables.now result }
 {
@@ -62,7 +46,8 @@ fn unplaced_order(tables: &Tables, key: &OrderKey, row: &Order) -> Refusal
 }
 
 /// Says why an ORDER-LINE row is refused whose key has no place.
-fn unplaced_order_line(tables: &Tables, key: &OrderLineKey, row: &OrderLine) -> Refusal
+#[inline(never)]
+pub(crate) fn unplaced_order_line(tables: &Tables, key: &OrderLineKey, row: &OrderLine) -> Refusal
     requires { HasPlace tables.now (key_of (InsertOrderLine key.now row.now)) → ⊥ }
     ensures { IsRefused (InsertOrderLine key.now row.now) tables.now result }
 {

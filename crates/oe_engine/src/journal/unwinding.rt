@@ -16,6 +16,7 @@ ghost use Rattle.oe_engine.specs.Linked.{SameLinks, StayLinked, GivesUpOwn};
 ghost use Rattle.oe_engine.specs.Named.{PutsBack};
 ghost use Rattle.oe_engine.specs.Unwinds.{TakesBack};
 
+use crate::journal::forgetting::{forget_lost, name_lost};
 use crate::journal::names::is_unnamed;
 use oe_layout::OwnRecord;
 use oe_log::Segment;
@@ -47,8 +48,24 @@ pub fn take_back(tables: &mut Tables, undo: &mut Undo, segment: Segment, count: 
     }
 }
 
-/// Undoes the change of a record that was taken off.
+/// Undoes the change of a record that was taken off. A customer who loses a last name so leaves its
+/// list, once nothing has it any more.
 fn put_back(tables: &mut Tables, undo: &mut Undo, newest: OwnRecord)
+    requires { CanPutBack tables.old (record_of_own newest) }
+    ensures rows { rows tables.new ≡ put_back (record_of_own newest) (rows tables.old) }
+    ensures places { PutsBack (record_of_own newest) (record_key (record_of_own newest))
+        tables.old tables.new undo.old.log }
+    ensures log { undo.new.log ≡ undo.old.log }
+    ensures links { StayLinked tables.old tables.new undo.old.links undo.new.links }
+    ensures seen { SameLinks undo.old undo.new }
+{
+    let lost = name_lost(tables, &newest);
+    undo_change(tables, undo, newest);
+    forget_lost(tables, undo, &lost);
+}
+
+/// Undoes the change of a record that was taken off, and no more.
+fn undo_change(tables: &mut Tables, undo: &mut Undo, newest: OwnRecord)
     requires { CanPutBack tables.old (record_of_own newest) }
     ensures rows { rows tables.new ≡ put_back (record_of_own newest) (rows tables.old) }
     ensures places { PutsBack (record_of_own newest) (record_key (record_of_own newest))

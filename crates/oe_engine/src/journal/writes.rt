@@ -8,17 +8,13 @@ ghost use Rattle.oe_undo.specs.Links.{GivesAtMost};
 ghost use Rattle.oe_engine.specs.Linked.{AreLinked, SameLinks, StayLinked};
 ghost use Rattle.oe_layout.specs.Records.{record_of_lent};
 ghost use Rattle.oe_engine.specs.Records.{record_of_write};
-ghost use Rattle.oe_engine.specs.Recorded.{HasRoomFor, HasWritten, HasRecorded, CantWrite};
+ghost use Rattle.oe_engine.specs.Recorded.{HasRoomFor, HasWritten, HasRecorded, CantWrite, IsNotPushed};
 
-use crate::journal::columns::lend_columns;
-use crate::journal::lending::lend;
-use crate::journal::settings::set;
-use crate::journal::unplaced::unplaced;
-use oe_change::Write;
+use crate::kinds::OneWrite;
 use oe_layout::{LinkedRecord, Previous};
 use oe_log::Segment;
 use oe_requests::Refusal;
-use oe_rows::Layout;
+use oe_rows::Key;
 use oe_store::Tables;
 use oe_undo::{CantPush, Undo};
 
@@ -32,49 +28,84 @@ use oe_undo::{CantPush, Undo};
 /// accept the insert, but its key takes a new place there and one for its link, and memory for one
 /// of them was refused. The first of these is named. Nothing has changed then, but that the key,
 /// and those that come with it, may have empty places for their links where they had none.
-pub fn write(
+#[inline(always)]
+pub fn write<W: OneWrite>(
     tables: &mut Tables,
     undo: &mut Undo,
     segment: Segment,
-    write: &Write,
+    write: &W,
 ) -> Result<(), Refusal>
     requires open { IsSome (active_at undo.old.log segment) }
-    requires alone { IsAlone undo.old.log segment (key_written write.now) }
+    requires alone { IsAlone undo.old.log segment (key_written (W.write write.now)) }
     requires linked { AreLinked tables.old undo.old.links }
-    ensures there { OnOk result (IsSome (written write.now (rows tables.old))) }
+    ensures there { OnOk result (IsSome (written (W.write write.now) (rows tables.old))) }
     ensures written { OnOk result
-        (HasRecorded write.now tables.old tables.new undo.old undo.new segment) }
-    ensures room { OnOk result (HasRoomFor write.now (rows tables.old) undo.old.log segment) }
+        (HasRecorded (W.write write.now) tables.old tables.new undo.old undo.new segment) }
+    ensures room { OnOk result (HasRoomFor (W.write write.now) (rows tables.old) undo.old.log segment) }
     ensures linked { AreLinked tables.new undo.new.links }
-    ensures cause { IfErr result (CantWrite write.now tables.old undo.old.log segment) }
+    ensures cause { IfErr result (CantWrite (W.write write.now) tables.old undo.old.log segment) }
     ensures err { OnErr result (tables.new ≡ tables.old) }
     ensures err_undo { OnErr result (undo.new.log ≡ undo.old.log) }
     ensures err_links { OnErr result (SameLinks undo.old undo.new) }
     ensures err_places { OnErr result
-        (GivesAtMost undo.old.links undo.new.links (key_written write.now)) }
+        (GivesAtMost undo.old.links undo.new.links (key_written (W.write write.now))) }
 {
-    if let Err(refusal) = push(tables, undo, segment, write) {
-        return Err(refusal);
+    if let Err(why) = push(tables, undo, segment, write) {
+        return Err(told(tables, undo, segment, write, why));
     }
-    match set(tables, write) {
+    match write.set(tables) {
         Ok(()) => Ok(()),
         Err(refusal) => {
             undo.pop(segment);
             // For the proof: the log keeps no more commits than were made.
             undo.is_chained();
-            give_up_unplaced(tables, undo, write);
+            give_up_unplaced(tables, undo, &write.key());
             Err(refusal)
         }
     }
 }
 
+/// Why the record of a write was not pushed. It is told as a refusal only where it is, since a
+/// refusal has many bytes.
+#[derive(Clone, Copy)]
+enum NotPushed {
+    /// The row to be updated is absent.
+    Absent,
+    /// The record fits neither the rest of the segment's newest extent nor a free one.
+    Full,
+    /// It fits, and memory was refused for the place of its key's link.
+    Unplaced,
+}
+
+/// Gives the refusal of a write whose record was not pushed.
+#[inline(always)]
+fn told<W: OneWrite>(
+    tables: &Tables,
+    undo: &Undo,
+    segment: Segment,
+    write: &W,
+    why: NotPushed,
+) -> Refusal
+    requires { IsNotPushed (W.write write.now) tables.now undo.now.log segment why }
+    ensures { CantWrite (W.write write.now) tables.now undo.now.log segment result }
+{
+    let _segment = segment.terminal();
+    let _log = undo.segments();
+    match why {
+        NotPushed::Absent => Refusal::NoSuchRow(write.key()),
+        NotPushed::Full => Refusal::UndoFull,
+        NotPushed::Unplaced => write.unplaced(tables),
+    }
+}
+
 /// Gives up the empty place for the link of a HISTORY key that has no place in its table.
-fn give_up_unplaced(tables: &Tables, undo: &mut Undo, write: &Write)
+#[inline(always)]
+fn give_up_unplaced(tables: &Tables, undo: &mut Undo, key: &Key)
     ensures log { undo.new.log ≡ undo.old.log }
     ensures links { StayLinked tables.now tables.now undo.old.links undo.new.links }
     ensures seen { SameLinks undo.old undo.new }
 {
-    let Write::InsertHistory(key, _) = write else {
+    let Key::History(key) = key else {
         return;
     };
     if !tables.history_has_place(key) {
@@ -86,106 +117,57 @@ fn give_up_unplaced(tables: &Tables, undo: &mut Undo, write: &Write)
 /// with its key's link; refused as `write`, where the row to be updated is absent, the record has
 /// no room, or memory was refused for the place of its key's link. Nothing has changed then.
 #[inline(always)]
-fn push(tables: &Tables, undo: &mut Undo, segment: Segment, write: &Write) -> Result<(), Refusal>
-    requires open { IsSome (active_at undo.old.log segment) }
-    requires alone { IsAlone undo.old.log segment (key_written write.now) }
-    requires linked { AreLinked tables.now undo.old.links }
-    ensures pushed { OnOk result
-        (HasWritten write.now (rows tables.now) undo.old undo.new segment) }
-    ensures room { OnOk result (HasRoomFor write.now (rows tables.now) undo.old.log segment) }
-    ensures cause { IfErr result (CantWrite write.now tables.now undo.old.log segment) }
-    ensures err { OnErr result (undo.new ≡ undo.old) }
-{
-    match undo.segments().layout() {
-        Layout::WholeRows => push_row(tables, undo, segment, write),
-        Layout::ChangedColumns => push_columns(tables, undo, segment, write),
-    }
-}
-
-/// Appends the record as `push`, where records have whole rows: its row is lent from where it lies.
-#[inline(always)]
-fn push_row(
+fn push<W: OneWrite>(
     tables: &Tables,
     undo: &mut Undo,
     segment: Segment,
-    write: &Write,
-) -> Result<(), Refusal>
-    requires layout { undo.old.log.layout ≡ Layout.WholeRows }
+    write: &W,
+) -> Result<(), NotPushed>
     requires open { IsSome (active_at undo.old.log segment) }
-    requires alone { IsAlone undo.old.log segment (key_written write.now) }
+    requires alone { IsAlone undo.old.log segment (key_written (W.write write.now)) }
     requires linked { AreLinked tables.now undo.old.links }
     ensures pushed { OnOk result
-        (HasWritten write.now (rows tables.now) undo.old undo.new segment) }
-    ensures room { OnOk result (HasRoomFor write.now (rows tables.now) undo.old.log segment) }
-    ensures cause { IfErr result (CantWrite write.now tables.now undo.old.log segment) }
+        (HasWritten (W.write write.now) (rows tables.now) undo.old undo.new segment) }
+    ensures room { OnOk result (HasRoomFor (W.write write.now) (rows tables.now) undo.old.log segment) }
+    ensures cause { IfErr result (IsNotPushed (W.write write.now) tables.now undo.old.log segment) }
     ensures err { OnErr result (undo.new ≡ undo.old) }
 {
-    match lend(tables, write) {
-        Ok(before) => {
+    match write.lend(tables, undo.segments().layout()) {
+        Some(before) => {
             let mut lent = LinkedRecord {
                 previous: Previous::Nothing,
                 record: before,
             };
             push_lent(tables, undo, segment, write, &mut lent)
         }
-        Err(refusal) => Err(refusal),
-    }
-}
-
-/// Appends the record as `push`, where records have the columns that an update changes.
-#[inline(never)]
-fn push_columns(
-    tables: &Tables,
-    undo: &mut Undo,
-    segment: Segment,
-    write: &Write,
-) -> Result<(), Refusal>
-    requires layout { undo.old.log.layout ≡ Layout.ChangedColumns }
-    requires open { IsSome (active_at undo.old.log segment) }
-    requires alone { IsAlone undo.old.log segment (key_written write.now) }
-    requires linked { AreLinked tables.now undo.old.links }
-    ensures pushed { OnOk result
-        (HasWritten write.now (rows tables.now) undo.old undo.new segment) }
-    ensures room { OnOk result (HasRoomFor write.now (rows tables.now) undo.old.log segment) }
-    ensures cause { IfErr result (CantWrite write.now tables.now undo.old.log segment) }
-    ensures err { OnErr result (undo.new ≡ undo.old) }
-{
-    match lend_columns(tables, write) {
-        Ok(before) => {
-            let mut lent = LinkedRecord {
-                previous: Previous::Nothing,
-                record: before,
-            };
-            push_lent(tables, undo, segment, write, &mut lent)
-        }
-        Err(refusal) => Err(refusal),
+        None => Err(NotPushed::Absent),
     }
 }
 
 /// Appends the record of a write, which is lent, to an open segment, with its key's link; refused as
 /// `push`.
 #[inline(always)]
-fn push_lent(
+fn push_lent<W: OneWrite>(
     tables: &Tables,
     undo: &mut Undo,
     segment: Segment,
-    write: &Write,
+    write: &W,
     lent: &mut LinkedRecord<'_>,
-) -> Result<(), Refusal>
-    requires own { record_of_write undo.old.log.layout write.now (rows tables.now)
+) -> Result<(), NotPushed>
+    requires own { record_of_write undo.old.log.layout (W.write write.now) (rows tables.now)
         ≡ Some (record_of_lent lent.old.record) }
     requires open { IsSome (active_at undo.old.log segment) }
-    requires alone { IsAlone undo.old.log segment (key_written write.now) }
+    requires alone { IsAlone undo.old.log segment (key_written (W.write write.now)) }
     requires linked { AreLinked tables.now undo.old.links }
     ensures pushed { OnOk result
-        (HasWritten write.now (rows tables.now) undo.old undo.new segment) }
-    ensures room { OnOk result (HasRoomFor write.now (rows tables.now) undo.old.log segment) }
-    ensures cause { IfErr result (CantWrite write.now tables.now undo.old.log segment) }
+        (HasWritten (W.write write.now) (rows tables.now) undo.old undo.new segment) }
+    ensures room { OnOk result (HasRoomFor (W.write write.now) (rows tables.now) undo.old.log segment) }
+    ensures cause { IfErr result (IsNotPushed (W.write write.now) tables.now undo.old.log segment) }
     ensures err { OnErr result (undo.new ≡ undo.old) }
 {
     match undo.push(segment, lent) {
         Ok(()) => Ok(()),
-        Err(CantPush::Full) => Err(Refusal::UndoFull),
-        Err(CantPush::NoMemory) => Err(unplaced(tables, write)),
+        Err(CantPush::Full) => Err(NotPushed::Full),
+        Err(CantPush::NoMemory) => Err(NotPushed::Unplaced),
     }
 }

@@ -4,8 +4,9 @@ use Rattle.oe_engine.proofs.StageFacts.{does_change}
 use Rattle.oe_engine.proofs.stages.put.Goals as goal
 
 pub returns-clause-does : goal.returns-clause-does
-returns-clause-does c = λ d e.
-    does_change c.args.engine.now c.change.new.self c.args.tx.now (ask_of_write c.args.write.now) d c.change.result
+returns-clause-does g c = λ d e.
+    does_change c.args.engine.now c.change.new.self c.args.tx.now
+    (ask_of_write (g.W.OneWrite.write c.args.write.now)) d c.change.result
     c.change.ensures.open c.change.ensures.free (c.change.ensures.accepted d e) (c.change.ensures.fits d e)
     (c.change.ensures.done d e) c.change.ensures.name (c.change.ensures.cause d e)
     (λ u told. (

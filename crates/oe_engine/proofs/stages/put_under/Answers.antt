@@ -6,7 +6,7 @@ use Rattle.oe_engine.proofs.StageFacts.{does_change}
 use Rattle.oe_engine.proofs.stages.put_under.Goals as goal
 
 pub returns-clause-does : goal.returns-clause-does
-returns-clause-does c = λ d e.
+returns-clause-does g c = λ d e.
     does_change c.args.engine.now c.change_under.new.self c.args.tx.now
     (Take c.args.lock.now.name (mode_of c.args.lock.now.mode)) d c.change_under.result
     c.change_under.ensures.open c.change_under.ensures.free (c.change_under.ensures.accepted d e)

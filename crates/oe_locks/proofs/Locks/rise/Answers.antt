@@ -1,4 +1,4 @@
-use Rattle.std.proofs.Common.{◌≡◌, ◌==◌, Bool, true, false, Some, refl, sym, ap, ◌∙◌, if◌then◌else◌, eq-eqb}
+use Rattle.std.proofs.Common.{◌≡◌, ◌==◌, true, false, Some, refl, sym, ap, ◌∙◌, if◌then◌else◌, eq-eqb}
 use Rattle.std.proofs.lemmas.Bool.{cond-true}
 use Rattle.oe_rows.specs.declared.locks.Name.{Name}
 use Rattle.oe_locks.specs.Held.{held, is_name, risen}

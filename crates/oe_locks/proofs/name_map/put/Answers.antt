@@ -7,8 +7,8 @@ use Rattle.oe_locks.proofs.MapFacts.{changes_set, none_next, none_all}
 use Rattle.oe_locks.proofs.OnceFacts.{once-set}
 use Rattle.oe_locks.proofs.name_map.put.Goals as goal
 
-pub returns-then-eq-clause-put : goal.returns-then-eq-clause-put
-returns-then-eq-clause-put c t q =
+pub returns-then-is_one-clause-put : goal.returns-then-is_one-clause-put
+returns-then-is_one-clause-put c t q =
     let within : c.loop-i.i < length c.loop-i.entries.items =
     omega (
       arith,
@@ -19,14 +19,14 @@ returns-then-eq-clause-put c t q =
           c.loop-i.invariant.same,
     ) in
     let this : ghosts.eq c.args.name.now c.index.result.now.0 ≡ true =
-    search (rules, c.if-eq.ensures, c.eq.ensures, c.if-eq.true) in
+    search (rules, c.if-is_one.ensures, c.is_one.ensures, c.if-is_one.true) in
     changes_set c.args.name.now c.loop-i.entries.items c.loop-i.i c.index.result.now c.args.after.now within
     c.index.ensures this c.loop-i.invariant.passed q
     ∙ ap (λ es. cond (ghosts.eq c.args.name.now q) (Some c.args.after.now) (lookup (ghosts.eq q) es))
     c.loop-i.invariant.same
 
-pub returns-then-eq-clause-once : goal.returns-then-eq-clause-once
-returns-then-eq-clause-once c o =
+pub returns-then-is_one-clause-once : goal.returns-then-is_one-clause-once
+returns-then-is_one-clause-once c o =
     let within : c.loop-i.i < length c.loop-i.entries.items =
     omega (
       arith,
@@ -37,7 +37,7 @@ returns-then-eq-clause-once c o =
           c.loop-i.invariant.same,
     ) in
     let this : ghosts.eq c.args.name.now c.index.result.now.0 ≡ true =
-    search (rules, c.if-eq.ensures, c.eq.ensures, c.if-eq.true) in
+    search (rules, c.if-is_one.ensures, c.is_one.ensures, c.if-is_one.true) in
     once-set c.args.name.now c.loop-i.entries.items c.loop-i.i c.index.result.now c.args.after.now within
     c.index.ensures this (subst AreOnce (sym c.loop-i.invariant.same) o)
 
@@ -53,7 +53,7 @@ loop-i-preserved c =
           c.loop-i.invariant.same,
     ) in
     let other : ghosts.eq c.args.name.now c.index.result.now.0 ≡ false =
-    search (rules, c.if-eq.ensures, c.eq.ensures, c.if-eq.false) in
+    search (rules, c.if-is_one.ensures, c.is_one.ensures, c.if-is_one.false) in
     record {
       passed =
           subst (λ (k : ℕ). lookup (ghosts.eq c.args.name.now) (take k c.loop-i.entries.items) ≡ None)

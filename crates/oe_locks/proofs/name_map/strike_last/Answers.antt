@@ -24,7 +24,8 @@ within c = omega (arith, c.if-count-eq0.false, c.len-count.ensures, c.args.entri
 
 this : (c : After-pop) → ghosts.eq c.args.name.now c.index-2.result.now.0 ≡ true
 this c =
-    let first : ghosts.eq c.args.name.now c.index.result.now.0 ≡ true = search (rules, c.if-ne.false, c.ne.ensures) in
+    let first : ghosts.eq c.args.name.now c.index.result.now.0 ≡ true =
+    search (rules, c.if-not-is_one.false, c.is_one.ensures) in
     ap (λ (x : Name × Holders). ghosts.eq c.args.name.now x.0)
     (same_entry c.args.entries.now.items (at c) c.index-2.result.now c.index.result.now (within c) c.index-2.ensures
     c.index.ensures) ∙ first

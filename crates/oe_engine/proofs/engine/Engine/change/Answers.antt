@@ -12,27 +12,30 @@ use Rattle.oe_engine.proofs.engine.Engine.change.Goals as goal
 
 -- with the write's lock a transaction may make it
 pub take_and_put-requires-clause-covered : goal.take_and_put-requires-clause-covered
-take_and_put-requires-clause-covered c =
+take_and_put-requires-clause-covered g c =
     let v = view_of c.args.self.now in
     let open_here = c.is_open.ensures.0 c.if-not-is_open.false in
     subst (λ t. MayWrite v.rows (held_after system (Take c.in-Some.lock.name (mode_of c.in-Some.lock.mode)) (v.held t))
-    t (suc (v.counts t)) c.args.write.now) (sym c.terminal-terminal.ensures)
+    t (suc (v.counts t)) (g.W.OneWrite.write c.args.write.now)) (sym c.terminal-terminal.ensures)
     (subst (λ a. MayWrite v.rows (held_after system a (v.held c.args.tx.now.terminal)) c.args.tx.now.terminal
-    (suc (v.counts c.args.tx.now.terminal)) c.args.write.now) (sym c.in-Some.ensures)
-    (may_write v c.args.tx.now.terminal c.args.write.now (c.requires.own open_here) (c.requires.beside open_here)))
+    (suc (v.counts c.args.tx.now.terminal)) (g.W.OneWrite.write c.args.write.now)) (sym c.in-Some.ensures)
+    (may_write v c.args.tx.now.terminal (g.W.OneWrite.write c.args.write.now) (c.requires.own open_here)
+    (c.requires.beside open_here)))
 
 -- and where it asks for none
 pub put-requires-clause-covered : goal.put-requires-clause-covered
-put-requires-clause-covered c =
+put-requires-clause-covered g c =
     let v = view_of c.args.self.now in
     let open_here = c.is_open.ensures.0 c.if-not-is_open.false in
-    subst (λ t. MayWrite v.rows (v.held t) t (suc (v.counts t)) c.args.write.now) (sym c.terminal-terminal.ensures)
+    subst (λ t. MayWrite v.rows (v.held t) t (suc (v.counts t)) (g.W.OneWrite.write c.args.write.now)) (sym
+    c.terminal-terminal.ensures)
     (subst (λ a. MayWrite v.rows (held_after system a (v.held c.args.tx.now.terminal)) c.args.tx.now.terminal
-    (suc (v.counts c.args.tx.now.terminal)) c.args.write.now) (sym c.in-None.ensures)
-    (may_write v c.args.tx.now.terminal c.args.write.now (c.requires.own open_here) (c.requires.beside open_here)))
+    (suc (v.counts c.args.tx.now.terminal)) (g.W.OneWrite.write c.args.write.now)) (sym c.in-None.ensures)
+    (may_write v c.args.tx.now.terminal (g.W.OneWrite.write c.args.write.now) (c.requires.own open_here)
+    (c.requires.beside open_here)))
 
 pub returns-in-None-clause-done : goal.returns-in-None-clause-done
-returns-in-None-clause-done c = λ d found.
+returns-in-None-clause-done g c = λ d found.
     on_ok c.put.result
     (λ done.
     done

@@ -13,16 +13,16 @@ use Rattle.oe_engine.proofs.WriteFacts.{may_after}
 use Rattle.oe_engine.proofs.engine.Engine.take_and_put.Goals as goal
 
 pub put-requires-clause-covered : goal.put-requires-clause-covered
-put-requires-clause-covered c =
+put-requires-clause-covered g c =
     subst (λ (v : View). MayWrite v.rows (v.held c.args.terminal) c.args.terminal (suc (v.counts c.args.terminal))
-    c.args.write.now) (sym c.in-Ok.ensures.locked)
-    (may_after c.args.terminal c.args.lock.now.name (mode_of c.args.lock.now.mode) c.args.write.now
+    (g.W.OneWrite.write c.args.write.now)) (sym c.in-Ok.ensures.locked)
+    (may_after c.args.terminal c.args.lock.now.name (mode_of c.args.lock.now.mode) (g.W.OneWrite.write c.args.write.now)
     (view_of c.args.self.now) c.requires.covered)
 
 -- where the name was not held alone before, nothing was changed under it
 pub restore-requires-clause-unused : goal.restore-requires-clause-unused
 unfolding view_of view_from
-restore-requires-clause-unused c = λ h.
+restore-requires-clause-unused g c = λ h.
     let v = view_of c.args.self.now in
     let safe : IsSafe v = c.is_safe.ensures.safe in
     let before : option_map mode_of c.in-Ok.before ≡ v.held c.args.terminal c.args.lock.now.name =
@@ -38,7 +38,7 @@ restore-requires-clause-unused c = λ h.
 
 pub restore-requires-clause-below : goal.restore-requires-clause-below
 unfolding view_of view_from
-restore-requires-clause-below c =
+restore-requires-clause-below g c =
     let before : option_map mode_of c.in-Ok.before ≡ (view_of c.args.self.now).held c.args.terminal
     c.args.lock.now.name = c.in-Ok.ensures.before in
     let now : view_of c.put.new.self ≡ locked c.args.terminal c.args.lock.now.name (mode_of c.args.lock.now.mode)
@@ -53,7 +53,7 @@ restore-requires-clause-below c =
 
 pub returns-in-Err-put-clause-err : goal.returns-in-Err-put-clause-err
 unfolding view_of view_from
-returns-in-Err-put-clause-err c =
+returns-in-Err-put-clause-err g c =
     let before : option_map mode_of c.in-Ok.before ≡ (view_of c.args.self.now).held c.args.terminal
     c.args.lock.now.name = c.in-Ok.ensures.before in
     let now : view_of c.put.new.self ≡ locked c.args.terminal c.args.lock.now.name (mode_of c.args.lock.now.mode)
@@ -66,13 +66,14 @@ returns-in-Err-put-clause-err c =
 
 pub returns-in-Err-put-clause-full : goal.returns-in-Err-put-clause-full
 unfolding view_of view_from
-returns-in-Err-put-clause-full c = λ d found same.
+returns-in-Err-put-clause-full g c = λ d found same.
     let here = c.in-Err-put.ensures.full d
-    (subst (λ ts. written c.args.write.now (rows ts) ≡ Some d) (sym c.in-Ok.ensures.tables) found) same in
+    (subst (λ ts. written (g.W.OneWrite.write c.args.write.now) (rows ts) ≡ Some d) (sym c.in-Ok.ensures.tables)
+    found) same in
     subst (λ (v : View). IsFullFor v c.args.terminal d) c.in-Ok.ensures.locked here
 
 pub returns-in-Err-put-clause-wants : goal.returns-in-Err-put-clause-wants
 unfolding view_of view_from
-returns-in-Err-put-clause-wants c = λ held same.
-    subst (λ ts. WantsRow (written c.args.write.now (rows ts)) ts) c.in-Ok.ensures.tables
+returns-in-Err-put-clause-wants g c = λ held same.
+    subst (λ ts. WantsRow (written (g.W.OneWrite.write c.args.write.now) (rows ts)) ts) c.in-Ok.ensures.tables
     (c.in-Err-put.ensures.wants same)

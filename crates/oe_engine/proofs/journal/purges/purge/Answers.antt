@@ -1,6 +1,6 @@
 use Rattle.std.proofs.Common.{◌≡◌, ◌-◌, ◌∙◌, ap, subst, arith, length, drop}
 use Rattle.oe_log.specs.Stands.{undo_of}
-use Rattle.oe_log.specs.Log.{SegmentLog, with_newest}
+use Rattle.oe_log.specs.Log.{SegmentLog, with_newest, total_count}
 use Rattle.oe_engine.specs.GivesUp.{GivesUpDeleted}
 use Rattle.oe_log.specs.Moments.{store_with, newest}
 use Rattle.oe_engine.proofs.PurgeFacts.{purged_is}
@@ -14,6 +14,24 @@ left c =
     let last = ap newest c.segments.ensures in
     let kept = ap (λ (v : SegmentLog). length v.committed) c.segments-in-Ok.ensures in
     omega (arith, all, last, kept, c.kept.ensures, c.in-Ok.ensures.count, c.in-Ok.ensures.within)
+
+pub forget_names-requires-clause-moment : goal.forget_names-requires-clause-moment
+forget_names-requires-clause-moment c =
+    let all = ap (λ (v : SegmentLog). length v.committed) c.segments.ensures in
+    let last = ap newest c.segments.ensures in
+    let total = ap total_count c.segments-in-Ok-2.ensures in
+    let sum = ap newest c.segments-in-Ok-2.ensures in
+    omega (
+      arith,
+      all,
+      last,
+      total,
+      sum,
+      c.newest-newest.ensures.value,
+      c.newest-newest.ensures.moment,
+      c.in-Ok.ensures.count,
+      c.in-Ok.ensures.within,
+    )
 
 pub returns-in-Ok-clause-purged : goal.returns-in-Ok-clause-purged
 returns-in-Ok-clause-purged c =

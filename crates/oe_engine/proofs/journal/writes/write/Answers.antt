@@ -10,51 +10,59 @@ use Rattle.oe_engine.proofs.RecordedFacts.{record_written, made_recorded, made_l
 use Rattle.oe_engine.proofs.journal.writes.write.Goals as goal
 
 pub pop-requires : goal.pop-requires
-pop-requires c =
-    pushed_open (record_of_write c.args.undo.now.log.layout c.args.write.now (rows c.args.tables.now))
+pop-requires g c =
+    pushed_open (record_of_write c.args.undo.now.log.layout (g.W.OneWrite.write c.args.write.now) (rows
+    c.args.tables.now))
     c.args.undo.now c.push.new.undo c.args.segment c.requires.open c.in_default.ensures.pushed
 
 pub returns-in-Ok-clause-written : goal.returns-in-Ok-clause-written
-returns-in-Ok-clause-written c =
-    made_recorded c.args.write.now c.args.tables.now c.set.new.tables c.args.undo.now c.push.new.undo c.args.segment
+returns-in-Ok-clause-written g c =
+    made_recorded (g.W.OneWrite.write c.args.write.now) c.args.tables.now c.set.new.tables c.args.undo.now
+    c.push.new.undo c.args.segment
     c.requires.open c.in_default.ensures.pushed c.in-Ok.ensures.made
 
 pub returns-in-Ok-clause-linked : goal.returns-in-Ok-clause-linked
-returns-in-Ok-clause-linked c =
-    made_linked c.args.write.now c.args.tables.now c.set.new.tables c.args.undo.now c.push.new.undo c.args.segment
+returns-in-Ok-clause-linked g c =
+    made_linked (g.W.OneWrite.write c.args.write.now) c.args.tables.now c.set.new.tables c.args.undo.now
+    c.push.new.undo c.args.segment
     c.requires.open c.in_default.ensures.pushed c.in-Ok.ensures.made
     c.requires.linked
 
 pub returns-in-Err-set-clause-cause : goal.returns-in-Err-set-clause-cause
-returns-in-Err-set-clause-cause c =
+returns-in-Err-set-clause-cause g c =
     Refused c.in-Err-set.refusal c.in_default.ensures.room c.in-Err-set.ensures.refused
 
 pub returns-in-Err-set-clause-linked : goal.returns-in-Err-set-clause-linked
-returns-in-Err-set-clause-linked c =
+returns-in-Err-set-clause-linked g c =
     c.give_up_unplaced.ensures.links.linked
     (subst (λ ts. AreLinked ts c.pop.new.self.links) (sym c.in-Err-set.ensures.unchanged)
-    (unpushed_linked (record_of_write c.args.undo.now.log.layout c.args.write.now (rows c.args.tables.now))
+    (unpushed_linked (record_of_write c.args.undo.now.log.layout (g.W.OneWrite.write c.args.write.now) (rows
+    c.args.tables.now))
     c.args.undo.now c.push.new.undo c.args.segment c.requires.open c.in_default.ensures.pushed
     c.args.tables.now c.pop.new.self c.pop.ensures.links c.requires.linked))
 
 pub returns-in-Err-set-clause-err_undo : goal.returns-in-Err-set-clause-err_undo
-returns-in-Err-set-clause-err_undo c =
+returns-in-Err-set-clause-err_undo g c =
     c.give_up_unplaced.ensures.log
-    ∙ unpushed (record_of_write c.args.undo.now.log.layout c.args.write.now (rows c.args.tables.now))
+    ∙ unpushed (record_of_write c.args.undo.now.log.layout (g.W.OneWrite.write c.args.write.now) (rows
+    c.args.tables.now))
     c.args.undo.now c.push.new.undo c.args.segment c.requires.open c.in_default.ensures.pushed
     c.pop.new.self.log c.pop.ensures.log
 
 pub returns-in-Err-set-clause-err_links : goal.returns-in-Err-set-clause-err_links
-returns-in-Err-set-clause-err_links c k =
+returns-in-Err-set-clause-err_links g c k =
     c.give_up_unplaced.ensures.seen k
-    ∙ links_given_back (record_of_write c.args.undo.now.log.layout c.args.write.now (rows c.args.tables.now))
+    ∙ links_given_back (record_of_write c.args.undo.now.log.layout (g.W.OneWrite.write c.args.write.now) (rows
+    c.args.tables.now))
     c.args.undo.now c.push.new.undo c.args.segment c.requires.open c.in_default.ensures.pushed
     c.pop.new.self c.is_chained.ensures.whole c.pop.ensures.log c.pop.ensures.links k
 
 pub returns-in-Err-set-clause-err_places : goal.returns-in-Err-set-clause-err_places
-returns-in-Err-set-clause-err_places c k h =
-    unpushed_places (record_of_write c.args.undo.now.log.layout c.args.write.now (rows c.args.tables.now))
+returns-in-Err-set-clause-err_places g c k h =
+    unpushed_places (record_of_write c.args.undo.now.log.layout (g.W.OneWrite.write c.args.write.now) (rows
+    c.args.tables.now))
     c.args.undo.now c.push.new.undo c.args.segment c.requires.open c.in_default.ensures.pushed
-    (key_written c.args.write.now)
-    (record_written c.args.undo.now.log.layout c.args.write.now (rows c.args.tables.now)) c.pop.new.self
+    (key_written (g.W.OneWrite.write c.args.write.now))
+    (record_written c.args.undo.now.log.layout (g.W.OneWrite.write c.args.write.now) (rows c.args.tables.now))
+    c.pop.new.self
     c.pop.ensures.links k (c.give_up_unplaced.ensures.links.fewer k h)

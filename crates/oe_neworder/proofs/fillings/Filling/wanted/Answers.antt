@@ -1,6 +1,5 @@
 use Rattle.std.proofs.Common.{sym, ap, ◌∙◌}
-use Rattle.oe_rows.specs.declared.locks.Name.TheVariants as name
-use Rattle.oe_model.specs.NewOrder.{item_at, new_order_ask, stock_of}
+use Rattle.oe_model.specs.NewOrder.{new_order_ask}
 use Rattle.oe_store.specs.Places.{rows}
 use Rattle.oe_engine.specs.Programs.{wanted}
 use Rattle.oe_neworder.proofs.LineFacts.{end_at, stock_at, stock_wanted}

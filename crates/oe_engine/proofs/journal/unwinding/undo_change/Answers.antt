@@ -1,6 +1,6 @@
 use Rattle.oe_layout.specs.Records.{record_of_own}
 use Rattle.oe_engine.proofs.LinkedFacts.{gone_stay}
-use Rattle.oe_engine.proofs.journal.unwinding.put_back.Goals as goal
+use Rattle.oe_engine.proofs.journal.unwinding.undo_change.Goals as goal
 
 pub returns-clause-links : goal.returns-clause-links
 returns-clause-links c =

@@ -1,0 +1,223 @@
+//! Rows that are inserted, and the one that is deleted.
+ghost use Rattle.oe_rows.specs.declared.layouts.Layout.{Layout};
+ghost use Rattle.oe_change.specs.declared.writes.Write.TheVariants as writes;
+ghost use Rattle.oe_engine.specs.Renames.{is_rename};
+
+use crate::access::exclusive;
+use crate::journal::inserts::{
+    delete_new_order, insert_history, insert_new_order, insert_order, insert_order_line,
+};
+use crate::journal::unplaced::{
+    unplaced_history, unplaced_new_order, unplaced_order, unplaced_order_line,
+};
+use crate::kinds::OneWrite;
+use crate::programs::Lock;
+use oe_layout::LentRecord;
+use oe_requests::Refusal;
+use oe_rows::{
+    History, HistoryKey, Key, Layout, Name, NewOrderKey, Order, OrderKey, OrderLine, OrderLineKey,
+};
+use oe_store::Tables;
+
+/// A HISTORY row that is inserted, under no lock: it is the transaction's own.
+#[derive(Drop)]
+pub struct InsertHistory {
+    pub history: HistoryKey,
+    pub row: History,
+}
+
+impl OneWrite for InsertHistory {
+    ghost write = { λ w. writes.InsertHistory w.history w.row };
+
+    #[inline(always)]
+    fn key(&self) -> Key {
+        Key::History(self.history)
+    }
+
+    #[inline(always)]
+    fn lock(&self) -> Option<Lock> {
+        None
+    }
+
+    #[inline(always)]
+    fn is_rename(&self) -> bool {
+        false
+    }
+
+    #[inline(always)]
+    fn lend<'a>(&'a self, _tables: &'a Tables, _layout: Layout) -> Option<LentRecord<'a>> {
+        Some(LentRecord::InsertedHistory(self.history))
+    }
+
+    #[inline(always)]
+    fn set(&self, tables: &mut Tables) -> Result<(), Refusal> {
+        insert_history(tables, &self.history, &self.row)
+    }
+
+    #[inline(always)]
+    fn unplaced(&self, tables: &Tables) -> Refusal {
+        unplaced_history(tables, &self.history, &self.row)
+    }
+}
+
+/// A NEW-ORDER row that is inserted.
+#[derive(Drop)]
+pub struct InsertNewOrder {
+    pub order: NewOrderKey,
+}
+
+impl OneWrite for InsertNewOrder {
+    ghost write = { λ w. writes.InsertNewOrder w.order };
+
+    #[inline(always)]
+    fn key(&self) -> Key {
+        Key::NewOrder(self.order)
+    }
+
+    #[inline(always)]
+    fn lock(&self) -> Option<Lock> {
+        exclusive(Name::Queue(self.order.order_key().district_key()))
+    }
+
+    #[inline(always)]
+    fn is_rename(&self) -> bool {
+        false
+    }
+
+    #[inline(always)]
+    fn lend<'a>(&'a self, _tables: &'a Tables, _layout: Layout) -> Option<LentRecord<'a>> {
+        Some(LentRecord::InsertedNewOrder(self.order))
+    }
+
+    #[inline(always)]
+    fn set(&self, tables: &mut Tables) -> Result<(), Refusal> {
+        insert_new_order(tables, &self.order)
+    }
+
+    #[inline(always)]
+    fn unplaced(&self, tables: &Tables) -> Refusal {
+        unplaced_new_order(tables, &self.order)
+    }
+}
+
+/// An ORDER row that is inserted.
+#[derive(Drop)]
+pub struct InsertOrder {
+    pub order: OrderKey,
+    pub row: Order,
+}
+
+impl OneWrite for InsertOrder {
+    ghost write = { λ w. writes.InsertOrder w.order w.row };
+
+    #[inline(always)]
+    fn key(&self) -> Key {
+        Key::Order(self.order)
+    }
+
+    #[inline(always)]
+    fn lock(&self) -> Option<Lock> {
+        exclusive(Name::Order(self.order))
+    }
+
+    #[inline(always)]
+    fn is_rename(&self) -> bool {
+        false
+    }
+
+    #[inline(always)]
+    fn lend<'a>(&'a self, _tables: &'a Tables, _layout: Layout) -> Option<LentRecord<'a>> {
+        Some(LentRecord::InsertedOrder(self.order))
+    }
+
+    #[inline(always)]
+    fn set(&self, tables: &mut Tables) -> Result<(), Refusal> {
+        insert_order(tables, &self.order, &self.row)
+    }
+
+    #[inline(always)]
+    fn unplaced(&self, tables: &Tables) -> Refusal {
+        unplaced_order(tables, &self.order, &self.row)
+    }
+}
+
+/// An ORDER-LINE row that is inserted.
+#[derive(Drop)]
+pub struct InsertOrderLine {
+    pub line: OrderLineKey,
+    pub row: OrderLine,
+}
+
+impl OneWrite for InsertOrderLine {
+    ghost write = { λ w. writes.InsertOrderLine w.line w.row };
+
+    #[inline(always)]
+    fn key(&self) -> Key {
+        Key::OrderLine(self.line)
+    }
+
+    #[inline(always)]
+    fn lock(&self) -> Option<Lock> {
+        exclusive(Name::Order(self.line.order_key()))
+    }
+
+    #[inline(always)]
+    fn is_rename(&self) -> bool {
+        false
+    }
+
+    #[inline(always)]
+    fn lend<'a>(&'a self, _tables: &'a Tables, _layout: Layout) -> Option<LentRecord<'a>> {
+        Some(LentRecord::InsertedOrderLine(self.line))
+    }
+
+    #[inline(always)]
+    fn set(&self, tables: &mut Tables) -> Result<(), Refusal> {
+        insert_order_line(tables, &self.line, &self.row)
+    }
+
+    #[inline(always)]
+    fn unplaced(&self, tables: &Tables) -> Refusal {
+        unplaced_order_line(tables, &self.line, &self.row)
+    }
+}
+
+/// A NEW-ORDER row that is deleted.
+#[derive(Drop)]
+pub struct DeleteNewOrder {
+    pub order: NewOrderKey,
+}
+
+impl OneWrite for DeleteNewOrder {
+    ghost write = { λ w. writes.DeleteNewOrder w.order };
+
+    #[inline(always)]
+    fn key(&self) -> Key {
+        Key::NewOrder(self.order)
+    }
+
+    #[inline(always)]
+    fn lock(&self) -> Option<Lock> {
+        exclusive(Name::Queue(self.order.order_key().district_key()))
+    }
+
+    #[inline(always)]
+    fn is_rename(&self) -> bool {
+        false
+    }
+
+    #[inline(always)]
+    fn lend<'a>(&'a self, _tables: &'a Tables, _layout: Layout) -> Option<LentRecord<'a>> {
+        Some(LentRecord::DeletedNewOrder(self.order))
+    }
+
+    #[inline(always)]
+    fn set(&self, tables: &mut Tables) -> Result<(), Refusal> {
+        delete_new_order(tables, &self.order)
+    }
+
+    #[inline(always)]
+    fn unplaced(&self, _tables: &Tables) -> Refusal {
+        Refusal::NoSuchRow(Key::NewOrder(self.order))
+    }
+}
