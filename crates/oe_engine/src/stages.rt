@@ -50,7 +50,8 @@ pub fn put<W: OneWrite>(engine: &mut Engine, tx: &Tx, write: &W) -> Result<(), R
     requires beside { IsOpen engine.old tx.now
         → HoldsBeside (view_of engine.old).rows ((view_of engine.old).held tx.now.terminal)
         (W.write write.now) }
-    ensures does { (c : model.Change) → change_written (W.write write.now) (view_of engine.old) ≡ Some c
+    ensures does { (c : model.Change)
+        → change_written (W.write write.now) (view_of engine.old) ≡ Some c
         → Does engine.old tx.now (ask_of_write (W.write write.now)) (Some c) result engine.new }
     ensures there { OnOk result
         (IsSome (change_written (W.write write.now) (view_of engine.old))) }
@@ -67,11 +68,13 @@ pub fn put<W: OneWrite>(engine: &mut Engine, tx: &Tx, write: &W) -> Result<(), R
 pub fn put_held<W: OneWrite>(engine: &mut Engine, tx: &Tx, write: &W) -> Result<(), Refusal>
     requires held { IsOpen engine.old tx.now
         → Owns ((view_of engine.old).held tx.now.terminal) tx.now.terminal
-        (suc ((view_of engine.old).counts tx.now.terminal)) (governs (key_written (W.write write.now))) }
+        (suc ((view_of engine.old).counts tx.now.terminal))
+        (governs (key_written (W.write write.now))) }
     requires beside { IsOpen engine.old tx.now
         → HoldsBeside (view_of engine.old).rows ((view_of engine.old).held tx.now.terminal)
         (W.write write.now) }
-    ensures does { (c : model.Change) → change_written (W.write write.now) (view_of engine.old) ≡ Some c
+    ensures does { (c : model.Change)
+        → change_written (W.write write.now) (view_of engine.old) ≡ Some c
         → Does engine.old tx.now Plain (Some c) result engine.new }
     ensures there { OnOk result
         (IsSome (change_written (W.write write.now) (view_of engine.old))) }
@@ -95,7 +98,8 @@ pub fn put_under<W: OneWrite>(
         (held_after system (Take lock.now.name (mode_of lock.now.mode))
         ((view_of engine.old).held tx.now.terminal)) tx.now.terminal
         (suc ((view_of engine.old).counts tx.now.terminal)) (W.write write.now) }
-    ensures does { (c : model.Change) → change_written (W.write write.now) (view_of engine.old) ≡ Some c
+    ensures does { (c : model.Change)
+        → change_written (W.write write.now) (view_of engine.old) ≡ Some c
         → Does engine.old tx.now (Take lock.now.name (mode_of lock.now.mode)) (Some c)
         result engine.new }
     ensures there { OnOk result

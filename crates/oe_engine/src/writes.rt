@@ -28,7 +28,8 @@ impl Engine {
         requires covered { MayWrite (view_of self.old).rows ((view_of self.old).held terminal)
             terminal
             (suc ((view_of self.old).counts terminal)) (W.write write.now) }
-        ensures there { OnOk result (IsSome (change_written (W.write write.now) (view_of self.old))) }
+        ensures there { OnOk result
+            (IsSome (change_written (W.write write.now) (view_of self.old))) }
         ensures accepted { ForSome (change_written (W.write write.now) (view_of self.old))
             (λ c. OnOk result (Accepts c (view_of self.old).rows)) }
         ensures made { ForSome (change_written (W.write write.now) (view_of self.old))
@@ -68,7 +69,8 @@ impl Engine {
             (suc ((view_of self.old).counts terminal)) (W.write write.now) }
         ensures free { OnOk result
             (IsFree (view_of self.old) terminal (Take lock.now.name (mode_of lock.now.mode))) }
-        ensures there { OnOk result (IsSome (change_written (W.write write.now) (view_of self.old))) }
+        ensures there { OnOk result
+            (IsSome (change_written (W.write write.now) (view_of self.old))) }
         ensures accepted { ForSome (change_written (W.write write.now) (view_of self.old))
             (λ c. OnOk result (Accepts c (view_of self.old).rows)) }
         ensures done { ForSome (change_written (W.write write.now) (view_of self.old))
@@ -131,19 +133,23 @@ impl Engine {
         ensures open { OnOk result (IsOpen self.old tx.now) }
         ensures free { OnOk result
             (IsFree (view_of self.old) tx.now.terminal (ask_of_write (W.write write.now))) }
-        ensures there { OnOk result (IsSome (change_written (W.write write.now) (view_of self.old))) }
+        ensures there { OnOk result
+            (IsSome (change_written (W.write write.now) (view_of self.old))) }
         ensures accepted { ForSome (change_written (W.write write.now) (view_of self.old))
             (λ c. OnOk result (Accepts c (view_of self.old).rows)) }
         ensures done { ForSome (change_written (W.write write.now) (view_of self.old))
             (λ c. OnOk result
             (view_of self.new
-            ≡ stage_done tx.now.terminal (ask_of_write (W.write write.now)) (Some c) (view_of self.old))) }
+            ≡ stage_done tx.now.terminal (ask_of_write (W.write write.now)) (Some c)
+            (view_of self.old))) }
         ensures name { self.new.name ≡ self.old.name }
         ensures cause { ForSome (change_written (W.write write.now) (view_of self.old))
-            (λ c. IfErr result (StageRefused self.old tx.now (ask_of_write (W.write write.now)) (Some c))) }
+            (λ c. IfErr result
+            (StageRefused self.old tx.now (ask_of_write (W.write write.now)) (Some c))) }
         ensures absent { change_written (W.write write.now) (view_of self.old) ≡ None
             → IfErr result
-            (AbsentRowRefused self.old tx.now (ask_of_write (W.write write.now)) (key_written (W.write write.now))) }
+            (AbsentRowRefused self.old tx.now (ask_of_write (W.write write.now))
+            (key_written (W.write write.now))) }
         ensures full { ForSome (change_written (W.write write.now) (view_of self.old))
             (λ c. IfErr result
             (λ e. e ≡ Refusal.UndoFull → IsFullFor (view_of self.old) tx.now.terminal c)) }
@@ -184,7 +190,8 @@ impl Engine {
         ensures free { OnOk result
             (IsFree (view_of self.old) tx.now.terminal
             (Take lock.now.name (mode_of lock.now.mode))) }
-        ensures there { OnOk result (IsSome (change_written (W.write write.now) (view_of self.old))) }
+        ensures there { OnOk result
+            (IsSome (change_written (W.write write.now) (view_of self.old))) }
         ensures accepted { ForSome (change_written (W.write write.now) (view_of self.old))
             (λ c. OnOk result (Accepts c (view_of self.old).rows)) }
         ensures done { ForSome (change_written (W.write write.now) (view_of self.old))

@@ -53,7 +53,8 @@ fn list_order(version: &Version<'_>, query: &LevelQuery, number: OrderNumber, it
     requires room { length items.old + 15 ≤ 300 }
     ensures items { items.new
         ≡ listed (is_short query.now (rows_of version.now))
-        items.old (items_of (order_in query.now.district number) (rows_of version.now).order_lines) }
+        items.old
+        (items_of (order_in query.now.district number) (rows_of version.now).order_lines) }
     ensures few { length items.new ≤ length items.old + 15 }
 {
     version.tables().numbers_hold();

@@ -140,7 +140,8 @@ impl Placing<ItemKey, Item> for Base {
 impl Placing<StockKey, Stock> for Base {
     ghost rows_in = { base_rows };
 
-    ghost refers = { λ k x. kind.Warehouse (warehouse_of_stock k) ∷ kind.Item (item_of_stock k) ∷ [] };
+    ghost refers = { λ k x.
+        kind.Warehouse (warehouse_of_stock k) ∷ kind.Item (item_of_stock k) ∷ [] };
 
     ghost with_row = { λ k x r. record r { stocks = insert r.stocks k x } };
 

@@ -40,7 +40,8 @@ impl Model for SendingEnd {
     } };
 
     ghost invariant = { λ s. IsSeatAt (sends_on s.end) s.pass
-        × (known s.pass ≡ Sending (record { terminal = s.terminal; messages = sent_in (known s.pass) })) };
+        × (known s.pass
+        ≡ Sending (record { terminal = s.terminal; messages = sent_in (known s.pass) })) };
 }
 
 /// The end that takes, whose pass knows what was taken.

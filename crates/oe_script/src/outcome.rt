@@ -207,7 +207,8 @@ fn first(
 fn populated(alloc: Global, scale: Scale, ring: RingChoice) -> Result<Core, NoMemory>
     requires { HasForm (asks.Open scale ring) }
     ensures { IfOk result (λ c.
-        (r : Rows) × IsPopulated scale r × (world_of c ≡ opened system r ring.extents (layout_of ring))) }
+        (r : Rows) × IsPopulated scale r
+        × (world_of c ≡ opened system r ring.extents (layout_of ring))) }
 {
     match populate(alloc, scale) {
         Ok(tables) => Core::open(alloc, tables, ring.extents, ring.layout_or_whole_rows()),

@@ -16,7 +16,8 @@ pub(crate) trait NumberedKey: ShelvedKey {
         ensures number { number_of self.now ≡ Some result }
         ensures few { result < 4_294_967_296 };
 
-    ghost numbered: { (j k : Self) (n : ℕ) → Self.shelf_of j ≡ Self.shelf_of k → number_of j ≡ Some n → number_of k ≡ Some n → j ≡ k };
+    ghost numbered: { (j k : Self) (n : ℕ) → Self.shelf_of j ≡ Self.shelf_of k
+        → number_of j ≡ Some n → number_of k ≡ Some n → j ≡ k };
 }
 
 impl NumberedKey for WarehouseKey {

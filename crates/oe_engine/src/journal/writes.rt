@@ -41,7 +41,8 @@ pub fn write<W: OneWrite>(
     ensures there { OnOk result (IsSome (written (W.write write.now) (rows tables.old))) }
     ensures written { OnOk result
         (HasRecorded (W.write write.now) tables.old tables.new undo.old undo.new segment) }
-    ensures room { OnOk result (HasRoomFor (W.write write.now) (rows tables.old) undo.old.log segment) }
+    ensures room { OnOk result
+        (HasRoomFor (W.write write.now) (rows tables.old) undo.old.log segment) }
     ensures linked { AreLinked tables.new undo.new.links }
     ensures cause { IfErr result (CantWrite (W.write write.now) tables.old undo.old.log segment) }
     ensures err { OnErr result (tables.new ≡ tables.old) }
@@ -128,7 +129,8 @@ fn push<W: OneWrite>(
     requires linked { AreLinked tables.now undo.old.links }
     ensures pushed { OnOk result
         (HasWritten (W.write write.now) (rows tables.now) undo.old undo.new segment) }
-    ensures room { OnOk result (HasRoomFor (W.write write.now) (rows tables.now) undo.old.log segment) }
+    ensures room { OnOk result
+        (HasRoomFor (W.write write.now) (rows tables.now) undo.old.log segment) }
     ensures cause { IfErr result (IsNotPushed (W.write write.now) tables.now undo.old.log segment) }
     ensures err { OnErr result (undo.new ≡ undo.old) }
 {
@@ -161,7 +163,8 @@ fn push_lent<W: OneWrite>(
     requires linked { AreLinked tables.now undo.old.links }
     ensures pushed { OnOk result
         (HasWritten (W.write write.now) (rows tables.now) undo.old undo.new segment) }
-    ensures room { OnOk result (HasRoomFor (W.write write.now) (rows tables.now) undo.old.log segment) }
+    ensures room { OnOk result
+        (HasRoomFor (W.write write.now) (rows tables.now) undo.old.log segment) }
     ensures cause { IfErr result (IsNotPushed (W.write write.now) tables.now undo.old.log segment) }
     ensures err { OnErr result (undo.new ≡ undo.old) }
 {

@@ -19,7 +19,7 @@ use oe_rows::{
 };
 use oe_store::Tables;
 
-/// A HISTORY row that is inserted, under no lock: it is the transaction's own.
+/// Inserts a HISTORY row, under no lock: it is the transaction's own.
 #[derive(Drop)]
 pub struct InsertHistory {
     pub history: HistoryKey,
@@ -60,7 +60,7 @@ impl OneWrite for InsertHistory {
     }
 }
 
-/// A NEW-ORDER row that is inserted.
+/// Inserts a NEW-ORDER row.
 #[derive(Drop)]
 pub struct InsertNewOrder {
     pub order: NewOrderKey,
@@ -100,7 +100,7 @@ impl OneWrite for InsertNewOrder {
     }
 }
 
-/// An ORDER row that is inserted.
+/// Inserts an ORDER row.
 #[derive(Drop)]
 pub struct InsertOrder {
     pub order: OrderKey,
@@ -141,7 +141,7 @@ impl OneWrite for InsertOrder {
     }
 }
 
-/// An ORDER-LINE row that is inserted.
+/// Inserts an ORDER-LINE row.
 #[derive(Drop)]
 pub struct InsertOrderLine {
     pub line: OrderLineKey,
@@ -182,7 +182,7 @@ impl OneWrite for InsertOrderLine {
     }
 }
 
-/// A NEW-ORDER row that is deleted.
+/// Deletes a NEW-ORDER row.
 #[derive(Drop)]
 pub struct DeleteNewOrder {
     pub order: NewOrderKey,

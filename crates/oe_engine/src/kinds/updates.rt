@@ -22,7 +22,7 @@ use oe_rows::{
 use oe_store::Tables;
 use oe_values::{Carrier, OrderNumber, Stamp, Text, YearToDate};
 
-/// W_YTD.
+/// Sets W_YTD of a warehouse.
 #[derive(Drop)]
 pub struct WarehouseYtd {
     pub warehouse: WarehouseKey,
@@ -67,7 +67,7 @@ impl OneWrite for WarehouseYtd {
     }
 }
 
-/// D_YTD.
+/// Sets D_YTD of a district.
 #[derive(Drop)]
 pub struct DistrictYtd {
     pub district: DistrictKey,
@@ -112,7 +112,7 @@ impl OneWrite for DistrictYtd {
     }
 }
 
-/// D_NEXT_O_ID.
+/// Sets D_NEXT_O_ID of a district.
 #[derive(Drop)]
 pub struct NextOrder {
     pub district: DistrictKey,
@@ -157,7 +157,7 @@ impl OneWrite for NextOrder {
     }
 }
 
-/// The account of a customer.
+/// Sets the account of a customer.
 #[derive(Drop)]
 pub struct CustomerAccount {
     pub customer: CustomerKey,
@@ -202,7 +202,7 @@ impl OneWrite for CustomerAccount {
     }
 }
 
-/// The account of a customer with bad credit, and the entry that goes before C_DATA.
+/// Sets the account of a customer with bad credit, and puts an entry before C_DATA.
 #[derive(Drop)]
 pub struct BadCredit {
     pub customer: CustomerKey,
@@ -253,7 +253,7 @@ impl OneWrite for BadCredit {
     }
 }
 
-/// C_LAST and C_FIRST.
+/// Sets C_LAST and C_FIRST of a customer.
 #[derive(Drop)]
 pub struct CustomerNames {
     pub customer: CustomerKey,
@@ -303,7 +303,7 @@ impl OneWrite for CustomerNames {
     }
 }
 
-/// S_QUANTITY, S_YTD, S_ORDER_CNT and S_REMOTE_CNT.
+/// Sets S_QUANTITY, S_YTD, S_ORDER_CNT and S_REMOTE_CNT of a stock row.
 #[derive(Drop)]
 pub struct StockCounts {
     pub stock: StockKey,
@@ -348,7 +348,7 @@ impl OneWrite for StockCounts {
     }
 }
 
-/// O_CARRIER_ID.
+/// Sets O_CARRIER_ID of an order.
 #[derive(Drop)]
 pub struct OrderCarrier {
     pub order: OrderKey,
@@ -393,7 +393,7 @@ impl OneWrite for OrderCarrier {
     }
 }
 
-/// OL_DELIVERY_D.
+/// Sets OL_DELIVERY_D of an order's line.
 #[derive(Drop)]
 pub struct DeliveryDate {
     pub line: OrderLineKey,
