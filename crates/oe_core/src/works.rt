@@ -134,12 +134,25 @@ impl Work {
                 }
                 _ => self.start_other(request),
             },
+            Task::NewOrder {
+                request: ordered,
+                program,
+                mark,
+            } => match request {
+                Request::NewOrder(order) => {
+                    *ordered = order.copied();
+                    *program = oe_neworder::Program::new();
+                    *mark = oe_neworder::Program::new();
+                    self.mark_records = Savepoint::start();
+                }
+                _ => self.start_other(request),
+            },
             _ => self.start_other(request),
         }
     }
 
-    // Starts where a payment does not follow a payment. It has room for the whole, which a
-    // payment's start does without.
+    // Starts where no payment follows a payment, and no order an order. It has room for the whole,
+    // which these do without.
     #[inline(never)]
     fn start_other(&mut self, request: &Request)
         ensures { self.new ≡ begun request.now }
@@ -309,29 +322,6 @@ impl Work {
                 program,
                 ..
             } => program.next(payment, engine, tx),
-            _ => self.next_other(engine, tx),
-        }
-    }
-
-    // Carries out a stage of any program. It has room for what orders and deliveries write, which a
-    // payment's stage does without.
-    #[inline(never)]
-    fn next_other(&mut self, engine: &mut Engine, tx: &Tx) -> Progress
-        requires held { IsOpen engine.old tx.now
-            → HoldsTaken engine.old tx.now self.old.request self.old.position }
-        requires recalls { IsOpen engine.old tx.now
-            → Recalls engine.old self.old.position }
-        ensures progresses { Progresses self.old.request tx.now engine.old self.old.position
-            result engine.new self.new.position }
-        ensures left { Leaves (length ((view_of engine.old).undo.active tx.now.terminal))
-            self.old result self.new }
-    {
-        match &mut self.task {
-            Task::Payment {
-                request: paid,
-                program,
-                ..
-            } => program.next(paid, engine, tx),
             Task::NewOrder {
                 request: order,
                 program,

@@ -144,6 +144,26 @@ impl Program {
         }
     }
 
+    // Carries out one stage of no line, whose program it takes the place of. It has room for
+    // another program, which a line's stage does without.
+    #[inline(never)]
+    fn next_of_order(&mut self, request: &DeliveryRequest, engine: &mut Engine, tx: &Tx) -> Progress
+        requires line { HasNoLine self.old }
+        requires underway { district_reply (position_of self.old) ≡ None }
+        requires open { IsOpen engine.old tx.now }
+        ensures { Progresses (Request.Delivery request.now) tx.now
+            engine.old (InDelivery request.now (position_of self.old))
+            result engine.new (InDelivery request.now (position_of self.new)) }
+    {
+        match self.stage(request, engine, tx) {
+            Ok(after) => {
+                *self = after;
+                Progress::More
+            }
+            Err(refusal) => Progress::Refused(refusal),
+        }
+    }
+
     /// Carries out one stage of the delivery: its lock and its one change. The names that the
     /// stages before have taken are held: the order's for its lines.
     ///
@@ -168,12 +188,6 @@ impl Program {
         if let Some(number) = self.next_number() {
             return self.date(number, request, engine, tx);
         }
-        match self.stage(request, engine, tx) {
-            Ok(after) => {
-                *self = after;
-                Progress::More
-            }
-            Err(refusal) => Progress::Refused(refusal),
-        }
+        self.next_of_order(request, engine, tx)
     }
 }

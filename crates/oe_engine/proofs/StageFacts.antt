@@ -1,14 +1,10 @@
 -- A stage that was done, or refused, by the engine is one of its program, whichever program that is.
-use Rattle.std.proofs.Common.{◌≡◌, ℕ, Bool, true, false, cond, ◌∷◌, Option, None, Some, refl, sym, ap, ◌∙◌, subst, inl}
+use Rattle.std.proofs.Common.{◌≡◌, Option, None, Some, refl, sym, ap, ◌∙◌, subst, inl}
 use Rattle.std.proofs.Common.{inr, ◌⊎◌}
 use Rattle.std.specs.Prelude.{Result, Ok, Err, OnOk, IfErr}
-use Rattle.std.proofs.lemmas.Bool.{true≢false}
-use mathlib.Core.Path.{fun_ext}
 use Rattle.oe_theory.specs.Machine.{Ask, Stop, Plain, Take, Go, Guard, Free, Under, Own}
 use Rattle.oe_theory.specs.Machine as theory
-use Rattle.oe_theory.specs.World as world
-use Rattle.oe_theory.specs.Undo.{put_records}
-use Rattle.oe_theory.specs.Next.{held_after, record_on, IsNew, GivesWay}
+use Rattle.oe_theory.specs.Next.{IsNew, GivesWay}
 use Rattle.oe_rows.specs.declared.locks.Name.{Name}
 use Rattle.oe_requests.specs.declared.requests.Request.{Request}
 use Rattle.oe_requests.specs.declared.refusals.Refusal.{Refusal}
@@ -16,14 +12,11 @@ use Rattle.oe_requests.specs.declared.refusals.Refusal.TheVariants.{NoSuchRow, R
 use Rattle.oe_requests.specs.declared.refusals.Refusal.TheVariants.{KeyColumn, Busy, UndoFull, NoMemory, NotOpen}
 use Rattle.oe_requests.specs.declared.refusals.Refusal.TheVariants.{AlreadyOpen, InvalidItem, NoCustomer, TooOld}
 use Rattle.oe_requests.specs.declared.refusals.Refusal.TheVariants.{Future, NotQuiet, NotPinned}
-use Rattle.oe_model.specs.Changes.{Change, changed}
-use Rattle.oe_model.specs.Locks.{is_name}
-use Rattle.oe_model.proofs.SystemLaws as model
+use Rattle.oe_model.specs.Changes.{Change}
 use Rattle.oe_model.specs.Positions.{Position}
 use Rattle.oe_model.specs.System.{system, yields}
-use Rattle.oe_engine.specs.View.{EngineState, View, view_of, Handle, IsOpen}
-use Rattle.oe_engine.specs.Covered.{Owns, IsOwn, IsSafe}
-use Rattle.oe_engine.specs.Calls.{ask_to_write, IsFree, IsInTheWay, IsFullFor, IsFullForAny, stage_done, AcceptsAll}
+use Rattle.oe_engine.specs.View.{EngineState, view_of, Handle, IsOpen}
+use Rattle.oe_engine.specs.Calls.{IsFree, IsFullFor, IsFullForAny, stage_done, AcceptsAll}
 use Rattle.oe_engine.specs.Calls.{StageRefused, WantsPlace}
 use Rattle.oe_engine.specs.Programs.{ask_here, act_here, GoesOn, WantsMemory, IsRefused}
 use Rattle.oe_engine.specs.Stages.{Does}
@@ -110,95 +103,8 @@ does_change s s' x a c (Ok u) o free accepted fits done same cause room =
     goes_on s s' x a (Some c) o free accepted fits done same
 does_change s s' x a c (Err e) o free accepted fits done same cause room = refused_change s x a c e (room e refl) cause
 
--- what a transaction alone may change is its own, or lies under a name
-pub owned_own : (held : Name → Option theory.Mode) (t k : ℕ) (g : Guard Name) → Owns held t k g → IsOwn t k g
-owned_own held t k Free h = h
-owned_own held t k (Under n) h = tt
-owned_own held t k (Own u j) h = h
-
--- and its lock is held already: to take it changes nothing, no name is new, and nobody is in the way
-module _ (v : View) (t k : ℕ) where
-  same_held : (n : Name) → v.held t n ≡ Some theory.Exclusive
-      → held_after system (Take n theory.Exclusive) (v.held t) ≡ v.held t
-  same_held n h = fun_ext (λ q. go q (is_name q n) refl)
-    where
-      go : (q : Name) (b : Bool) → is_name q n ≡ b → cond b (Some theory.Exclusive) (v.held t q) ≡ v.held t q
-      go q true e = sym (ap (v.held t) (model.name_true q n e) ∙ h)
-      go q false e = refl
-
-  pub done_held : (g : Guard Name) (c : Change) → Owns (v.held t) t k g
-      → stage_done t (ask_to_write g) (Some c) v ≡ stage_done t Plain (Some c) v
-  done_held Free c h = absurd h
-  done_held (Own u j) c h = refl
-  done_held (Under n) c h = λ i. record {
-    rows = changed c v.rows;
-    undo = put_records system t (record_on system v.layout c v.rows ∷ v.undo.active t) v.undo;
-    seals = v.seals;
-    counts = v.counts;
-    held = world.set t (same_held n h i) v.held;
-    is_open = v.is_open;
-    extents = v.extents;
-    layout = v.layout;
-  }
-
-  pub none_new : (g : Guard Name) → Owns (v.held t) t k g → IsNew system (v.held t) (ask_to_write g) → ⊥
-  none_new Free h e = absurd h
-  none_new (Own u j) h e = absurd e
-  none_new (Under n) h e = let both : None ≡ Some theory.Exclusive = sym e ∙ h in let no : ⊥ = cc in no
-
-  pub none_before : (g : Guard Name) → Owns (v.held t) t k g → IsSafe v → (n : Name) (m : theory.Mode) (u : ℕ)
-      → ask_to_write g ≡ Take n m → IsInTheWay v t n m u → ⊥
-  none_before Free h s n m u e w = absurd h
-  none_before (Own a b) h s n m u e w = let no : ⊥ = cc in no
-  none_before (Under p) h s n m u e w =
-      let same : p ≡ n = name_taken p n theory.Exclusive m e in
-      let none : v.held u n ≡ None = s.alone t u n w.other (ap (v.held t) (sym same) ∙ h) in
-      true≢false (sym (ap (λ o. world.go_together m o) none) ∙ w.conflicts)
-    where
-      name_taken : (a b : Name) (x y : theory.Mode) → ◌≡◌ {A = Ask Name Refusal} (Take a x) (Take b y) → a ≡ b
-      name_taken a b x y same = cc
-
--- why such a stage is refused, where it asks for no lock
-module _ (s : EngineState) (x : Handle) (k : ℕ) (g : Guard Name) (safe : IsSafe (view_of s))
-    (owns : IsOpen s x → Owns ((view_of s).held x.terminal) x.terminal k g) where
-  refused_held : (c : Change) (e : Refusal) → StageRefused s x (ask_to_write g) (Some c) e
-      → StageRefused s x Plain (Some c) e
-  refused_held c NotOpen h = h
-  refused_held c (Busy n u) (o, (m, e, way)) = absurd (none_before (view_of s) x.terminal k g (owns o) safe n m u e way)
-  refused_held c NoMemory (o, f, why) = (o, tt, inr refl)
-  refused_held c (NoSuchRow y) (o, f, why) = (o, tt, why)
-  refused_held c (RowExists y) (o, f, why) = (o, tt, why)
-  refused_held c (Overflow y) (o, f, why) = (o, tt, why)
-  refused_held c (Reference y) (o, f, why) = (o, tt, why)
-  refused_held c KeyColumn (o, f, why) = (o, tt, why)
-  refused_held c UndoFull (o, f, some) = (o, tt, some)
-  refused_held c AlreadyOpen (o, f, why) = (o, tt, why)
-  refused_held c InvalidItem (o, f, why) = (o, tt, why)
-  refused_held c NoCustomer (o, f, why) = (o, tt, why)
-  refused_held c (TooOld m) (o, f, why) = (o, tt, why)
-  refused_held c (Future m) (o, f, why) = (o, tt, why)
-  refused_held c (NotQuiet n) (o, f, why) = (o, tt, why)
-  refused_held c (NotPinned n) (o, f, why) = (o, tt, why)
-
-  wants_held : (c : Change) → StageRefused s x (ask_to_write g) (Some c) NoMemory
-      → IsNew system ((view_of s).held x.terminal) (ask_to_write g) → ⊥
-  wants_held c (o, f, why) = none_new (view_of s) x.terminal k g (owns o)
-
-  -- the answer of such a stage
-  pub does_held : (s' : EngineState) (c : Change) (r : Result (Unit {0}) Refusal) → OnOk r (IsOpen s x)
-      → OnOk r (AcceptsAll (Some c) (view_of s).rows)
-      → OnOk r (IsFullFor (view_of s) x.terminal c → ⊥)
-      → OnOk r (view_of s' ≡ stage_done x.terminal (ask_to_write g) (Some c) (view_of s)) → s'.name ≡ s.name
-      → IfErr r (StageRefused s x (ask_to_write g) (Some c))
-      → ((e : Refusal) → r ≡ Err e → IsRoom s x c (ask_to_write g) e)
-      → Does s x Plain (Some c) r s'
-  does_held s' c (Ok u) o accepted fits done same cause room =
-      goes_on s s' x Plain (Some c) o tt accepted fits (done ∙ done_held (view_of s) x.terminal k g c (owns o)) same
-  does_held s' c (Err e) o accepted fits done same cause room =
-      refused_change s x Plain c e (
-        λ held same. (room e refl).0
-            (subst (λ z. StageRefused s x (ask_to_write g) (Some c) z
-            → IsNew system ((view_of s).held x.terminal) (ask_to_write g) → ⊥) (sym same) (wants_held c) cause) same,
-        (room e refl).1,
-      )
-      (refused_held c e cause)
+-- a stage without a lock waits for nobody
+pub is_free : (s : EngineState) (x : Handle) (r : Result (Unit {0}) Refusal)
+    → OnOk r (IsFree (view_of s) x.terminal Plain)
+is_free s x (Ok u) = tt
+is_free s x (Err e) = tt

@@ -81,8 +81,7 @@ pub fn put_held<W: OneWrite>(engine: &mut Engine, tx: &Tx, write: &W) -> Result<
     ensures name { engine.new.name ≡ engine.old.name }
     ensures err { OnErr result (view_of engine.new ≡ view_of engine.old) }
 {
-    engine.is_safe();
-    engine.change(tx, write)
+    engine.change_held(tx, write)
 }
 
 /// Carries out a stage that takes a lock and writes to a row in its place, whose name the

@@ -1,7 +1,7 @@
 //! What transactions write to rows, each with its lock and its undo record.
 ghost use Rattle.std.specs.Prelude.{◌≡◌, ◌<◌, suc, true, Some, None, IsSome, IfErr, OnOk, OnErr};
 ghost use Rattle.std.specs.Option.{ForSome};
-ghost use Rattle.oe_theory.specs.Machine.{Take};
+ghost use Rattle.oe_theory.specs.Machine.{Plain, Take};
 ghost use Rattle.oe_theory.specs.Next.{IsNew, held_after};
 ghost use Rattle.oe_model.specs.Locks.{mode_of, governs};
 ghost use Rattle.oe_model.specs.Meets.{Accepts};
@@ -170,6 +170,47 @@ impl Engine {
             Some(lock) => self.take_and_put(terminal, &lock, write),
         }
     }
+
+    /// Writes to one row in its place for a transaction that alone may change it, with its undo
+    /// record, and takes no lock: the transaction holds the row's name alone, or the row is its
+    /// own.
+    ///
+    /// Refused as `change`, but never `Busy`. After an error nothing has changed.
+    #[inline(always)]
+    pub(crate) fn change_held<W: OneWrite>(&mut self, tx: &Tx, write: &W) -> Result<(), Refusal>
+        requires covered { IsOpen self.old tx.now
+            → MayWrite (view_of self.old).rows ((view_of self.old).held tx.now.terminal)
+            tx.now.terminal
+            (suc ((view_of self.old).counts tx.now.terminal)) (W.write write.now) }
+        ensures open { OnOk result (IsOpen self.old tx.now) }
+        ensures there { OnOk result
+            (IsSome (change_written (W.write write.now) (view_of self.old))) }
+        ensures accepted { ForSome (change_written (W.write write.now) (view_of self.old))
+            (λ c. OnOk result (Accepts c (view_of self.old).rows)) }
+        ensures done { ForSome (change_written (W.write write.now) (view_of self.old))
+            (λ c. OnOk result
+            (view_of self.new ≡ stage_done tx.now.terminal Plain (Some c) (view_of self.old))) }
+        ensures name { self.new.name ≡ self.old.name }
+        ensures cause { ForSome (change_written (W.write write.now) (view_of self.old))
+            (λ c. IfErr result (StageRefused self.old tx.now Plain (Some c))) }
+        ensures absent { change_written (W.write write.now) (view_of self.old) ≡ None
+            → IfErr result
+            (AbsentRowRefused self.old tx.now Plain (key_written (W.write write.now))) }
+        ensures full { ForSome (change_written (W.write write.now) (view_of self.old))
+            (λ c. IfErr result
+            (λ e. e ≡ Refusal.UndoFull → IsFullFor (view_of self.old) tx.now.terminal c)) }
+        ensures fits { ForSome (change_written (W.write write.now) (view_of self.old))
+            (λ c. OnOk result (IsFullFor (view_of self.old) tx.now.terminal c → ⊥)) }
+        ensures wants { IfErr result (λ e. e ≡ Refusal.NoMemory
+            → WantsRow (change_written (W.write write.now) (view_of self.old)) self.old.tables) }
+        ensures err { OnErr result (view_of self.new ≡ view_of self.old) }
+    {
+        if !self.is_open(tx) {
+            return Err(Refusal::NotOpen);
+        }
+        self.put(tx.terminal(), write)
+    }
+
     /// Writes to one row in its place for a transaction that holds the row's name alone, with its
     /// undo record, and takes another lock, beside which the write is covered: a customer's new
     /// names go under the name of who has that C_LAST.

@@ -81,6 +81,7 @@ impl Log {
     /// Appends a record to an open segment, and answers its address, where no other record is. The
     /// row before an update is written from where it lies. `Full` exactly where the record fits
     /// neither the rest of the segment's newest extent nor a free one. It takes no memory.
+    #[inline(always)]
     pub fn push(&mut self, segment: Segment, lent: &LinkedRecord<'_>) -> Result<RecordAddress, Full>
         requires { IsSome (active_at self.old segment) }
         ensures pushed { IfOk result (λ a. self.new

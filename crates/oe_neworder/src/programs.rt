@@ -127,6 +127,32 @@ impl Program {
         }
     }
 
+    // Carries out one stage before the lines, whose program it takes the place of. It has room for
+    // another program, which a line's stage does without.
+    #[inline(never)]
+    fn next_before_lines(
+        &mut self,
+        request: &NewOrderRequest,
+        engine: &mut Engine,
+        tx: &Tx,
+    ) -> Progress
+        requires position { IsBeforeLines self.old }
+        requires open { IsOpen engine.old tx.now }
+        requires held { HoldsTaken request.now tx.now engine.old
+            (position_of request.now self.old) }
+        ensures { Progresses (Request.NewOrder request.now) tx.now
+            engine.old (InNewOrder request.now (position_of request.now self.old)) result
+            engine.new (InNewOrder request.now (position_of request.now self.new)) }
+    {
+        match self.stage(request, engine, tx) {
+            Ok(after) => {
+                *self = after;
+                Progress::More
+            }
+            Err(refusal) => Progress::Refused(refusal),
+        }
+    }
+
     /// Carries out one stage of the order: its lock and its one change. The names that the stages
     /// before have taken are held: the order's for its NEW-ORDER row and its lines.
     ///
@@ -147,12 +173,6 @@ impl Program {
         if let Program::Lines(filling) = self {
             return filling.next(request, engine, tx);
         }
-        match self.stage(request, engine, tx) {
-            Ok(after) => {
-                *self = after;
-                Progress::More
-            }
-            Err(refusal) => Progress::Refused(refusal),
-        }
+        self.next_before_lines(request, engine, tx)
     }
 }

@@ -4,7 +4,7 @@
 //! By its own invariant a shelf knows of some slots at its beginning that they are blanked, so that
 //! a walk over rows can pass them. Only `put` takes memory, for a key without a place; where that
 //! is refused the shelf is as before.
-ghost use Rattle.std.specs.Prelude.{◌≡◌, ◌+◌, ◌<◌, ◌≤◌, ◌↔◌, Some, None, List, Option, [], Err, IsTrue, OnOk, OnErr, is_some, length, take};
+ghost use Rattle.std.specs.Prelude.{◌≡◌, ◌+◌, ◌<◌, ◌≤◌, ◌↔◌, Some, None, List, Option, [], Err, IfSome, IsTrue, OnOk, OnErr, is_some, length, take};
 ghost use Rattle.std.specs.List.{insert, list_all, remove};
 ghost use Rattle.std.specs.Option.{option_copied, option_copied_mut};
 ghost use Rattle.std.specs.Borrow.{sem};
@@ -56,6 +56,9 @@ pub struct Shelf<K, R> {
     slots: FrontVec<Slot<K, R>>,
     // So many slots at the beginning have no row.
     blanked: usize,
+    // The index of the slot that was last lent to be changed, a hint: the next key that is asked
+    // for often stands there, or behind it.
+    touched: usize,
 }
 
 impl<K, R> Model for Shelf<K, R> {
@@ -74,6 +77,7 @@ impl<K, R> Shelf<K, R> {
         Shelf {
             slots: FrontVec::new(alloc),
             blanked: 0,
+            touched: 0,
         }
     }
 }
@@ -242,6 +246,37 @@ impl<K: ShelvedKey, R> Shelf<K, R> {
         requires { IsAscending K.cmp self.now }
         ensures { IsFound K.cmp self.now key.now result }
     {
+        if self.ends_before(key) {
+            return Err(self.slots().len());
+        }
+        if let Some(at) = self.touched_at(key) {
+            return Ok(at);
+        }
+        self.find_by_place(key)
+    }
+
+    // The index of a key at the slot that was last lent to be changed, or at the one behind it.
+    #[inline(always)]
+    fn touched_at(&self, key: &K) -> Option<usize>
+        ensures { IfSome result (StandsAt K.cmp self.now key.now) }
+    {
+        let behind = self.touched.wrapping_add(1);
+        if self.stands_at(behind, key) {
+            return Some(behind);
+        }
+        if self.stands_at(self.touched, key) {
+            return Some(self.touched);
+        }
+        None
+    }
+
+    // Finds where a key stands, or would stand, by how far its place lies between the first and the
+    // last.
+    #[inline(never)]
+    fn find_by_place(&self, key: &K) -> Result<usize, usize>
+        requires { IsAscending K.cmp self.now }
+        ensures { IsFound K.cmp self.now key.now result }
+    {
         let near = lower_places(self.slots(), key.place());
         if self.stands_at(near, key) {
             return Ok(near);
@@ -346,6 +381,7 @@ impl<K: ShelvedKey, R> Shelf<K, R> {
             return None;
         }
         self.blanked = at.min(self.blanked);
+        self.touched = at;
         Some(self.slots.item_mut(at).content_mut())
     }
 

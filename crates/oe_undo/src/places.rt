@@ -97,7 +97,7 @@ impl<T> Places<T> {
     #[inline(always)]
     pub(crate) fn place_mut(&mut self, shelf: usize, number: usize) -> Option<&mut Option<T>>
     where
-        T: Drop,
+        T: Copy,
         ensures* writes_back { sem 𝓛 (lends_place T.row self.entry shelf number result) }
         ensures place { option_copied_mut result ≡ place_at self.old shelf number }
     {

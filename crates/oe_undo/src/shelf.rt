@@ -34,22 +34,23 @@ impl<T> Model for PlaceShelf<T> {
 
 // Puts empty places behind the others until there is one of that number, for which there is room.
 #[inline(never)]
-fn extend<T: Drop>(met: &mut Vec<Option<T>>, number: usize)
+fn extend<T: Copy>(met: &mut Vec<Option<T>>, number: usize)
     requires room { number < vec_capacity met.old }
+    requires fewer { length met.old.items ≤ number }
     ensures items { met.new.items ≡ spread (number + 1) met.old.items }
-    ensures capacity { vec_capacity met.new ≡ vec_capacity met.old }
+    ensures capacity { vec_capacity met.old ≤ vec_capacity met.new }
 {
-    while met.len() <= number {
-        met.push_reserved(None);
-    }
+    let Ok(()) = met.resize(number + 1, None) else {
+        unreachable!()
+    };
 }
 
 // Meets the place of that number, for which there is room.
 #[inline(always)]
-fn meet<T: Drop>(met: &mut Vec<Option<T>>, number: usize)
+fn meet<T: Copy>(met: &mut Vec<Option<T>>, number: usize)
     requires room { number < vec_capacity met.old }
     ensures items { met.new.items ≡ spread (number + 1) met.old.items }
-    ensures capacity { vec_capacity met.new ≡ vec_capacity met.old }
+    ensures capacity { vec_capacity met.old ≤ vec_capacity met.new }
 {
     if met.len() <= number {
         extend(met, number);
@@ -87,7 +88,7 @@ impl<T> PlaceShelf<T> {
     #[inline(always)]
     pub(crate) fn place_mut(&mut self, number: usize) -> Option<&mut Option<T>>
     where
-        T: Drop,
+        T: Copy,
         ensures* writes_back { sem 𝓛 (lends_place T.row self.entry number result) }
         ensures place { option_copied_mut result ≡ slice_get self.old number }
     {

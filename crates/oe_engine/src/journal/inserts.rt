@@ -54,7 +54,7 @@ pub(crate) fn insert_order(tables: &mut Tables, key: &OrderKey, row: &Order) -> 
 }
 
 /// Inserts an ORDER-LINE row; refused as `insert_order_line` of `oe_change`.
-#[inline(never)]
+#[inline(always)]
 pub(crate) fn insert_order_line(
     tables: &mut Tables,
     key: &OrderLineKey,
