@@ -9,8 +9,8 @@ pub fn rows_are_told_apart()
     ensures { Rows_are_told_apart }
 {}
 
-/// The walk finds no difference exactly where all rows of a table are the file's, and else the first
-/// row that differs.
+/// The walk finds no difference exactly where all rows of a table are the file's, and else the
+/// first row that differs.
 pub fn differences_are_first<K: TableKey>()
     ensures { Differences_are_first K.cmp }
 {}

@@ -67,7 +67,7 @@ module _ {K X : Type 0} (R : K → K → Ordering) (P : K → Type 0) (at : K �
       omega (arith, all)
 
 -- what is kept of a list passes the test
-kept_each : {A : Type 0} (p : A → Bool) (P : A → Type 0) (xs : List A) → EachOf P xs
+pub kept_each : {A : Type 0} (p : A → Bool) (P : A → Type 0) (xs : List A) → EachOf P xs
     → EachOf (λ x. (p x ≡ true) × P x) (filter p xs)
 kept_each p P [] h = tt
 kept_each p P (x ∷ xs) h = by_test (p x) refl (kept_each p P xs h.1)
@@ -77,7 +77,7 @@ kept_each p P (x ∷ xs) h = by_test (p x) refl (kept_each p P xs h.1)
     by_test true t rest = ((t, h.0), rest)
     by_test false t rest = rest
 
-both_true : (a b : Bool) → (a && b) ≡ true → (a ≡ true) × (b ≡ true)
+pub both_true : (a b : Bool) → (a && b) ≡ true → (a ≡ true) × (b ≡ true)
 both_true true b e = (refl, e)
 both_true false b e = let no : ⊥ = cc in absurd no
 
@@ -87,6 +87,13 @@ le_leb a b h = by_test (nat_le a b) refl
     by_test : (t : Bool) → nat_le a b ≡ t → t ≡ true
     by_test true e = refl
     by_test false e = let less = leb-false a b e in absurd (let no : ⊥ = omega arith in no)
+
+-- the lines of recent orders stand at their keys
+pub recent_rows : (h : DistrictKey) (next : ℕ) (lines : FinMap order_line_cmp OrderLine)
+    → EachOf (λ e. (is_recent h next e.0 ≡ true) × (get lines e.0 ≡ Some e.1)) (recent_lines h next lines)
+recent_rows h next lines =
+    kept_each (λ e. is_recent h next e.0) (λ e. get lines e.0 ≡ Some e.1) (entries lines)
+    (entries_at order_line_total lines)
 
 -- of two lines of a district the one with the lower key has the lower order, or the lower number in the same order
 order_below : (a b : OrderLineKey) (r : Ordering) → r ≡ nat_cmp a.order b.order

@@ -1,8 +1,7 @@
 pub mod ListedFacts
 pub mod LevelFacts
 pub mod ShortFacts
-pub mod LastFacts
 pub mod AnswerFacts
 pub mod FewFacts
-pub mod OrderFacts
+pub mod RecentFacts
 pub mod MarkFacts

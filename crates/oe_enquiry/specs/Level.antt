@@ -1,17 +1,15 @@
 -- The items that Stock-Level counts, as they are gathered (clause 2.8.2.2).
-use Rattle.std.specs.Prelude.{ℕ, zero, suc, ◌≡◌, ◌-◌, ◌%◌, ◌==◌, Bool, true, false, cond, not, ◌&&◌, List, [], ◌∷◌}
+use Rattle.std.specs.Prelude.{ℕ, suc, ◌≡◌, ◌%◌, ◌==◌, Bool, true, false, cond, not, ◌&&◌, List, [], ◌∷◌}
 use Rattle.std.specs.Prelude.{◌++◌, map, get_or, nat_le, None, Some}
 use Rattle.std.specs.List.{list_any}
 use Rattle.std.specs.FinMap.{FinMap, get}
 use Rattle.oe_rows.specs.Key.{order_line_cmp}
 use Rattle.oe_rows.specs.declared.keys.DistrictKey.{DistrictKey}
-use Rattle.oe_rows.specs.declared.keys.OrderKey.{OrderKey}
 use Rattle.oe_rows.specs.declared.keys.StockKey.{StockKey}
 use Rattle.oe_rows.specs.declared.orders.OrderLine.{OrderLine}
 use Rattle.oe_requests.specs.declared.requests.LevelQuery.{LevelQuery}
-use Rattle.oe_model.specs.Keys.{order_in}
 use Rattle.oe_model.specs.Rows.{Rows}
-use Rattle.oe_model.specs.Delivery.{lines_of}
+use Rattle.oe_model.specs.Queries.{recent_lines}
 
 abbrev pub stock_in : ℕ → ℕ → StockKey
 stock_in w i = record { warehouse = w; item = i }
@@ -33,11 +31,6 @@ abbrev pub listed : (ℕ → Bool) → List ℕ → List ℕ → List ℕ
 listed p items [] = items
 listed p items (i ∷ is) = listed p (cond (not (is_listed items i) && p i) (items ++ i ∷ []) items) is
 
--- the items of an order's lines
-abbrev pub items_of : OrderKey → FinMap order_line_cmp OrderLine → List ℕ
-items_of k lines = map (λ e. e.1.item) (lines_of k lines)
-
--- the items of the last n orders before the district's next one
-abbrev pub sold : DistrictKey → ℕ → FinMap order_line_cmp OrderLine → ℕ → List ℕ
-sold h next lines zero = []
-sold h next lines (suc n) = items_of (order_in h (next - suc n)) lines ++ sold h next lines n
+-- the items of the lines of a district's last 20 orders before one
+abbrev pub items_sold : DistrictKey → ℕ → FinMap order_line_cmp OrderLine → List ℕ
+items_sold h next lines = map (λ e. e.1.item) (recent_lines h next lines)

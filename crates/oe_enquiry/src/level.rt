@@ -3,11 +3,10 @@
 ghost use Rattle.std.specs.Prelude.{◌≡◌, ◌≤◌, ◌<◌, ◌+◌, ℕ, [], ◌∷◌, length, IfOk, IfErr};
 ghost use Rattle.oe_theory.specs.Machine.{Here, Missing};
 ghost use Rattle.oe_requests.specs.declared.replies.QueryReply.TheVariants as told;
-ghost use Rattle.oe_model.specs.Keys.{order_in};
 ghost use Rattle.oe_model.specs.Queries.{stock_level};
 ghost use Rattle.oe_model.specs.Rules.{AreLow};
 ghost use Rattle.oe_versions.specs.Versions.{rows_of, Stand};
-ghost use Rattle.oe_enquiry.specs.Level.{is_short, listed, items_of};
+ghost use Rattle.oe_enquiry.specs.Level.{is_short, listed};
 
 use crate::items::Items;
 use oe_requests::{LevelQuery, Refusal};
@@ -46,49 +45,6 @@ fn list_if_short(version: &Version<'_>, query: &LevelQuery, item: ItemNumber, it
     items.push(item);
 }
 
-/// Lists the items of an order's lines that were short and are not listed yet. There must be room
-/// for 15.
-fn list_order(version: &Version<'_>, query: &LevelQuery, number: OrderNumber, items: &mut Items)
-    requires stand { Stand version.now.tables version.now.log }
-    requires room { length items.old + 15 ≤ 300 }
-    ensures items { items.new
-        ≡ listed (is_short query.now (rows_of version.now))
-        items.old
-        (items_of (order_in query.now.district number) (rows_of version.now).order_lines) }
-    ensures few { length items.new ≤ length items.old + 15 }
-{
-    version.tables().numbers_hold();
-    let order = query.district.order(number);
-    for (key, line) in version.tables().order_lines_of(order) {
-        let found = version.item_at(key, line);
-        if let Some(item) = found {
-            list_if_short(version, query, item, items);
-        }
-    }
-}
-
-/// Gives the least number that one of a district's last 20 orders may have, where the next order
-/// has that one.
-fn first_recent(next: OrderNumber) -> u32
-    ensures least { 1 ≤ result }
-    ensures span { next ≤ result + 20 }
-    ensures all { (o : ℕ) → 1 ≤ o → next ≤ o + 20 → result ≤ o }
-{
-    let next = next.get();
-    if next <= 20 { 1 } else { next - 20 }
-}
-
-/// Gives O_ID, which is in its range.
-fn order_number(number: u32) -> OrderNumber
-    requires { (1 ≤ number) × (number ≤ 10_000_000) }
-    ensures { result ≡ number }
-{
-    match OrderNumber::new(number) {
-        Some(number) => number,
-        None => unreachable!(),
-    }
-}
-
 /// Lists the distinct items of the district's last 20 orders before the next one that were short
 /// (clause 2.8.2.2).
 fn short_items(version: &Version<'_>, query: &LevelQuery, next: OrderNumber) -> Items
@@ -96,11 +52,15 @@ fn short_items(version: &Version<'_>, query: &LevelQuery, next: OrderNumber) -> 
     ensures { AreLow query.now (rows_of version.now) next result }
 {
     version.tables().numbers_hold();
-    let end = next.get();
-    let first = first_recent(next);
     let mut items = Items::new();
-    for number in first..end {
-        list_order(version, query, order_number(number), &mut items);
+    if next.get() == 1 {
+        return items;
+    }
+    for (key, line) in version.tables().recent_lines(query.district, next) {
+        let found = version.item_at(key, line);
+        if let Some(item) = found {
+            list_if_short(version, query, item, &mut items);
+        }
     }
     items
 }

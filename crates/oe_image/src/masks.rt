@@ -32,8 +32,8 @@ pub(crate) fn kept_length<T: Imaged>(column: &Option<T>) -> usize
     }
 }
 
-/// Writes the column's image, if the column is there, from offset `start` on, and answers the offset
-/// behind it.
+/// Writes the column's image, if the column is there, from offset `start` on, and answers the
+/// offset behind it.
 #[inline(always)]
 pub(crate) fn write_kept<T: Imaged>(column: &Option<T>, bytes: &mut [u8], start: usize) -> usize
     requires small { T.most ≤ 65535 }

@@ -1,5 +1,5 @@
-//! The lines that tell what is wrong with files: each names the table, the line, and the column where
-//! one is at fault. No memory is taken.
+//! The lines that tell what is wrong with files: each names the table, the line, and the column
+//! where one is at fault. No memory is taken.
 ghost use Rattle.std.specs.Prelude.{◌≡◌, ◌≤◌, ◌+◌, ◌-◌, ◌++◌, [], length, codes, decimal};
 ghost use Rattle.std.specs.List.{flat_map};
 ghost use Rattle.arrayvec.specs.ArrayVec.{array_vec_len};

@@ -9,8 +9,8 @@ use oe_values::{TERMINALS, Terminal};
 use oe_waits::waits_for;
 use rand_pcg::Lcg64Xsh32;
 
-/// Who was answered `Busy`, and the number of the terminal that the answer names, or 0; with a place
-/// for each number from 0 to 64.
+/// Who was answered `Busy`, and the number of the terminal that the answer names, or 0; with a
+/// place for each number from 0 to 64.
 pub(crate) type Holders = [u32; 65];
 
 /// What is to be done next.
@@ -45,8 +45,8 @@ fn holder_of(core: &Core, holders: &Holders, terminal: Terminal) -> Option<Termi
     None
 }
 
-/// Follows the waits from a terminal: gives the terminal itself where they come back to it, and else
-/// where they have led after 64 waits, which is in a cycle, or where they have ended.
+/// Follows the waits from a terminal: gives the terminal itself where they come back to it, and
+/// else where they have led after 64 waits, which is in a cycle, or where they have ended.
 fn followed(core: &Core, holders: &Holders, terminal: Terminal) -> Terminal {
     let mut at = terminal;
     for _ in 0..TERMINALS {

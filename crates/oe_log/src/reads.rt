@@ -163,8 +163,8 @@ impl Log {
         Deleted { records, has_any }
     }
 
-    /// Gives the records of a commit's segment, the newest first, where they lie. The commit is given
-    /// by the number of later ones. It takes no memory.
+    /// Gives the records of a commit's segment, the newest first, where they lie. The commit is
+    /// given by the number of later ones. It takes no memory.
     pub fn committed_records(&self, later: usize) -> Records<'_>
         requires { later < length self.now.committed }
         ensures { result ≡ model_records (get_or (committed_records self.now) later []) }

@@ -226,8 +226,8 @@ impl Filling {
         }
     }
 
-    /// Gives the lock that the next stage asks for: the next line's stock, unless that is taken; none
-    /// where no line is left, or the item is unused.
+    /// Gives the lock that the next stage asks for: the next line's stock, unless that is taken;
+    /// none where no line is left, or the item is unused.
     pub(crate) fn wanted(&self, request: &NewOrderRequest, tables: &Tables) -> Option<Lock>
         ensures { option_map hold_of result
             ≡ wanted (new_order_ask request.now (line_position request.now self.now)

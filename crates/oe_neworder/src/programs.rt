@@ -83,8 +83,8 @@ impl Program {
         }
     }
 
-    /// Gives the lock that the next stage asks for; none where it asks for none, or stops before it:
-    /// the customer is absent, or an item unused.
+    /// Gives the lock that the next stage asks for; none where it asks for none, or stops before
+    /// it: the customer is absent, or an item unused.
     pub fn wanted(&self, request: &NewOrderRequest, tables: &Tables) -> Option<Lock>
         ensures { option_map hold_of result
             ≡ wanted (new_order_ask request.now (position_of request.now self.now)

@@ -98,8 +98,8 @@ impl Program {
         }
     }
 
-    /// Gives the lock that the next stage asks for; none where it asks for none, or stops before it:
-    /// there is no such customer.
+    /// Gives the lock that the next stage asks for; none where it asks for none, or stops before
+    /// it: there is no such customer.
     pub fn wanted(&self, request: &PaymentRequest, tables: &Tables) -> Option<Lock>
         ensures { option_map hold_of result
             ≡ wanted (payment_ask request.now self.now (rows tables.now)) }

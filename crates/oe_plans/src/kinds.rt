@@ -14,7 +14,8 @@ fn are_all(kinds: &Kinds) -> bool
     !(kinds.new_order || kinds.payment || kinds.status || kinds.delivery || kinds.level)
 }
 
-/// Gives a kind's share: what the standard has of it in a hundred, or nothing where it is not drawn.
+/// Gives a kind's share: what the standard has of it in a hundred, or nothing where it is not
+/// drawn.
 fn share(kinds: &Kinds, is_named: bool, standard: u32) -> u32
     ensures value { result ≡ share kinds.now is_named standard }
     ensures most { result ≤ standard }

@@ -1,7 +1,7 @@
 //! The rows of a file in batches: each batch gives its memory back as soon as its rows are used.
 //!
-//! While rows are gathered it is kept whether their keys ascend. Rows that ascend stand in the order
-//! of their keys, and no key stands twice among them: nobody has to look at them again.
+//! While rows are gathered it is kept whether their keys ascend. Rows that ascend stand in the
+//! order of their keys, and no key stands twice among them: nobody has to look at them again.
 ghost use Rattle.std.specs.Prelude.{◌≡◌, ◌++◌, ◌∷◌, [], length, true, IfOk, OnOk};
 ghost use Rattle.std.specs.List.{flat_map};
 ghost use Rattle.std.specs.Iterator.{YieldsFirstRef, item_count};

@@ -1,6 +1,7 @@
 //! A file's lines, found in the pieces that its reader gives, and the rows that they spell.
 //!
-//! A line that can't be read is a fault, and is passed. A line of more than 4,096 bytes is not kept.
+//! A line that can't be read is a fault, and is passed. A line of more than 4,096 bytes is not
+//! kept.
 ghost use Rattle.std.specs.Prelude.{◌≡◌, ◌≢◌, ◌<◌, ◌≤◌, ◌+◌, ◌++◌, ◌∷◌, [], ◌⊎◌, ℕ, List, length, true, false, OnOk, IfOk, IfSome, ◌^◌};
 ghost use Rattle.oe_ports.specs.Ports.{Source};
 ghost use Rattle.oe_reading.specs.declared.faults.Wrong.TheVariants as wrong;

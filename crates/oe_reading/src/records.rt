@@ -239,8 +239,8 @@ impl Record {
         }
     }
 
-    /// Reads these bytes as a record, whose line `line` gives then. `before_null` counts the columns
-    /// before the one that may be null, where one may be.
+    /// Reads these bytes as a record, whose line `line` gives then. `before_null` counts the
+    /// columns before the one that may be null, where one may be.
     pub(crate) fn read(&mut self, bytes: &[u8], before_null: Option<usize>) -> Result<(), Unread>
         ensures { Makes (line_of before_null bytes.now) self.new.line.items result }
     {

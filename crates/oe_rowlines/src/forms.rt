@@ -25,8 +25,8 @@ pub enum Form {
     NullableStamp,
 }
 
-/// Why a line is no row of its table. Columns are counted from 0 in the order in which a dump prints
-/// them.
+/// Why a line is no row of its table. Columns are counted from 0 in the order in which a dump
+/// prints them.
 #[derive(Clone, Copy)]
 pub enum LineFault {
     /// The column of that place has no value of its form; each before it has one.

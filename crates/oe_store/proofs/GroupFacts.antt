@@ -1,6 +1,8 @@
 -- The rows of a group are those whose keys lie between its first key and its last.
-use Rattle.std.proofs.Common.{◌≡◌, ℕ, ◌≤◌, ◌<◌, refl, sym, ◌∙◌, ap, Bool, true, false, cond, Option, Some, None, arith}
-use Rattle.std.specs.Prelude.{IsSome, is_some, not, ◌&&◌, filter}
+use Rattle.std.proofs.Common.{◌≡◌, ℕ, suc, ◌+◌, ◌≤◌, ◌<◌, ◌⊎◌, inl, inr, refl, sym, ◌∙◌, ap, Bool, true, false, cond}
+use Rattle.std.proofs.Common.{Option, Some, None, arith}
+use Rattle.std.proofs.lemmas.Bool.{le-leb, lt-leb}
+use Rattle.std.specs.Prelude.{IsSome, is_some, not, ◌&&◌, filter, nat_le}
 use Rattle.std.specs.Int.{IsInRange}
 use Rattle.std.specs.Ordering.{eq_by_cmp, is_eq, is_le, is_lt, nat_cmp, ordering_then}
 use Rattle.std.specs.declared.cmp.Ordering.{Ordering}
@@ -28,6 +30,7 @@ use Rattle.oe_rows.proofs.KeyFacts.{new_order_total, exact_new_order, order_tota
 use Rattle.oe_rows.proofs.KeyFacts.{exact_order_line}
 use Rattle.oe_model.specs.Keys.{warehouse_of_district, district_of_customer, district_of_new_order, district_of_order}
 use Rattle.oe_model.specs.Keys.{order_of_line}
+use Rattle.oe_model.specs.Queries.{is_recent, recent_lines}
 use Rattle.oe_store.specs.Places.{entries_of}
 
 module _ {K X : Type 0} {R : K → K → Ordering} (total : IsTotalOrder R) (exact : IsAntisymmetric R) where
@@ -205,3 +208,76 @@ lines_of_district_between m g low_0 low_1 high_0 high_1 h =
     (at_least low_1 k.number ((h k there).1).0 (nat_cmp low_1 k.number) refl)) (both_most (nat_cmp high_0 k.order)
     (nat_cmp high_1 k.number) (at_most high_0 k.order ((h k there).0).1 (nat_cmp high_0 k.order) refl)
     (at_most high_1 k.number ((h k there).1).1 (nat_cmp high_1 k.number) refl))))
+
+-- THE LINES OF RECENT ORDERS
+
+-- a district's keys between two others are those whose rest is between theirs
+within_too : (r x y : Ordering) → (is_le (ordering_then r x) && not (is_lt (ordering_then r y)))
+    ≡ (is_eq r && is_le x && not (is_lt y))
+within_too Less x y = refl
+within_too Equal x y = refl
+within_too Greater x y = refl
+
+-- an order is recent from the first recent one on
+from_first : (next first o : ℕ) → (first ≡ 1) ⊎ (first + 20 ≡ next) → next ≤ first + 20 → 1 ≤ o
+    → (r a : Ordering) → r ≡ nat_cmp first o → is_le a ≡ true → is_le (ordering_then r a) ≡ nat_le next (o + 20)
+from_first next first o least span low Less a e h =
+    let less : first < o = ranked first o Less e in
+    sym (le-leb next (o + 20) (omega (arith, less, span)))
+from_first next first o least span low Equal a e h =
+    let same : first ≡ o = ranked first o Equal e in
+    h ∙ sym (le-leb next (o + 20) (omega (arith, same, span)))
+from_first next first o least span low Greater a e h =
+    let less : o < first = ranked first o Greater e in
+    sym (lt-leb next (o + 20) (elim least [
+      | inl one ↦ absurd (let z : ⊥ = omega (arith, less, one, low) in z)
+      | inr far ↦ omega (arith, less, far)
+    ]))
+
+-- up to the one before the next
+up_to_last : (next last o : ℕ) → suc last ≡ next → (r a : Ordering) → r ≡ nat_cmp last o → is_lt a ≡ false
+    → not (is_lt (ordering_then r a)) ≡ nat_le (suc o) next
+up_to_last next last o is Less a e h =
+    let less : last < o = ranked last o Less e in
+    sym (lt-leb (suc o) next (omega (arith, less, is)))
+up_to_last next last o is Equal a e h =
+    let same : last ≡ o = ranked last o Equal e in
+    ap not h ∙ sym (le-leb (suc o) next (omega (arith, same, is)))
+up_to_last next last o is Greater a e h =
+    let less : o < last = ranked last o Greater e in
+    sym (le-leb (suc o) next (omega (arith, less, is)))
+
+pub recent_between : (m : FinMap order_line_cmp OrderLine) (g : DistrictKey) (next first last low high : ℕ)
+    → (first ≡ 1) ⊎ (first + 20 ≡ next) → next ≤ first + 20 → suc last ≡ next
+    → ((k : OrderLineKey) → IsSome (get m k) → (1 ≤ k.order) × IsInRange low high k.number)
+    → entries_between order_line_cmp
+    (Included (record { warehouse = g.warehouse; district = g.district; order = first; number = low }))
+    (Included (record { warehouse = g.warehouse; district = g.district; order = last; number = high }))
+    (entries m) ≡ recent_lines g next m
+recent_between m g next first last low high least span is h =
+    kept_alike order_line_total exact_order_line m
+    (range_contains order_line_cmp
+    (Included (record { warehouse = g.warehouse; district = g.district; order = first; number = low }))
+    (Included (record { warehouse = g.warehouse; district = g.district; order = last; number = high })))
+    (is_recent g next) agrees
+    ∙ sym (kept_alike order_line_total exact_order_line m (is_recent g next) (is_recent g next) (λ k x e. refl))
+  where
+    agrees : (k : OrderLineKey) (x : OrderLine) → get m k ≡ Some x → range_contains order_line_cmp
+        (Included (record { warehouse = g.warehouse; district = g.district; order = first; number = low }))
+        (Included (record { warehouse = g.warehouse; district = g.district; order = last; number = high })) k
+        ≡ is_recent g next k
+    agrees k x e = rw (
+      then_assoc (nat_cmp g.warehouse k.warehouse) (nat_cmp g.district k.district)
+          (ordering_then (nat_cmp first k.order) (nat_cmp low k.number)),
+      then_assoc (nat_cmp g.warehouse k.warehouse)
+          (nat_cmp g.district k.district) (ordering_then (nat_cmp last k.order) (nat_cmp high k.number)),
+    ) (
+        within_too (district_cmp g (district_of_order (order_of_line k)))
+        (ordering_then (nat_cmp first k.order) (nat_cmp low k.number))
+        (ordering_then (nat_cmp last k.order) (nat_cmp high k.number))
+        ∙ (λ i. (eq_by_cmp_equiv district_total).symm g (district_of_order (order_of_line k)) i
+        && from_first next first k.order least span (h k (ap is_some e)).0 (nat_cmp first k.order)
+        (nat_cmp low k.number) refl (at_least low k.number ((h k (ap is_some e)).1).0 (nat_cmp low k.number) refl) i
+        && up_to_last next last k.order is (nat_cmp last k.order) (nat_cmp high k.number) refl
+        (at_most high k.number ((h k (ap is_some e)).1).1 (nat_cmp high k.number) refl) i)
+        )

@@ -17,8 +17,8 @@ impl Tables {
         self.new_orders.give_up(&key);
     }
 
-    /// Takes a customer off the list of a C_LAST, where its own C_LAST has another list. It takes no
-    /// memory.
+    /// Takes a customer off the list of a C_LAST, where its own C_LAST has another list. It takes
+    /// no memory.
     pub fn forget_name(&mut self, key: &CustomerKey, last: &Text<0, 16>)
         ensures { self.new ≡ self.old }
     {

@@ -1,7 +1,8 @@
 //! Walks over the tables in the keys' order, whole or of one parent's rows. They take no memory.
-ghost use Rattle.std.specs.Prelude.{◌≡◌, ◌≤◌};
+ghost use Rattle.std.specs.Prelude.{◌≡◌, ◌+◌, ◌<◌, ◌≤◌, ◌⊎◌, suc};
 ghost use Rattle.std.specs.FinMap.{entries};
 ghost use Rattle.oe_model.specs.Keys.{warehouse_of_district, district_of_customer, district_of_new_order, district_of_order, order_of_line};
+ghost use Rattle.oe_model.specs.Queries.{recent_lines};
 ghost use Rattle.oe_rows.specs.Key.{warehouse_cmp, district_cmp, order_cmp};
 ghost use Rattle.oe_store.specs.Places.{rows, entries_of};
 
@@ -12,7 +13,7 @@ use oe_rows::{
     WarehouseKey,
 };
 use oe_table::shelf_walks::Rows;
-use oe_values::Number;
+use oe_values::{Number, OrderNumber};
 
 /// Gives the least number of a range.
 fn least<const LOW: u32, const HIGH: u32>() -> Number<LOW, HIGH>
@@ -31,6 +32,30 @@ fn greatest<const LOW: u32, const HIGH: u32>() -> Number<LOW, HIGH>
     ensures { result ≡ HIGH }
 {
     match Number::new(HIGH) {
+        Some(number) => number,
+        None => unreachable!(),
+    }
+}
+
+/// Gives the first of the last 20 orders before one.
+fn first_recent(next: OrderNumber) -> OrderNumber
+    ensures least { (result ≡ 1) ⊎ (result + 20 ≡ next) }
+    ensures span { next ≤ result + 20 }
+{
+    let next = next.get();
+    let first = if next <= 20 { 1 } else { next - 20 };
+    match OrderNumber::new(first) {
+        Some(number) => number,
+        None => unreachable!(),
+    }
+}
+
+/// Gives the order before one that is not the first.
+fn order_before(next: OrderNumber) -> OrderNumber
+    requires { 1 < next }
+    ensures { suc result ≡ next }
+{
+    match OrderNumber::new(next.get() - 1) {
         Some(number) => number,
         None => unreachable!(),
     }
@@ -182,6 +207,29 @@ impl Tables {
             ..first
         };
         self.order_lines.range_inclusive(first, last)
+    }
+
+    /// Gives the ORDER-LINE rows of a district's last 20 orders before one, in the keys' order.
+    pub fn recent_lines(
+        &self,
+        district: DistrictKey,
+        next: OrderNumber,
+    ) -> Rows<'_, OrderLineKey, OrderLine>
+        requires { 1 < next }
+        ensures { result ≡ recent_lines district next (rows self.now).order_lines }
+    {
+        let from = OrderLineKey {
+            warehouse: district.warehouse,
+            district: district.district,
+            order: first_recent(next),
+            number: least(),
+        };
+        let to = OrderLineKey {
+            order: order_before(next),
+            number: greatest(),
+            ..from
+        };
+        self.order_lines.range_inclusive(from, to)
     }
 
     /// Gives the ORDER-LINE rows of a district, in the keys' order.

@@ -227,17 +227,28 @@ impl<K: ShelvedKey, R> Shelf<K, R> {
         }
     }
 
+    // The index of a key that stands where the hint says.
+    #[inline(always)]
+    fn hinted(&self, key: &K) -> Option<usize>
+        ensures { IfSome result (StandsAt K.cmp self.now key.now) }
+    {
+        let hint = self.hint(key);
+        if self.stands_at(hint, key) {
+            return Some(hint);
+        }
+        None
+    }
+
     // Finds where a key stands, or would stand.
     #[inline(always)]
     fn find(&self, key: &K) -> Result<usize, usize>
         requires { IsAscending K.cmp self.now }
         ensures { IsFound K.cmp self.now key.now result }
     {
-        let hint = self.hint(key);
-        if self.stands_at(hint, key) {
-            return Ok(hint);
+        match self.hinted(key) {
+            Some(at) => Ok(at),
+            None => self.find_elsewhere(key),
         }
-        self.find_elsewhere(key)
     }
 
     // Finds where a key stands, or would stand, whatever the hint.
@@ -333,12 +344,25 @@ impl<K: ShelvedKey, R> Shelf<K, R> {
         }
     }
 
+    // Finds where a key stands, or would stand, as an end of a range: no slot that was lent is
+    // near it more often than another.
+    #[inline(always)]
+    fn find_end(&self, key: &K) -> Result<usize, usize>
+        requires { IsAscending K.cmp self.now }
+        ensures { IsFound K.cmp self.now key.now result }
+    {
+        match self.hinted(key) {
+            Some(at) => Ok(at),
+            None => self.find_by_place(key),
+        }
+    }
+
     /// Tells how many keys are less than a key.
     pub(crate) fn lower(&self, key: &K) -> usize
         requires { IsAscending K.cmp self.now }
         ensures { result ≡ lower K.cmp self.now key.now }
     {
-        match self.find(key) {
+        match self.find_end(key) {
             Ok(at) => at,
             Err(at) => at,
         }
@@ -350,7 +374,7 @@ impl<K: ShelvedKey, R> Shelf<K, R> {
         ensures { result ≡ upper K.cmp self.now key.now }
     {
         let _known = self.slots().len();
-        match self.find(key) {
+        match self.find_end(key) {
             Ok(at) => at + 1,
             Err(at) => at,
         }

@@ -34,8 +34,8 @@ pub enum Task<'a> {
     },
     /// To run terminals in threads of their own.
     Drive(DriveNumbers),
-    /// To audit the tables in the files of a directory, which are dumps or comma-separated values, and
-    /// to show the first findings of each condition, or all.
+    /// To audit the tables in the files of a directory, which are dumps or comma-separated values,
+    /// and to show the first findings of each condition, or all.
     Audit {
         directory: &'a str,
         first: Option<u32>,

@@ -24,8 +24,8 @@ pub struct Link {
 }
 
 impl Holder {
-    /// Tells whether a record of this holder is put back on the way to the moment: it is open, or of
-    /// a later commit.
+    /// Tells whether a record of this holder is put back on the way to the moment: it is open, or
+    /// of a later commit.
     pub fn is_later(&self, moment: Moment) -> bool
         ensures { result ≡ is_later moment self.now }
     {

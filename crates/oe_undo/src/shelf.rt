@@ -45,6 +45,14 @@ fn extend<T: Copy>(met: &mut Vec<Option<T>>, number: usize)
     };
 }
 
+// For how many more places memory is taken with the first ones, so that those that follow soon want
+// no more, and none is moved.
+fn spare(count: usize, number: usize) -> usize
+    ensures { result ≤ number }
+{
+    if count == 0 { number / 2 } else { 0 }
+}
+
 // Meets the place of that number, for which there is room.
 #[inline(always)]
 fn meet<T: Copy>(met: &mut Vec<Option<T>>, number: usize)
@@ -111,7 +119,7 @@ impl<T> PlaceShelf<T> {
         if number < self.count {
             return Ok(());
         }
-        let more = number + 1 - self.met.len();
+        let more = number + 1 - self.met.len() + spare(self.count, number);
         if let Err(_refused) = self.met.reserve(more) {
             return Err(NoMemory);
         }

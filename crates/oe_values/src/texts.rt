@@ -136,8 +136,8 @@ impl<const LEAST: usize, const MOST: usize> Text<LEAST, MOST> {
     }
 }
 
-/// A text of at most 16 printable ASCII bytes, which is copied as a number is: C_LAST in the name of
-/// a lock. No byte but zeros stands behind it, so that equal texts are the same value.
+/// A text of at most 16 printable ASCII bytes, which is copied as a number is: C_LAST in the name
+/// of a lock. No byte but zeros stands behind it, so that equal texts are the same value.
 #[derive(Clone, Copy)]
 pub struct ShortText {
     bytes: [u8; 16],

@@ -1,5 +1,5 @@
-//! What the definitions of this crate promise. Each public function has an empty body and carries one
-//! law.
+//! What the definitions of this crate promise. Each public function has an empty body and carries
+//! one law.
 ghost use Rattle.oe_waits.specs.Waits.{Someone_goes_on, Waiting_is_busy, Waits_are_chains};
 
 /// A terminal waits exactly where its next Advance may be answered `Busy`.
@@ -13,8 +13,8 @@ pub fn waits_are_chains()
     ensures { Waits_are_chains }
 {}
 
-/// Where something is open and there is no cycle of waits, some open transaction's next stage is not
-/// `Busy`.
+/// Where something is open and there is no cycle of waits, some open transaction's next stage is
+/// not `Busy`.
 pub fn someone_goes_on()
     ensures { Someone_goes_on }
 {}

@@ -20,8 +20,8 @@ fn conflicts(asked: Mode, held: Option<Mode>) -> bool
     }
 }
 
-/// Tells whether a terminal waits for another one: its transaction's next stage asks for a name that
-/// the other's transaction holds in a mode that conflicts.
+/// Tells whether a terminal waits for another one: its transaction's next stage asks for a name
+/// that the other's transaction holds in a mode that conflicts.
 pub fn waits_for(core: &Core, terminal: Terminal, other: Terminal) -> bool
     ensures { result ≡ waits_for (world_of core.now) terminal other }
 {

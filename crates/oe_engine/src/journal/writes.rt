@@ -146,8 +146,8 @@ fn push<W: OneWrite>(
     }
 }
 
-/// Appends the record of a write, which is lent, to an open segment, with its key's link; refused as
-/// `push`.
+/// Appends the record of a write, which is lent, to an open segment, with its key's link; refused
+/// as `push`.
 #[inline(always)]
 fn push_lent<W: OneWrite>(
     tables: &Tables,

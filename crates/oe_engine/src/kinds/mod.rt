@@ -1,6 +1,6 @@
 //! Writes to one row, each kind a type of its own, so that nothing of it is asked for at run time:
-//! neither its row and lock, nor how it is recorded and made. Nothing is kept here; only `set` takes
-//! memory, and may be refused it.
+//! neither its row and lock, nor how it is recorded and made. Nothing is kept here; only `set`
+//! takes memory, and may be refused it.
 ghost use Rattle.std.specs.Prelude.{◌≡◌, IsSome, option_map, IfErr, OnOk, OnErr};
 ghost use Rattle.oe_rows.specs.declared.layouts.Layout.{Layout};
 ghost use Rattle.oe_change.specs.declared.writes.Write.{Write};
@@ -38,8 +38,9 @@ pub trait OneWrite {
     fn is_rename(&self) -> bool
         ensures { result ≡ is_rename (write self.now) };
 
-    /// Gives its record to rows as they stand, in a layout; none exactly where the row to be updated
-    /// is absent. Its row is lent from where it lies, or the columns that an update changes.
+    /// Gives its record to rows as they stand, in a layout; none exactly where the row to be
+    /// updated is absent. Its row is lent from where it lies, or the columns that an update
+    /// changes.
     fn lend<'a>(&'a self, tables: &'a Tables, layout: Layout) -> Option<LentRecord<'a>>
         ensures { option_map record_of_lent result
             ≡ record_of_write layout (write self.now) (rows tables.now) };

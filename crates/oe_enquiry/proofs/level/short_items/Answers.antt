@@ -1,30 +1,37 @@
-use Rattle.std.proofs.Common.{arith, subst}
+use Rattle.std.proofs.Common.{sym, ap, ◌∙◌, subst, []}
+use Rattle.oe_versions.specs.Versions.{rows_of}
+use Rattle.oe_model.specs.Queries.{recent_lines}
 use Rattle.oe_store.specs.Numbered.{AreNumbered}
 use Rattle.oe_store.specs.Places.{rows}
-use Rattle.oe_enquiry.proofs.LastFacts.{low_items}
-use Rattle.oe_enquiry.proofs.ShortFacts.{starts, in_range, has_room, goes_on}
+use Rattle.oe_enquiry.specs.Level.{is_short}
+use Rattle.oe_enquiry.proofs.RecentFacts.{Lists, lists_all, all_listed, numbers_past}
+use Rattle.oe_enquiry.proofs.LevelFacts.{are_low, none_low}
 use Rattle.oe_enquiry.proofs.level.short_items.Goals as goal
 
-pub loop-number-init : goal.loop-number-init
-loop-number-init c =
-    starts _ _ _ _ c.first_recent-first.result c.new-items.result c.first_recent-first.ensures.least
-    c.first_recent-first.ensures.span c.first_recent-first.ensures.all c.new-items.ensures
+pub returns-then-get-eq1 : goal.returns-then-get-eq1
+returns-then-get-eq1 c =
+    let v = c.args.version.now in
+    none_low c.args.query.now (rows_of v) c.args.next c.new-items.result (sym c.get.ensures.value ∙ c.if-get-eq1.true)
+    (numbers_past v.tables v.log v.moment c.requires
+    (subst (λ ts. AreNumbered (rows ts)) c.tables.ensures c.numbers_hold.ensures))
+    c.new-items.ensures
 
-pub order_number-requires : goal.order_number-requires
-order_number-requires c = in_range _ _ _ _ c.loop-number.number c.loop-number.items (omega arith) (omega arith)
-    c.loop-number.invariant
-
-pub list_order-requires-clause-room : goal.list_order-requires-clause-room
-list_order-requires-clause-room c = has_room _ _ _ _ c.loop-number.number c.loop-number.items (omega arith)
-    c.loop-number.invariant
-
-pub loop-number-preserved : goal.loop-number-preserved
-loop-number-preserved c =
-    goes_on _ _ _ _ c.loop-number.number c.order_number.result c.loop-number.items _ (omega arith)
-    c.order_number.ensures c.loop-number.invariant c.list_order.ensures.items c.list_order.ensures.few
+pub loop-key-init : goal.loop-key-init
+loop-key-init c =
+    let v = c.args.version.now in
+    let q = c.args.query.now in
+    subst (λ is. Lists v.tables v.log v.moment (is_short q (rows_of v)) q.district c.args.next is
+    c.into_iter-key-iterator.result) (sym c.new-items.ensures)
+    (subst (λ es. Lists v.tables v.log v.moment (is_short q (rows_of v)) q.district c.args.next [] es)
+    (sym (c.into_iter-key-iterator.ensures.into_iter_gives ∙ c.recent_lines-key-items.ensures
+    ∙ ap (λ ts. recent_lines q.district c.args.next (rows ts).order_lines) c.tables-2.ensures))
+    (lists_all v.tables v.log v.moment (is_short q (rows_of v)) q.district c.args.next c.requires
+    (subst (λ ts. AreNumbered (rows ts)) c.tables.ensures c.numbers_hold.ensures)))
 
 pub returns : goal.returns
 returns c =
-    low_items c.args.version.now.tables c.args.version.now.log c.args.version.now.moment c.args.query.now c.args.next
-    c.loop-number.number c.loop-number.items c.requires
-    (subst (λ ts. AreNumbered (rows ts)) c.tables.ensures c.numbers_hold.ensures) (omega arith) c.loop-number.invariant
+    let v = c.args.version.now in
+    let q = c.args.query.now in
+    are_low q (rows_of v) c.args.next c.loop-key.items
+    (all_listed v.tables v.log v.moment (is_short q (rows_of v)) q.district c.args.next c.loop-key.items
+    c.loop-key.key-iterator c.in-None.ensures.steps.0 c.loop-key.invariant)
