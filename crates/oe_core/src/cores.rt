@@ -57,8 +57,8 @@ impl Model for Core {
 }
 
 impl Core {
-    /// Opens a core on a population, with that number of undo extents and records of that layout. `NoMemory` where memory was
-    /// refused.
+    /// Opens a core on a population, with that number of undo extents and records of that layout.
+    /// `NoMemory` where memory was refused.
     pub fn open(
         alloc: Global,
         tables: Tables,
@@ -434,7 +434,7 @@ fn keeps_open(refusal: &Refusal) -> bool
     )
 }
 
-/// Commits a transaction of the engine whose program is at its end, and answers the moment that it made.
+/// Commits a transaction of the engine whose program is at its end, and answers its moment.
 #[inline]
 fn commit(engine: &mut Engine, tx: Tx, work: &Work) -> Moment
     requires open { IsOpen engine.old tx }

@@ -125,8 +125,9 @@ fn is_below(mode: Option<Mode>, held: Option<Mode>) -> bool
 
 impl Engine {
     /// Opens an engine on tables where nothing has begun or committed, with undo records of that
-    /// layout; its name tells its transactions from other engines'. A key without a row has no place any more, and each key of
-    /// the tables that are changed gets a place for its link. `NoMemory` where memory was refused.
+    /// layout; its name tells its transactions from other engines'. A key without a row has no
+    /// place any more, and each key of the tables that are changed gets a place for its link.
+    /// `NoMemory` where memory was refused.
     pub fn open(
         alloc: Global,
         mut tables: Tables,
@@ -392,8 +393,8 @@ impl Engine {
         Ok(moment)
     }
 
-    /// Rolls a transaction back: all that it has changed is forgotten. It takes no memory. A transaction that is not open in this
-    /// engine is handed back, and nothing has changed.
+    /// Rolls a transaction back: all that it has changed is forgotten. It takes no memory. A
+    /// transaction that is not open in this engine is handed back, and nothing has changed.
     pub fn rollback(&mut self, tx: Tx) -> Result<(), Tx>
         ensures open { OnOk result (IsOpen self.old tx) }
         ensures rolled_back { OnOk result

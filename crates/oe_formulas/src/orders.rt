@@ -1,12 +1,12 @@
 //! The rows after a new order (clause 2.4.2.2), and the columns that it sets.
-ghost use Rattle.std.specs.Prelude.{◌≡◌, ◌==◌, ◌≤◌, ◌+◌, ◌-◌, ◌*◌, cond, nat_le, ◌↔◌, ℕ, ◌<◌, length, drop, codes, IsSome, IfSome};
+ghost use Rattle.std.specs.Prelude.{◌≡◌, ◌==◌, ◌≤◌, ◌+◌, ◌-◌, ◌*◌, cond, nat_le, ◌↔◌, ℕ, length, IsSome, IfSome};
 ghost use Rattle.std.specs.List.{list_all};
 ghost use Rattle.oe_rows.specs.Item.{with_counters};
 ghost use Rattle.oe_requests.specs.declared.replies.Reply.{Reply};
 ghost use Rattle.oe_requests.specs.Reply.{told_reply};
 ghost use Rattle.oe_formulas.specs.Orders.{with_quantity, seen_by};
 ghost use Rattle.oe_formulas.specs.Checks.{checked, row_with, with_next_order};
-ghost use Rattle.oe_model.specs.NewOrder.{supplied, stock_of, stock_out, begins_with, occurs_in, brand, fill, order_row, with_next, next_out, seen, ordered_reply};
+ghost use Rattle.oe_model.specs.NewOrder.{supplied, stock_of, stock_out, brand, fill, order_row, with_next, next_out, seen, ordered_reply};
 
 use oe_requests::{Brand, Column, LineReplies, LineReply, NewOrderRequest, ReplyRef, RequestLine};
 use oe_rows::{
@@ -134,41 +134,11 @@ pub fn counters_after_line(
     })
 }
 
-/// Tells whether a text begins with `ORIGINAL`.
-#[inline(always)]
-fn begins_original(text: &[u8]) -> bool
-    ensures { result ≡ begins_with (codes "ORIGINAL") text.now }
-{
-    matches!(text, [b'O', b'R', b'I', b'G', b'I', b'N', b'A', b'L', ..])
-}
-
-/// Tells whether `ORIGINAL` stands at an offset of a text. Most offsets differ in the first letter.
-#[inline(always)]
-fn stands_at(text: &[u8], start: usize) -> bool
-    requires { start < length text.now }
-    ensures { result ≡ begins_with (codes "ORIGINAL") (drop start text.now) }
-{
-    text[start] == b'O' && begins_original(&text[start..])
-}
-
-/// Tells whether a text has `ORIGINAL` in it.
-fn is_original(text: &str) -> bool
-    ensures { result ≡ occurs_in (codes "ORIGINAL") text.now }
-{
-    let bytes = text.as_bytes();
-    for start in 0..bytes.len().saturating_sub(7) {
-        if stands_at(bytes, start) {
-            return true;
-        }
-    }
-    false
-}
-
 /// Tells whether an item and its stock are both original.
 pub fn brand(item: &Item, stock: &Stock) -> Brand
     ensures { result ≡ brand item.now stock.now }
 {
-    if is_original(item.data.as_str()) && is_original(stock.data.as_str()) {
+    if item.data.is_original() && stock.data.is_original() {
         Brand::Original
     } else {
         Brand::Generic

@@ -6,6 +6,7 @@ ghost use Rattle.oe_fronts.specs.RowFronts.{item_at, stock_at};
 
 use crate::fronts::{read_amount, read_ranged, read_text};
 use oe_rows::items::{Item, Stock};
+use oe_values::BrandText;
 use oe_values::texts::Text;
 
 /// Reads S_DIST_01 to S_DIST_10.
@@ -67,7 +68,7 @@ pub fn read_item(bytes: &[u8]) -> Option<(Item, &[u8])>
         image,
         name,
         price,
-        data,
+        data: BrandText::of(data),
     };
     Some((item, rest))
 }
@@ -104,7 +105,7 @@ pub fn read_stock(bytes: &[u8]) -> Option<(Stock, &[u8])>
             ytd,
             order_count,
             remote_count,
-            data,
+            data: BrandText::of(data),
         },
         rest,
     ))

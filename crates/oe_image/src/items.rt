@@ -38,14 +38,14 @@ impl Imaged for Item {
     #[inline]
     #[tactic(auto, unfolding(crate::specs::Rows::item))]
     fn length(&self) -> usize {
-        let sold = (self.price.cents(), &self.data);
+        let sold = (self.price.cents(), self.data.as_text());
         (self.image.get(), (&self.name, sold)).length()
     }
 
     #[inline]
     #[tactic(auto, unfolding(crate::specs::Rows::item))]
     fn write(&self, bytes: &mut [u8], start: usize) -> usize {
-        let sold = (self.price.cents(), &self.data);
+        let sold = (self.price.cents(), self.data.as_text());
         (self.image.get(), (&self.name, sold)).write(bytes, start)
     }
 }
@@ -60,7 +60,7 @@ impl Imaged for Stock {
     fn length(&self) -> usize {
         let counts = (
             self.order_count.get() as u16,
-            (self.remote_count.get() as u16, &self.data),
+            (self.remote_count.get() as u16, self.data.as_text()),
         );
         let rest = (&self.dist_info, (self.ytd.get(), counts));
         (self.quantity.get() as u16, rest).length()
@@ -71,7 +71,7 @@ impl Imaged for Stock {
     fn write(&self, bytes: &mut [u8], start: usize) -> usize {
         let counts = (
             self.order_count.get() as u16,
-            (self.remote_count.get() as u16, &self.data),
+            (self.remote_count.get() as u16, self.data.as_text()),
         );
         let rest = (&self.dist_info, (self.ytd.get(), counts));
         (self.quantity.get() as u16, rest).write(bytes, start)

@@ -82,6 +82,14 @@ impl Customers {
         self.rows.get(key)
     }
 
+    /// Takes memory for so many customers more in the district of a key. It changes nothing, also
+    /// where memory is refused.
+    pub fn reserve(&mut self, key: &CustomerKey, more: usize) -> Result<(), NoMemory>
+        ensures { self.new ≡ self.old }
+    {
+        self.rows.reserve(key, more)
+    }
+
     /// Puts a row at a key that has none. `NoMemory` comes where there was none for the key's place
     /// or for its list; the table is then as before, and the row is dropped.
     pub fn put_new(&mut self, key: CustomerKey, row: Customer) -> Result<(), NoMemory>

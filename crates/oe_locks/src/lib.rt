@@ -51,7 +51,7 @@ impl Model for Locks {
     ghost invariant = { λ s. AreListed s.holders s.names };
 }
 
-// The terminal is no longer among those who hold the name. A name that nobody holds is no longer kept.
+// Takes a terminal from the holders of a name. A name that nobody holds is no longer kept.
 #[inline]
 fn depart(holders: &mut NameMap, name: &Name, before: &Holders, terminal: Terminal)
     requires { lookup (ghosts.eq name.now) holders.old ≡ Some before.now }

@@ -4,12 +4,14 @@
 //! Only `insert` takes memory, and only it can fail.
 ghost use Rattle.std.specs.Prelude.{◌≡◌, ◌<◌, ◌+◌, [], length, take, IfSome, IfNone, IsSome, None, Some, OnOk, OnErr, true, false};
 ghost use Rattle.std.specs.Map.{lookup};
+ghost use Rattle.oe_rows.specs.declared.locks.Name.{Name};
+ghost use Rattle.oe_rows.specs.declared.locks.Name.TheVariants.{Stock};
 ghost use Rattle.oe_rows.specs.contracts.locks.NamePartialEq.TheImpl.{ghosts};
 ghost use Rattle.oe_locks.specs.declared.holders.Holders.TheVariants.{Alone};
 ghost use Rattle.oe_locks.specs.Names.{Changes, AreOnce};
 
 use crate::holders::Holders;
-use oe_rows::Name;
+use oe_rows::{Name, StockKey};
 use oe_values::Terminal;
 use std::alloc::{AllocError, Global};
 use std::collections::HashMap;
@@ -56,20 +58,63 @@ fn is_one(name: &Name, other: &Name) -> bool
     }
 }
 
+/// A name that is looked for, or the key that the name has.
+trait Sought {
+    ghost name_of: { Self → Name };
+
+    /// Tells whether that is the name.
+    fn is(&self, name: &Name) -> bool
+        ensures { result ≡ ghosts.eq (name_of self.now) name.now };
+}
+
+impl Sought for Name {
+    ghost name_of = { λ n. n };
+
+    #[inline(always)]
+    fn is(&self, name: &Name) -> bool {
+        is_one(self, name)
+    }
+}
+
+// An order holds more stocks than other names, and each is looked for among those before it.
+impl Sought for StockKey {
+    ghost name_of = { λ k. Stock k };
+
+    #[inline(always)]
+    fn is(&self, name: &Name) -> bool {
+        match name {
+            Name::Stock(other) => self.item == other.item && self.warehouse == other.warehouse,
+            _ => false,
+        }
+    }
+}
+
 // The holders of the entry with the name. The newest are looked at first: they are asked for again.
 #[inline(always)]
-fn listed(entries: &[(Name, Holders)], name: &Name) -> Option<Holders>
+fn listed<S: Sought>(entries: &[(Name, Holders)], sought: &S) -> Option<Holders>
     requires { AreOnce entries.now }
-    ensures { result ≡ lookup (ghosts.eq name.now) entries.now }
+    ensures { result ≡ lookup (ghosts.eq (S.name_of sought.now)) entries.now }
 {
     let mut left = entries.len();
     while left > 0 {
         left -= 1;
-        if is_one(name, &entries[left].0) {
+        if sought.is(&entries[left].0) {
             return Some(entries[left].1);
         }
     }
     None
+}
+
+// The holders of the entry with the name. A stock's is looked for by its key, which is quicker.
+#[inline(always)]
+fn listed_by_key(entries: &[(Name, Holders)], name: &Name) -> Option<Holders>
+    requires { AreOnce entries.now }
+    ensures { result ≡ lookup (ghosts.eq name.now) entries.now }
+{
+    match name {
+        Name::Stock(key) => listed(entries, key),
+        _ => listed(entries, name),
+    }
 }
 
 // The holders of the map's entry with the name.
@@ -216,7 +261,7 @@ impl NameMap {
     pub(crate) fn get(&self, name: &Name) -> Option<Holders>
         ensures { result ≡ lookup (ghosts.eq name.now) self.now }
     {
-        match listed(&self.few, name) {
+        match listed_by_key(&self.few, name) {
             Some(holders) => Some(holders),
             None => mapped(&self.rest, name),
         }

@@ -13,7 +13,8 @@ use Rattle.oe_rows.specs.declared.items.Stock.{Stock}
 use Rattle.oe_requests.specs.declared.requests.PaymentRequest.{PaymentRequest}
 use Rattle.oe_model.specs.Keys.{customer_in}
 use Rattle.oe_model.specs.Payment.{paid_data}
-use Rattle.oe_model.specs.NewOrder.{supplied, asked, begins_with, occurs_in}
+use Rattle.oe_values.specs.Text.{begins_with, occurs_in}
+use Rattle.oe_model.specs.NewOrder.{supplied, asked}
 use Rattle.oe_model.specs.Rules.{Payment_is_exact, IsSupplied, AreSmall, Stock_is_exact, Text_occurs}
 
 -- what a cut of 500 leaves

@@ -5,6 +5,7 @@ use Rattle.std.specs.List.{list_all}
 use Rattle.std.specs.Ordering.{eq_by_cmp}
 use Rattle.std.specs.FinMap.{FinMap, get, insert}
 use Rattle.oe_theory.specs.Machine.{Shared, Exclusive, Ask, Stop, Plain, Take, Go, Ready, Hold}
+use Rattle.oe_values.specs.Text.{occurs_in}
 use Rattle.oe_rows.specs.Credit.{order_total}
 use Rattle.oe_rows.specs.Key.{item_cmp, stock_cmp}
 use Rattle.oe_rows.specs.declared.keys.OrderKey.{OrderKey}
@@ -75,16 +76,6 @@ stock_out x =
 -- the item of this number; one past I_ID's range is unused (clause 2.4.1.5)
 abbrev pub item_at : ℕ → FinMap item_cmp Item → Option Item
 item_at n items = cond (nat_le n 100000) (get items (record { item = n })) None
-
--- the first text stands in the second
-abbrev pub begins_with : List ℕ → List ℕ → Bool
-begins_with [] ys = true
-begins_with (x ∷ xs) [] = false
-begins_with (x ∷ xs) (y ∷ ys) = (x == y) && begins_with xs ys
-
-abbrev pub occurs_in : List ℕ → List ℕ → Bool
-occurs_in xs [] = begins_with xs []
-occurs_in xs (y ∷ ys) = begins_with xs (y ∷ ys) || occurs_in xs ys
 
 -- B where I_DATA and S_DATA both have ORIGINAL, else G (clause 2.4.2.2)
 abbrev pub brand : Item → Stock → Brand

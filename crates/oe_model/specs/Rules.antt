@@ -35,7 +35,8 @@ use Rattle.oe_model.specs.Lists.{IsAmong, IsDistinct}
 use Rattle.oe_model.specs.Locks.{mode_of, conflict}
 use Rattle.oe_model.specs.Choice.{namesakes, comes_before, middle, chosen}
 use Rattle.oe_model.specs.Payment.{paid_warehouse, paid_district, paid_customer}
-use Rattle.oe_model.specs.NewOrder.{supplied, asked, after_lines, occurs_in, order_row}
+use Rattle.oe_values.specs.Text.{occurs_in}
+use Rattle.oe_model.specs.NewOrder.{supplied, asked, after_lines, order_row}
 use Rattle.oe_model.specs.Delivery.{oldest, delivered_to, dated, delivery_effect}
 use Rattle.oe_model.specs.Rename.{renamed, rename_effect}
 use Rattle.oe_model.specs.Queries.{last_order, stock_level}

@@ -3,6 +3,7 @@ use oe_layout::{Previous, RecordAddress};
 use oe_rows::{
     Address, DistrictKey, NewOrderKey, Order, OrderKey, Stock, StockKey, Warehouse, WarehouseKey,
 };
+use oe_values::BrandText;
 use oe_values::numbers::{Amount, Moment, Number};
 use oe_values::stamps::Stamp;
 use oe_values::texts::Text;
@@ -101,7 +102,7 @@ pub(crate) fn stock() -> Option<Stock> {
         ytd: Number::new(10)?,
         order_count: Number::new(1)?,
         remote_count: Number::new(0)?,
-        data: Text::read("STOCKDATA-000001")?,
+        data: BrandText::of(Text::read("STOCKDATA-000001")?),
     })
 }
 

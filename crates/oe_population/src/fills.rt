@@ -22,6 +22,10 @@ use oe_table::shelves::Shelves;
 use oe_values::{CustomerNumber, NoMemory, WarehouseNumber};
 use std::alloc::Global;
 
+/// How many lines an order has at most. Memory for as many is taken, so that the first orders
+/// behind the population want none.
+const MOST_LINES: usize = 15;
+
 /// Makes the warehouses.
 pub(crate) fn warehouses(
     alloc: Global,
@@ -80,11 +84,16 @@ fn fill_customers(
         (Fills (customers_in district scale.now) (λ k. customer_of k.customer)
         (rows_of customer_cmp table.old) (rows_of customer_cmp table.new)) }
 {
+    let first = CustomerKey {
+        warehouse: district.warehouse,
+        district: district.district,
+        customer: number(1),
+    };
+    table.reserve(&first, scale.customers.get() as usize)?;
     for before in 0..scale.customers.get() {
         let key = CustomerKey {
-            warehouse: district.warehouse,
-            district: district.district,
             customer: number(before + 1),
+            ..first
         };
         table.put_new(key, customer_row(key.customer))?;
     }
@@ -266,6 +275,13 @@ fn fill_lines(
         (Fills (lines_in district scale.now) (line_of scale.now) (rows_of order_line_cmp table.old)
         (rows_of order_line_cmp table.new)) }
 {
+    let first = OrderLineKey {
+        warehouse: district.warehouse,
+        district: district.district,
+        order: number(1),
+        number: number(1),
+    };
+    table.reserve(&first, MOST_LINES * scale.customers.get() as usize)?;
     for before in 0..scale.customers.get() {
         let order = OrderKey {
             warehouse: district.warehouse,

@@ -9,7 +9,8 @@ use oe_rows::{
     Item, Order, OrderLine, OrderLineKey, Scale, Stock, StockKey, Warehouse,
 };
 use oe_values::{
-    Balance, CustomerNumber, DistrictNumber, ItemNumber, LineCount, Stamp, WarehouseNumber,
+    Balance, BrandText, CustomerNumber, DistrictNumber, ItemNumber, LineCount, Stamp,
+    WarehouseNumber,
 };
 
 /// Gives the stamp of all rows: 2000-01-01T00:00:00.
@@ -202,7 +203,7 @@ pub(crate) fn item_row(item: ItemNumber) -> Item
         image: number(1 + i % 10_000),
         name: numbered("ITEM", i, 6),
         price: amount(u64::from(100 + 37 * i % 9_901)),
-        data: numbered(label, i, 6),
+        data: BrandText::of(numbered(label, i, 6)),
     }
 }
 
@@ -233,6 +234,6 @@ pub(crate) fn stock_row(key: &StockKey) -> Stock
         ytd: number(0),
         order_count: number(0),
         remote_count: number(0),
-        data: numbered(label, i, 6),
+        data: BrandText::of(numbered(label, i, 6)),
     }
 }

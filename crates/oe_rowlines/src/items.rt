@@ -7,7 +7,7 @@ ghost use Rattle.oe_rowlines.specs.Rows.{ten_forms, item_forms, item_values, sto
 use crate::fields::Fields;
 use crate::forms::LineFault;
 use oe_rows::{Item, ItemKey, Stock, StockKey};
-use oe_values::Text;
+use oe_values::{BrandText, Text};
 
 /// Reads all columns of an ITEM row.
 fn item(fields: &mut Fields<'_>) -> Result<(ItemKey, Item), LineFault>
@@ -23,7 +23,7 @@ fn item(fields: &mut Fields<'_>) -> Result<(ItemKey, Item), LineFault>
         image,
         name,
         price,
-        data,
+        data: BrandText::of(data),
     };
     Ok((ItemKey { item }, row))
 }
@@ -67,7 +67,7 @@ fn stock(fields: &mut Fields<'_>) -> Result<(StockKey, Stock), LineFault>
         ytd,
         order_count,
         remote_count,
-        data,
+        data: BrandText::of(data),
     };
     Ok((StockKey { warehouse, item }, row))
 }

@@ -263,7 +263,7 @@ impl StockBefore {
             ytd: number_before(before.ytd, after.ytd),
             order_count: number_before(before.order_count, after.order_count),
             remote_count: number_before(before.remote_count, after.remote_count),
-            data: text_before(&before.data, &after.data),
+            data: text_before(before.data.as_text(), after.data.as_text()),
         }
     }
 }

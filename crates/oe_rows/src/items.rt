@@ -5,6 +5,7 @@ ghost use Rattle.std.specs.Prelude.{◌≡◌, ◌↔◌, ◌-◌, length, map, 
 ghost use Rattle.std.specs.List.{All};
 ghost use Rattle.oe_values.specs.Text.{IsText};
 
+use oe_values::BrandText;
 use oe_values::numbers::{Count, DistrictNumber, ImageNumber, Price, StockYtd};
 use oe_values::texts::Text;
 
@@ -14,7 +15,7 @@ pub struct Item {
     pub image: ImageNumber,
     pub name: Text<0, 24>,
     pub price: Price,
-    pub data: Text<0, 50>,
+    pub data: BrandText,
 }
 
 /// A STOCK row without its key (clause 1.3.1). `dist_info` has S_DIST_01 to S_DIST_10.
@@ -25,7 +26,7 @@ pub struct Stock {
     pub ytd: StockYtd,
     pub order_count: Count,
     pub remote_count: Count,
-    pub data: Text<0, 50>,
+    pub data: BrandText,
 }
 
 /// The columns of a STOCK row that orders change: S_QUANTITY, S_YTD, S_ORDER_CNT and S_REMOTE_CNT

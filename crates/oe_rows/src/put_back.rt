@@ -14,6 +14,7 @@ use crate::districts::District;
 use crate::items::Stock;
 use crate::orders::{Order, OrderLine};
 use crate::warehouses::{Address, Warehouse};
+use oe_values::BrandText;
 use oe_values::texts::Text;
 
 /// Puts a column back that is there.
@@ -36,6 +37,15 @@ fn put_text<const LEAST: usize, const MOST: usize>(
 {
     if let Some(text) = before {
         *column = text;
+    }
+}
+
+/// Puts the text of an item's stock back that is there.
+fn put_brand(column: &mut BrandText, before: Option<Text<0, 50>>)
+    ensures { column.new ≡ unwrap_or before column.old }
+{
+    if let Some(text) = before {
+        *column = BrandText::of(text);
     }
 }
 
@@ -182,6 +192,6 @@ impl StockBefore {
         put(&mut row.ytd, self.ytd);
         put(&mut row.order_count, self.order_count);
         put(&mut row.remote_count, self.remote_count);
-        put_text(&mut row.data, self.data);
+        put_brand(&mut row.data, self.data);
     }
 }

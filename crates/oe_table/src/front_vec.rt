@@ -72,6 +72,16 @@ impl<T> FrontVec<T> {
 }
 
 impl<T: Drop> FrontVec<T> {
+    /// Takes memory for so many elements more. It changes nothing, also where memory is refused.
+    pub(crate) fn reserve(&mut self, more: usize) -> Result<(), NoMemory>
+        ensures { self.new ≡ self.old }
+    {
+        if let Err(_refused) = self.all.reserve(more) {
+            return Err(NoMemory);
+        }
+        Ok(())
+    }
+
     /// Puts an element before the one at an index. Where memory is refused, the list is as before.
     pub(crate) fn insert(&mut self, at: usize, item: T) -> Result<(), NoMemory>
         requires { at ≤ length self.old }

@@ -2,8 +2,8 @@
 //!
 //! That the keys ascend is asked of each call and is the invariant of the table that has the shelf.
 //! By its own invariant a shelf knows of some slots at its beginning that they are blanked, so that
-//! a walk over rows can pass them. Only `put` takes memory, for a key without a place; where that
-//! is refused the shelf is as before.
+//! a walk over rows can pass them. Only `put` takes memory, for a key without a place, and `reserve`;
+//! where that is refused the shelf is as before.
 ghost use Rattle.std.specs.Prelude.{◌≡◌, ◌+◌, ◌<◌, ◌≤◌, ◌↔◌, Some, None, List, Option, [], Err, IfSome, IsTrue, OnOk, OnErr, is_some, length, take};
 ghost use Rattle.std.specs.List.{insert, list_all, remove};
 ghost use Rattle.std.specs.Option.{option_copied, option_copied_mut};
@@ -407,6 +407,16 @@ impl<K: ShelvedKey, R> Shelf<K, R> {
         self.blanked = at.min(self.blanked);
         self.touched = at;
         Some(self.slots.item_mut(at).content_mut())
+    }
+
+    /// Takes memory for so many keys more. It changes nothing, also where memory is refused.
+    pub(crate) fn reserve(&mut self, more: usize) -> Result<(), NoMemory>
+    where
+        K: Drop,
+        R: Drop,
+        ensures { self.new ≡ self.old }
+    {
+        self.slots.reserve(more)
     }
 
     /// Puts a row at a key, into its place or a new one.

@@ -5,7 +5,8 @@
 //! ascend from shelf to shelf. A `Cut` is a place between two slots, from which walks begin and at
 //! which they end. A walk over rows passes what is blanked at the beginning of its first shelf, and
 //! so goes over no row that was taken before all others. Only `put_new` takes memory, for a key
-//! without a place and for the shelves up to its own; where that is refused the table is as before.
+//! without a place and for the shelves up to its own, and `reserve`; where that is refused the table
+//! is as before.
 ghost use Rattle.std.specs.Prelude.{◌≡◌, ◌+◌, ◌<◌, ◌≤◌, ℕ, Some, None, OnOk, OnErr, IsSome, IsTrue, ◌↔◌, List, [], ◌++◌, Option, map as each, vec_len, replicate, length, slice_index_or, take, drop};
 ghost use Rattle.std.specs.List.Sorted.{IsStrictlySortedBy};
 ghost use Rattle.std.specs.Map.{keys_of};
@@ -314,6 +315,19 @@ impl<K: ShelvedKey, R> Shelves<K, R> {
         ensures { IsTrue result ↔ IsSome (place K.cmp self.now key.now) }
     {
         self.slot(key).is_some()
+    }
+
+    /// Takes memory for so many keys more on the shelf of a key, so that they are put there without
+    /// moving those before them. It changes nothing, also where memory is refused.
+    pub fn reserve(&mut self, key: &K, more: usize) -> Result<(), NoMemory>
+    where
+        K: Drop,
+        R: Drop,
+        ensures { self.new ≡ self.old }
+    {
+        let number = key.shelf();
+        reach(&mut self.shelves, self.alloc, number)?;
+        self.shelves[number].reserve(more)
     }
 
     /// Puts a row at a key that has none.

@@ -78,8 +78,13 @@ fn new_order(
     done: &LineReplies,
 )
     requires { array_vec_len out.old + 618 ≤ SIZE }
-    ensures items { out.new.items ≡ out.old.items ++ new_order_text
-        (record { order = order; last = last.now; credit = credit; total = total; lines = done.now }) }
+    ensures items { out.new.items ≡ out.old.items ++ new_order_text (record {
+      order = order;
+      last = last.now;
+      credit = credit;
+      total = total;
+      lines = done.now;
+    }) }
     ensures len { array_vec_len out.new ≤ array_vec_len out.old + 618 }
 {
     text(out, b"neworder ");

@@ -1,3 +1,4 @@
+pub mod BrandFacts
 pub mod FrontFacts
 pub mod HeldFacts
 pub mod StampFacts

@@ -1,5 +1,5 @@
 -- Texts of a column (clause 1.3.1), and names in a request.
-use Rattle.std.specs.Prelude.{ℕ, ◌≤◌, ◌⊎◌, List, length}
+use Rattle.std.specs.Prelude.{ℕ, ◌≤◌, ◌⊎◌, ◌==◌, ◌&&◌, ◌||◌, Bool, true, false, List, [], ◌∷◌, length}
 use Rattle.std.specs.List.{All}
 
 -- a printable ASCII byte
@@ -31,3 +31,14 @@ pub record IsFirstName (bytes : List ℕ) : Type 0 where
   pub at_least : 1 ≤ length bytes
   pub at_most : length bytes ≤ 16
   pub capitals_or_digits : All IsCapitalOrDigit bytes
+
+-- the first text stands at the front of the second
+abbrev pub begins_with : List ℕ → List ℕ → Bool
+begins_with [] ys = true
+begins_with (x ∷ xs) [] = false
+begins_with (x ∷ xs) (y ∷ ys) = (x == y) && begins_with xs ys
+
+-- the first text stands in the second
+abbrev pub occurs_in : List ℕ → List ℕ → Bool
+occurs_in xs [] = begins_with xs []
+occurs_in xs (y ∷ ys) = begins_with xs (y ∷ ys) || occurs_in xs ys

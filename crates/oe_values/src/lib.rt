@@ -3,6 +3,7 @@
 //! memory. Clause numbers are TPC Benchmark C 5.11's.
 #![tactic(auto)]
 
+pub mod brands;
 pub mod fronts;
 mod held;
 pub mod lines;
@@ -13,6 +14,7 @@ pub mod table_keys;
 pub mod terminals;
 pub mod texts;
 
+pub use brands::BrandText;
 pub use lines::Lines;
 pub use memory::NoMemory;
 pub use numbers::{

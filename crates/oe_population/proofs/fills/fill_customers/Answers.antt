@@ -17,7 +17,7 @@ pub put_new-requires : goal.put_new-requires
 put_new-requires c =
     let key : CustomerKey = customer_in c.args.district (c.loop-before.before + 1) in
     let small : c.loop-before.before < c.args.scale.now.customers = omega arith in
-    rw c.number.ensures (fill_free (λ k. customer_of k.customer)
+    rw c.number-in-loop-before.ensures (fill_free (λ k. customer_of k.customer)
     (λ k b. is_district c.args.district (district_of_customer k) && b)
     (λ k. and_false (is_district c.args.district (district_of_customer k))) (λ k. k.customer) c.loop-before.before _
     _ (λ k. eq_by_cmp customer_cmp k key) (same_customer c.args.district (c.loop-before.before + 1))
@@ -26,7 +26,8 @@ put_new-requires c =
 pub loop-before-preserved : goal.loop-before-preserved
 loop-before-preserved c =
     let key : CustomerKey = customer_in c.args.district (c.loop-before.before + 1) in
-    let put = rw c.number.ensures at (c.in_ok-put_new.ensures.rows ∙ ap (insert _ _) c.customer_row.ensures) in
+    let put = rw c.number-in-loop-before.ensures at
+    (c.in_ok-put_new.ensures.rows ∙ ap (insert _ _) c.customer_row.ensures) in
     fill_step (λ k. customer_of k.customer) (λ k b. is_district c.args.district (district_of_customer k) && b)
     (λ k. and_false (is_district c.args.district (district_of_customer k))) (λ k. k.customer) c.loop-before.before _
     _ (λ k. eq_by_cmp customer_cmp k key) (same_customer c.args.district (c.loop-before.before + 1))

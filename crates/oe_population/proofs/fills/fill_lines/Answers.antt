@@ -9,7 +9,7 @@ use Rattle.oe_population.proofs.fills.fill_lines.Goals as goal
 pub fill_order_lines-requires : goal.fill_order_lines-requires
 fill_order_lines-requires c =
     let small : c.loop-before.before < c.args.scale.now.customers = omega arith in
-    rw c.number.ensures (fill_free (line_of c.args.scale.now)
+    rw c.number-in-loop-before.ensures (fill_free (line_of c.args.scale.now)
     (λ k b. (is_district c.args.district (district_of_order (order_of_line k)) && b) && counts_to (lines_of k.order)
     k.number) (λ k. ap (λ b. b && counts_to (lines_of k.order) k.number)
     (and_false (is_district c.args.district (district_of_order (order_of_line k))))) (λ k. k.order)
@@ -23,4 +23,4 @@ loop-before-preserved c =
     k.number) (λ k. ap (λ b. b && counts_to (lines_of k.order) k.number)
     (and_false (is_district c.args.district (district_of_order (order_of_line k))))) (λ k. k.order)
     c.loop-before.before _ _ (lines_under (order_in c.args.district (c.loop-before.before + 1))) (λ k. refl)
-    c.loop-before.invariant _ (rw c.number.ensures at c.in_ok-fill_order_lines.ensures)
+    c.loop-before.invariant _ (rw c.number-in-loop-before.ensures at c.in_ok-fill_order_lines.ensures)

@@ -1,6 +1,8 @@
-use Rattle.std.proofs.Common.{◌<◌, sym, ◌∙◌, add-one, length, drop, length-drop, arith}
-use Rattle.oe_formulas.proofs.TextFacts.{stands_later, stands_here, too_short}
-use Rattle.oe_formulas.proofs.orders.is_original.Goals as goal
+use Rattle.std.proofs.Common.{◌<◌, ◌≡◌, [], refl, sym, ap, ◌∙◌, add-one, length, drop, codes, false, arith}
+use Rattle.std.proofs.lemmas.List.{drop_all}
+use Rattle.oe_values.specs.Text.{occurs_in}
+use Rattle.oe_values.proofs.BrandFacts.{stands_later, stands_here}
+use Rattle.oe_values.proofs.brands.has_original.Goals as goal
 
 pub loop-start-preserved : goal.loop-start-preserved
 loop-start-preserved c =
@@ -16,5 +18,5 @@ returns-then-stands_at c =
 
 pub returns : goal.returns
 returns c =
-    sym (too_short (drop c.loop-start.start c.as_bytes-bytes.result.now)
-    (omega (arith, length-drop c.loop-start.start c.as_bytes-bytes.result.now))) ∙ c.loop-start.invariant
+    sym (ap (occurs_in (codes "ORIGINAL")) (drop_all c.loop-start.start c.as_bytes-bytes.result.now (omega arith)))
+    ∙ c.loop-start.invariant
