@@ -4,8 +4,8 @@
 
 ghost use Rattle.oe_consistency.specs.Consistency.{Further_conditions_are_kept, More_holds_from_base, Population_has_more};
 
-/// Each whole effect, of a payment, of an order, and of a delivery of one district or of ten, keeps
-/// the seven conditions.
+/// Each whole effect, of a payment, of an order, of a delivery of one district or of ten, and of a
+/// rename, keeps the seven conditions.
 pub fn further_conditions_are_kept()
     ensures { Further_conditions_are_kept }
 {}

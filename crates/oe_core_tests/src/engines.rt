@@ -74,13 +74,13 @@ fn are_answered(engine: &mut Engine, tx: &Tx) -> Option<bool> {
     )
 }
 
-/// Opens an engine of that name on a population.
-fn engine_on(rt: &impl Abort, alloc: Global, name: u32) -> Engine {
+/// Opens an engine of that name, with records of that layout, on a population.
+pub(crate) fn engine_on(rt: &impl Abort, alloc: Global, name: u32, layout: Layout) -> Engine {
     let extents = ExtentCount::new(2).expect(rt, "extents");
     let Some(tables) = populated(alloc, 10, 20) else {
         panic!(rt; "no population")
     };
-    match Engine::open(alloc, tables, extents, Layout::ChangedColumns, name) {
+    match Engine::open(alloc, tables, extents, layout, name) {
         Ok(engine) => engine,
         Err(_) => panic!(rt; "no memory"),
     }
@@ -99,7 +99,7 @@ fn are_answered_at(rt: &impl Abort, engine: &mut Engine, terminal: Terminal) -> 
 }
 
 /// Lets go of an engine in which nothing is open, as a rewind tells that takes nothing back.
-fn leave(rt: &impl Abort, mut engine: Engine) {
+pub(crate) fn leave(rt: &impl Abort, mut engine: Engine) {
     let newest = engine.newest();
     match engine.rewind(newest) {
         Ok(()) => engine.close().discard(),
@@ -110,7 +110,7 @@ fn leave(rt: &impl Abort, mut engine: Engine) {
 #[test]
 fn an_engine_is_asked(rt: HostRuntime) {
     let terminal = Terminal::new(17).expect(&rt, "a terminal");
-    let mut engine = engine_on(&rt, rt.alloc(), 5);
+    let mut engine = engine_on(&rt, rt.alloc(), 5, Layout::ChangedColumns);
     let are_right = are_answered_at(&rt, &mut engine, terminal);
     leave(&rt, engine);
     assert!(rt; are_right);
@@ -128,14 +128,14 @@ fn back_from(rt: &impl Abort, engine: &mut Engine, tx: Tx, request: &Request) ->
     }
 }
 
-fn end(rt: &impl Abort, engine: &mut Engine, tx: Tx) {
+pub(crate) fn end(rt: &impl Abort, engine: &mut Engine, tx: Tx) {
     match engine.rollback(tx) {
         Ok(()) => {}
         Err(_) => panic!(rt; "not open"),
     }
 }
 
-fn begun(rt: &impl Abort, engine: &mut Engine, terminal: Terminal) -> Tx {
+pub(crate) fn begun(rt: &impl Abort, engine: &mut Engine, terminal: Terminal) -> Tx {
     match engine.begin(terminal) {
         Ok(tx) => tx,
         Err(_) => panic!(rt; "not begun"),
@@ -167,10 +167,43 @@ fn stray(
 fn a_foreign_transaction_comes_back(rt: HostRuntime) {
     let terminal = Terminal::new(17).expect(&rt, "a terminal");
     let name = Name::Queue(district_key(2, 4).expect(&rt, "a district"));
-    let mut home = engine_on(&rt, rt.alloc(), 5);
-    let mut abroad = engine_on(&rt, rt.alloc(), 6);
+    let mut home = engine_on(&rt, rt.alloc(), 5, Layout::ChangedColumns);
+    let mut abroad = engine_on(&rt, rt.alloc(), 6, Layout::WholeRows);
     let refusal = stray(&rt, &mut home, &mut abroad, terminal, &name);
     leave(&rt, home);
     leave(&rt, abroad);
     assert!(rt; refusal == Some(Refusal::NotOpen));
+}
+
+/// What two terminals see of a warehouse's name that both hold shared, once the first asks for it
+/// exclusive: what that is refused with, and in which modes both hold it then; and in which mode
+/// the first holds another warehouse's name, which it alone held shared, once it asks so.
+type Rises = (Option<Refusal>, [Option<Mode>; 2], Option<Mode>);
+
+/// Has the first transaction ask for both names.
+fn rises(engine: &mut Engine, first: &Tx, second: &Tx) -> Option<Rises> {
+    let shared = &Name::Warehouse(district_key(1, 4)?.warehouse_key());
+    let alone = &Name::Warehouse(district_key(2, 4)?.warehouse_key());
+    taken(engine, first, shared, Mode::Shared)?;
+    taken(engine, second, shared, Mode::Shared)?;
+    taken(engine, first, alone, Mode::Shared)?;
+    let refusal = engine.lock(first, *shared, Mode::Exclusive).err();
+    let modes = [engine.held(first, shared), engine.held(second, shared)];
+    Some((refusal, modes, taken(engine, first, alone, Mode::Exclusive)))
+}
+
+#[test]
+fn a_mode_rises_where_nobody_else_holds_the_name(rt: HostRuntime) {
+    let warehouse = district_key(1, 4).expect(&rt, "a district").warehouse_key();
+    let second_terminal = Terminal::new(2).expect(&rt, "a terminal");
+    let mut engine = engine_on(&rt, rt.alloc(), 5, Layout::WholeRows);
+    let first = begun(&rt, &mut engine, Terminal::new(1).expect(&rt, "a terminal"));
+    let second = begun(&rt, &mut engine, second_terminal);
+    let found = rises(&mut engine, &first, &second);
+    end(&rt, &mut engine, first);
+    end(&rt, &mut engine, second);
+    leave(&rt, engine);
+    let busy = Refusal::Busy(Name::Warehouse(warehouse), second_terminal);
+    let both = [Some(Mode::Shared), Some(Mode::Shared)];
+    assert!(rt; found == Some((Some(busy), both, Some(Mode::Exclusive))));
 }

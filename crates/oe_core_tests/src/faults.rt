@@ -7,13 +7,14 @@ use oe_script::script::run_script;
 use oe_script::session::Fault;
 use std::alloc::Global;
 
-/// A payment commits, a delivery commits, and two conditions hold.
+/// Four deliveries of a district commit, the last of which finds none to deliver, and two conditions
+/// hold of it; an order commits there, and they hold again.
 const SCRIPT: &[u8] =
-    b"open 2 10 20 64\nbegin 9 payment 1 6 2 4 8 12.50 2001-01-01T00:00:00\nrun 9\nbegin 9 delivery 2 4 6 2001-01-01T00:00:01\nrun 9\naudit 2 now\naudit 10 now\n";
+    b"open 1 10 20 64\nbegin 1 delivery 1 1 3 2001-01-01T00:00:00\nrun 1\nbegin 1 delivery 1 1 3 2001-01-01T00:00:00\nrun 1\nbegin 1 delivery 1 1 3 2001-01-01T00:00:00\nrun 1\nbegin 1 delivery 1 1 3 2001-01-01T00:00:00\nrun 1\naudit 2 now\naudit 3 now\nbegin 1 neworder 1 1 1 2001-01-01T00:00:00 1:1:1 1:2:1 1:3:1 1:4:1 1:5:1\nrun 1\naudit 2 now\naudit 3 now\n";
 
 /// An answer of one line for each line.
 const ANSWERS: &[u8] =
-    b"opened\nbegun\ncommit 1 payment 8 BARBARCALLY GC -22.50\nbegun\ncommit 2 delivery 8 8 129.22\ncondition 2 holds\ncondition 10 holds\n";
+    b"opened\nbegun\ncommit 1 delivery 8 8 129.22\nbegun\ncommit 2 delivery 9 9 154.91\nbegun\ncommit 3 delivery 10 10 182.85\nbegun\ncommit 4 delivery skipped\ncondition 2 holds\ncondition 3 holds\nbegun\ncommit 5 neworder 11 BARBARBAR GC 10.70 G:23:1.37 G:36:1.74 G:49:2.11 G:62:2.48 G:75:2.85\ncondition 2 holds\ncondition 3 holds\n";
 
 /// Gives the script in pieces, and fails once a number of calls was made.
 #[derive(Drop)]

@@ -1,22 +1,28 @@
 //! A population, a core and a list of steps, each asked for again where it was refused memory: what
 //! was refused has changed nothing, and goes on. With ample memory nothing is refused:
-//! `rt try --test --fail-alloc N` refuses the Nth growth.
+//! `scripts/refuse-memory` refuses each growth in turn.
 
-use crate::made::{payment, populated};
+use crate::made::{district_key, payment, populated};
 use crate::sessions::sum_of;
 use oe_audit::is_population;
 use oe_core::Core;
-use oe_requests::{Answer, Condition, Refusal, Request, Step};
+use oe_requests::{
+    Answer, Condition, CustomerChoice, NewOrderRequest, PaymentRequest, Refusal, Request,
+    RequestLine, RequestLines, Step,
+};
 use oe_rows::Layout;
 use oe_runs::run;
-use oe_values::{ExtentCount, Moment, Terminal};
+use oe_values::{ExtentCount, Moment, Number, Stamp, Terminal};
 use std::alloc::Global;
 use std::process::Abort;
 
+/// How many customers a district of a population has, and how many items there are.
+type Size = (u32, u32);
+
 /// Opens a core on a population. `None` where memory was refused.
-fn opened_once(rt: &impl Abort, alloc: Global) -> Option<Core> {
+fn opened_once(rt: &impl Abort, alloc: Global, size: Size) -> Option<Core> {
     let extents = ExtentCount::new(64).expect(rt, "extents");
-    let tables = populated(alloc, 4, 7)?;
+    let tables = populated(alloc, size.0, size.1)?;
     if !is_population(&tables) {
         panic!(rt; "no population");
     }
@@ -24,11 +30,11 @@ fn opened_once(rt: &impl Abort, alloc: Global) -> Option<Core> {
 }
 
 /// Opens one, and again where memory was refused.
-fn opened(rt: &impl Abort, alloc: Global) -> Core {
-    if let Some(core) = opened_once(rt, alloc) {
+fn opened(rt: &impl Abort, alloc: Global, size: Size) -> Core {
+    if let Some(core) = opened_once(rt, alloc, size) {
         return core;
     }
-    match opened_once(rt, alloc) {
+    match opened_once(rt, alloc, size) {
         Some(core) => core,
         None => panic!(rt; "no core"),
     }
@@ -133,12 +139,80 @@ fn a_refused_run_has_taken_no_step(rt: HostRuntime) {
     let Some(payment) = payment(3, 12_345) else {
         panic!(rt; "no payment")
     };
-    let mut running = opened(&rt, rt.alloc());
-    let mut stepping = opened(&rt, rt.alloc());
+    let mut running = opened(&rt, rt.alloc(), (4, 7));
+    let mut stepping = opened(&rt, rt.alloc(), (4, 7));
     let moments = (before, behind);
     let are_alike = payment_runs_as_steps(&mut running, &mut stepping, terminal, payment, moments);
     let newest = stepping.newest().get();
     running.discard();
     stepping.discard();
     assert!(rt; are_alike && newest == 1);
+}
+
+fn line(item: u32) -> Option<RequestLine> {
+    Some(RequestLine {
+        supply: Number::new(1)?,
+        item: Number::new(item)?,
+        quantity: Number::new(1)?,
+    })
+}
+
+/// Makes an order of one of each of items 1 to 5 in district 1 of warehouse 1.
+fn order() -> Option<Request> {
+    let lines = [line(1)?, line(2)?, line(3)?, line(4)?, line(5)?];
+    Some(Request::NewOrder(NewOrderRequest {
+        district: district_key(1, 1)?,
+        customer: Number::new(1)?,
+        stamp: Stamp::from_seconds(3_187_296_000)?,
+        lines: RequestLines::read(&lines)?,
+    }))
+}
+
+/// Makes a payment of 250.00 in district 1 of warehouse 2.
+fn payment_away() -> Option<Request> {
+    Some(Request::Payment(PaymentRequest {
+        district: district_key(2, 1)?,
+        customer_district: district_key(2, 1)?,
+        customer: CustomerChoice::Number(Number::new(1)?),
+        amount: Number::new(25_000)?,
+        stamp: Stamp::from_seconds(3_187_296_000)?,
+    }))
+}
+
+/// Has a terminal advance that many times.
+fn advance(steps: &mut Vec<Step>, terminal: Terminal, times: u32) -> Option<()> {
+    for _ in 0..times {
+        steps.push(Step::Advance(terminal)).ok()?;
+    }
+    Some(())
+}
+
+/// Makes the list of steps of an order that goes back to its mark beside a payment: it is marked
+/// behind nine of its sixteen stages, and goes four further.
+fn overlap(alloc: Global) -> Option<Vec<Step>> {
+    let (first, second) = (Terminal::new(1)?, Terminal::new(2)?);
+    let mut steps = Vec::new(alloc);
+    steps.push(Step::Begin(first, order()?)).ok()?;
+    advance(&mut steps, first, 9)?;
+    steps.push(Step::Save(first)).ok()?;
+    advance(&mut steps, first, 4)?;
+    steps.push(Step::Begin(second, payment_away()?)).ok()?;
+    advance(&mut steps, second, 5)?;
+    steps.push(Step::Back(first)).ok()?;
+    advance(&mut steps, first, 7)?;
+    Some(steps)
+}
+
+#[test]
+fn a_run_of_overlapping_steps_answers_as_they_do(rt: HostRuntime) {
+    let Some(steps) = overlap(rt.alloc()) else {
+        panic!(rt; "no steps")
+    };
+    let mut running = opened(&rt, rt.alloc(), (10, 20));
+    let mut stepping = opened(&rt, rt.alloc(), (10, 20));
+    let are_alike = runs_as_steps(&mut running, &mut stepping, steps.as_slice());
+    let are_left = [shown(&running), shown(&stepping)];
+    running.discard();
+    stepping.discard();
+    assert!(rt; are_alike && are_left[0] == are_left[1] && are_left[0][1..] == [2, 0]);
 }

@@ -20,6 +20,8 @@ mod made;
 #[cfg(test)]
 mod open_audits;
 #[cfg(test)]
+mod order_records;
+#[cfg(test)]
 mod planted;
 #[cfg(test)]
 mod sessions;

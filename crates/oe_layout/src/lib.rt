@@ -1,4 +1,4 @@
-//! Undo records as bytes, as they will lie in the ring. A record has its length at both its ends,
+//! Undo records as bytes, as they lie in the ring. A record has its length at both its ends,
 //! so that it is found from either; between them stand what was done, and in which table, where the
 //! previous record of the same row lies, the key, and of an update the row before, or a mask and
 //! the columns that the update changed, as the layout says. Numbers have their most significant

@@ -1,6 +1,7 @@
 //! A count of records that were read, by which a read shows how many it took.
 //!
-//! Each call that lends a record ticks once. Nothing can fail, and nothing takes memory.
+//! A call that lends a record by its address, or the newest, ticks once; walks over all records of
+//! a commit don't. Nothing can fail, and nothing takes memory.
 ghost use Rattle.std.specs.Prelude.{◌≡◌};
 ghost use Rattle.oe_log.specs.Ticks.{ticked};
 

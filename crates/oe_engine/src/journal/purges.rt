@@ -27,8 +27,8 @@ use oe_values::Moment;
 /// Gives up the segments of the commits up to a moment, which becomes the horizon, and the places
 /// of the NEW-ORDER keys that these commits deleted, that have no row and no record left. Rows,
 /// counts of commits and open segments stay as they are, and so do all later versions. It takes no
-/// memory, and visits no segment that is kept. Lists of last names are looked at only where
-/// `may_forget` says that a commit may have renamed a customer.
+/// memory. Lists of last names are looked at only where `may_forget` says that a commit may have
+/// renamed a customer: then alone it reads records of segments that are kept, the customer's.
 ///
 /// `TooOld` with the horizon, `Future` with the newest moment: the moment is not between the two.
 /// Nothing has changed then.
