@@ -46,7 +46,7 @@ use Rattle.oe_log.specs.Log as undo
 use Rattle.oe_log.specs.Moments.{store_with}
 use Rattle.oe_undo.specs.Chains.{HaveNone}
 use Rattle.oe_locks.specs.Held.{Holdings}
-use Rattle.oe_locks.specs.Holders.{has}
+use Rattle.oe_locks.specs.Terminals.{has}
 use Rattle.oe_engine.specs.View.{View, view_from, opened_view}
 use Rattle.oe_engine.specs.Covered.{Owns, AreOwned, MayMake, IsSafe}
 use Rattle.oe_engine.specs.Calls.{newest, begun, made, count_since, back_at, committed, rolled_back}

@@ -12,7 +12,7 @@ use Rattle.oe_change.specs.declared.writes.Write.{Write}
 use Rattle.oe_change.specs.declared.writes.Write.TheVariants.{CustomerNames}
 use Rattle.oe_store.specs.Places.{rows}
 use Rattle.oe_log.specs.Moments.{store_with}
-use Rattle.oe_locks.specs.Holders.{has}
+use Rattle.oe_locks.specs.Terminals.{has}
 use Rattle.oe_engine.specs.View.{EngineState, View}
 use Rattle.oe_engine.specs.Calls.{newest}
 use Rattle.oe_engine.specs.declared.renames.Renames.{Renames}

@@ -2,7 +2,7 @@
 //! them as now. Who ends after a rename moves that moment to the newest. Nothing takes memory or
 //! can fail.
 ghost use Rattle.std.specs.Prelude.{◌≡◌, ◌↔◌, ℕ, IsTrue, false};
-ghost use Rattle.oe_locks.specs.Holders.{has};
+ghost use Rattle.oe_locks.specs.Terminals.{has};
 ghost use Rattle.oe_engine.specs.Renames.{is_rename, Notes, Forgets, HasStood};
 
 use crate::kinds::OneWrite;

@@ -1,322 +1,200 @@
--- What is held, by the map from names to holders, and what stands on the terminals' lists.
-use Rattle.std.proofs.Common.{◌≡◌, ◌≢◌, ℕ, ◌<◌, ◌≤◌, ◌==◌, inl, inr, Bool, true, false, not, ◌||◌, cond, if◌then◌else◌}
-use Rattle.std.proofs.Common.{List, [], ◌∷◌, ◌++◌, map, length, get_or, set, Option, None, Some, IsSome, is_some, refl}
-use Rattle.std.proofs.Common.{sym, ap, ◌∙◌, subst}
-use Rattle.std.proofs.lemmas.Bool.{cases_eq, cond-true, cond-false, eq-eqb, ne_eqb, false≢true}
-use Rattle.std.proofs.lemmas.List.{length-map, map-set, get_or-map, get_or-set_same, get_or-set_other}
-use Rattle.std.specs.Prelude.{MatchOption, OnOk, OnErr, IfOk, IfNone}
-use Rattle.std.specs.declared.result.Result.{Result}
-use Rattle.std.specs.declared.result.Result.TheVariants.{Ok, Err}
-use Rattle.std.specs.List.{filter}
-use Rattle.std.specs.Map.{lookup}
-use Rattle.std.specs.Global.{Vec}
+-- What is held, by the lists of all terminals.
+use Rattle.std.proofs.Common.{◌≡◌, ◌≢◌, ℕ, ◌<◌, ◌==◌, inl, inr, Bool, true, false, not, cond, if◌then◌else◌, List, [], length}
+use Rattle.std.proofs.Common.{get_or, set, replicate, ◌≤◌, ◌⊎◌, Option, None, Some, IsSome, is_some, refl, sym, ap, ◌∙◌, eq-eqb, subst}
+use Rattle.std.proofs.lemmas.Bool.{cases_eq, cases_lt, cond-true, cond-false, ne_eqb, false≢true}
+use Rattle.std.proofs.lemmas.List.{get_or_default, get_or-set_same, get_or-set_other, get_or-replicate, length-replicate}
+use Rattle.std.proofs.Math.ListN.{get_or-eq_default}
+use Rattle.std.specs.Prelude.{MatchOption, IfSome}
+use Rattle.std.specs.Map.{lookup, keys_of}
 use Rattle.oe_rows.specs.declared.locks.Name.{Name}
 use Rattle.oe_rows.specs.declared.locks.Mode.{Mode}
 use Rattle.oe_rows.specs.declared.locks.Mode.TheVariants.{Shared, Exclusive}
 use Rattle.oe_rows.specs.contracts.locks.NamePartialEq.TheImpl.{ghosts}
-use Rattle.std.specs.declared.alloc.AllocError.{AllocError}
-use Rattle.oe_locks.specs.declared.holders.Holders.{Holders}
-use Rattle.oe_locks.specs.declared.holders.Holders.TheVariants.{Alone, Together}
-use Rattle.oe_locks.specs.Held.{Holdings, held, is_name, go_together, IsIdle, IsFree, IsFreeFor, IsFirstInTheWay}
-use Rattle.oe_locks.specs.Held.{IsInTheWay, GivesBack, OthersKeep, IsBelow}
-use Rattle.oe_locks.specs.Holders.{has, mode_among, mode_by}
-use Rattle.oe_locks.specs.Listed.{stands, IsListed, AreListed}
+use Rattle.oe_locks.specs.Held.{Holdings, entries_of, held, is_name, go_together, risen, IsBelow, IsIdle, IsFreeFor}
+use Rattle.oe_locks.specs.Held.{IsInTheWay, IsFirstAmong, Takes, GivesBack, HoldsNothing, OthersKeep, AreBusy}
+use Rattle.oe_locks.specs.Terminals.{has}
+use Rattle.oe_locks.specs.Listed.{IsListed, OthersKeepNames}
+use Rattle.oe_locks.specs.Marks.{Changes}
 use Rattle.oe_locks.proofs.NameFacts.{eq_is_name, name_true, name_sym}
+use Rattle.oe_locks.proofs.EntryFacts.{stands-found}
 
--- an empty map holds nothing
-pub idle-empty : (locks : Holdings) → locks ≡ [] → IsIdle locks
-unfolding held
-idle-empty locks e t q = ap (λ es. mode_by (lookup (ghosts.eq q) es) t) e
+abbrev Entries : Type 0
+Entries = List (Name × Mode)
 
--- a name's holders are those of the map
-module _ (locks : Holdings) (n : Name) (o : Option Holders) (is : lookup (ghosts.eq n) locks ≡ o) where
-  pub held-is : (u : ℕ) → held locks u n ≡ mode_by o u
+-- a terminal's list
+module _ (ls : Holdings) (t : ℕ) (es : Entries) (within : t < length ls) (is : es ≡ get_or ls t es) where
+  pub entries-at : entries_of ls t ≡ es
+  entries-at = get_or_default ls t [] es within ∙ sym is
+
+  pub held-at : (q : Name) → held ls t q ≡ lookup (ghosts.eq q) es
   unfolding held
-  held-is u = ap (λ z. mode_by z u) is
+  held-at q = ap (lookup (ghosts.eq q)) entries-at
 
-  pub free-is : (t : ℕ) (m : Mode) → IsFree (mode_by o) t m → IsFreeFor locks t n m
-  free-is t m free u ne = ap (go_together m) (held-is u) ∙ free u ne
+  pub listed-at : IsListed ls t (keys_of es)
+  listed-at q = stands-found es q ∙ sym (ap (λ o. is_some o) (held-at q))
 
-  pub first-is : (t : ℕ) (m : Mode) (u : ℕ) → IsFirstInTheWay (mode_by o) t m u → IsInTheWay locks t n m u
-  first-is t m u h = record {
-    other = h.other;
-    conflicts = ap (go_together m) (held-is u) ∙ h.conflicts;
-    least = λ v b ne. ap (go_together m) (held-is v) ∙ h.least v b ne;
-  }
-
-  pub way-is : (t : ℕ) (m : Mode) (r : Option ℕ)
-      → MatchOption r (IsFree (mode_by o) t m) (IsFirstInTheWay (mode_by o) t m)
-      → MatchOption r (IsFreeFor locks t n m) (IsInTheWay locks t n m)
-  way-is t m None h = free-is t m h
-  way-is t m (Some u) h = first-is t m u h
-
--- a name that is held is in the map
-pub in_map : (locks : Holdings) (t : ℕ) (n : Name) → IsSome (held locks t n) → IsSome (lookup (ghosts.eq n) locks)
+-- a terminal that is not in the set holds nothing
+pub idle-held : (ls : Holdings) (b t : ℕ) → AreBusy b ls → has b t ≡ false → HoldsNothing ls t
 unfolding held
-in_map locks t n h = go (lookup (ghosts.eq n) locks) h
-  where
-    go : (o : Option Holders) → IsSome (mode_by o t) → IsSome o
-    go None s = s
-    go (Some x) s = refl
+idle-held ls b t all none q = ap (lookup (ghosts.eq q)) (all t none)
 
--- the map has changed at one name
-module _ (old new : Holdings) (n : Name) (o : Option Holders)
-    (is : (q : Name) → lookup (ghosts.eq q) new ≡ cond (ghosts.eq n q) o (lookup (ghosts.eq q) old)) where
-  pub own-changed : (u : ℕ) → GivesBack old new u n (mode_by o u)
+-- where every list is empty nothing is held
+pub idle-empty : (ls : Holdings) → ((t : ℕ) → entries_of ls t ≡ []) → IsIdle ls
+unfolding held
+idle-empty ls e t q = ap (lookup (ghosts.eq q)) (e t)
+
+pub idle-replicate : (n : ℕ) → IsIdle (replicate n [])
+idle-replicate n = idle-empty (replicate n []) (λ t. go t (cases_lt t n))
+  where
+    go : (t : ℕ) → (t < n) ⊎ (n ≤ t) → entries_of (replicate n []) t ≡ []
+    go t (inl l) = get_or-replicate n t [] [] l
+    go t (inr g) = get_or-eq_default (replicate n []) [] (subst (λ k. k ≤ t) (sym (length-replicate n [])) g)
+
+-- one terminal's list has become another
+module _ (ls : Holdings) (t : ℕ) (es : Entries) (within : t < length ls) where
+  pub entries-set : entries_of (set ls t es) t ≡ es
+  entries-set = get_or-set_same ls t es [] within
+
+  others-set : (u : ℕ) → u ≢ t → entries_of (set ls t es) u ≡ entries_of ls u
+  others-set u ne = get_or-set_other ls t u es [] ne
+
+  pub keeps-set : OthersKeep ls (set ls t es) t
   unfolding held
-  own-changed u q =
-      ap (λ z. mode_by z u) (is q ∙ ap (λ b. cond b o (lookup (ghosts.eq q) old)) (eq_is_name n q ∙ name_sym n q))
-      ∙ go (is_name q n)
-    where
-      go : (b : Bool) → mode_by (cond b o (lookup (ghosts.eq q) old)) u ≡ cond b (mode_by o u)
-          (mode_by (lookup (ghosts.eq q) old) u)
-      go true = refl
-      go false = refl
+  keeps-set u ne q = ap (lookup (ghosts.eq q)) (others-set u ne)
 
-  pub others-changed : (t : ℕ) → ((u : ℕ) → u ≢ t → mode_by o u ≡ held old u n) → OthersKeep old new t
-  others-changed t same u ne q = own-changed u q ∙ go (is_name q n) refl
-    where
-      go : (b : Bool) → is_name q n ≡ b → cond b (mode_by o u) (held old u q) ≡ held old u q
-      go true e = same u ne ∙ ap (held old u) (sym (name_true q n e))
-      go false e = refl
+  pub names-set : OthersKeepNames ls (set ls t es) t
+  names-set u ne = ap (λ l. keys_of l) (others-set u ne)
 
--- a terminal has left the name's holders
-module _ (old new : Holdings) (t : ℕ) (n : Name) (h : Holders) (o : Option Holders)
-    (rest : (u : ℕ) → mode_by o u ≡ (if u == t then None else mode_among h u))
-    (is : (q : Name) → lookup (ghosts.eq q) new ≡ cond (ghosts.eq n q) o (lookup (ghosts.eq q) old)) where
-  pub left-own : GivesBack old new t n None
-  left-own q =
-      own-changed old new n o is t q
-      ∙ ap (λ z. if is_name q n then z else held old t q)
-      (rest t ∙ cond-true (t == t) None (mode_among h t) (eq-eqb t t refl))
+  held-set : (q : Name) → held (set ls t es) t q ≡ lookup (ghosts.eq q) es
+  unfolding held
+  held-set q = ap (lookup (ghosts.eq q)) entries-set
 
-  pub left-others : lookup (ghosts.eq n) old ≡ Some h → OthersKeep old new t
-  left-others found =
-      others-changed old new n o is t
-      (λ u ne. rest u ∙ (cond-false (u == t) None (mode_among h u) (ne_eqb u t ne)
-      ∙ sym (held-is old n (Some h) found u)))
+  -- the list was changed at one name
+  module _ (old : Entries) (was : (q : Name) → held ls t q ≡ lookup (ghosts.eq q) old) (n : Name) where
+    pub gives-back : (o : Option Mode) → Changes old es n o → GivesBack ls (set ls t es) t n o
+    gives-back o changed q =
+        held-set q ∙ (changed q
+        ∙ (ap (λ b. cond b o (lookup (ghosts.eq q) old)) (eq_is_name n q ∙ name_sym n q)
+        ∙ ap (λ z. cond (is_name q n) o z) (sym (was q))))
 
--- nothing is to be given back where nobody holds the name
-pub given-absent : (locks : Holdings) (t : ℕ) (n : Name) → lookup (ghosts.eq n) locks ≡ None
-    → GivesBack locks locks t n None
-given-absent locks t n none q = go (is_name q n) refl
-  where
-    go : (b : Bool) → is_name q n ≡ b → held locks t q ≡ cond b None (held locks t q)
-    go true e = ap (held locks t) (name_true q n e) ∙ held-is locks n None none t
-    go false e = refl
+    pub takes : (m : Mode) → Changes old es n (Some (risen m (lookup (ghosts.eq n) old)))
+        → Takes ls (set ls t es) t n m
+    takes m changed q =
+        gives-back (Some (risen m (lookup (ghosts.eq n) old))) changed q
+        ∙ elim (is_name q n) as (λ b. is_name q n ≡ b
+        → (if b then Some (risen m (lookup (ghosts.eq n) old)) else held ls t q)
+        ≡ (if b then Some (risen m (held ls t q)) else held ls t q)) [
+          | true ↦ λ e. ap (λ o. Some (risen m o)) (sym (was n) ∙ ap (held ls t) (sym (name_true q n e)))
+          | false ↦ λ e. refl
+        ] refl
 
--- what a terminal does not hold stays so where a name that it holds changes its mode
-pub none-changed : (old new : Holdings) (t : ℕ) (n : Name) (o : Option Mode) → GivesBack old new t n o
-    → IsSome (held old t n) → (q : Name) → held old t q ≡ None → held new t q ≡ None
-none-changed old new t n o own some q e = own q ∙ go (is_name q n) refl
-  where
-    go : (b : Bool) → is_name q n ≡ b → cond b o (held old t q) ≡ None
-    go false s = e
-    go true s =
-        let none : held old t n ≡ None = ap (held old t) (sym (name_true q n s)) ∙ e in
-        let never : false ≡ true = ap is_some (sym none) ∙ some in
-        absurd (false≢true never)
+  pub nothing-set : es ≡ [] → HoldsNothing (set ls t es) t
+  nothing-set e q = held-set q ∙ ap (lookup (ghosts.eq q)) e
 
--- only an exclusive mode is above another
-above-shared : (m : Mode) (o : Option Mode) → IsBelow (Some m) o → o ≡ Some Exclusive
-above-shared Shared (Some Exclusive) b = refl
-above-shared Shared (Some Shared) b = absurd b
-above-shared Shared None b = absurd b
-above-shared Exclusive (Some Exclusive) b = absurd b
-above-shared Exclusive (Some Shared) b = absurd b
-above-shared Exclusive None b = absurd b
+  -- the set of those that may hold something
+  module _ (old new : ℕ) (all : AreBusy old ls) where
+    other-busy : (u : ℕ) → u ≢ t → has old u ≡ false → entries_of (set ls t es) u ≡ []
+    other-busy u ne none = others-set u ne ∙ all u none
 
--- beside one that holds a name as exclusive nobody holds it
-pub alone-below : (locks : Holdings) (t u : ℕ) (n : Name) (m : Mode) → u ≢ t → IsBelow (Some m) (held locks t n)
-    → held locks u n ≡ None
-unfolding held
-alone-below locks t u n m ne below = go (lookup (ghosts.eq n) locks) (above-shared m (held locks t n) below)
-  where
-    go : (o : Option Holders) → mode_by o t ≡ Some Exclusive → mode_by o u ≡ None
-    go None e = refl
-    go (Some (Alone h)) e = elim (cases_eq t h) [
-      | inl s ↦ cond-false (u == h) (Some Exclusive) None (ne_eqb u h (λ r. ne (r ∙ sym s)))
-      | inr other ↦
-          let never : None ≡ Some Exclusive = sym (cond-false (t == h) (Some Exclusive) None (ne_eqb t h other)) ∙ e in
-          cc
+    pub busy-with : ((u : ℕ) → has new u ≡ (if u == t then true else has old u)) → AreBusy new (set ls t es)
+    busy-with is u none = elim (cases_eq u t) [
+      | inl e ↦ absurd (false≢true (sym none
+          ∙ (is u ∙ cond-true (u == t) true (has old u) (eq-eqb u t e))))
+      | inr ne ↦ other-busy u ne (sym (cond-false (u == t) true (has old u) (ne_eqb u t ne)) ∙ (sym (is u) ∙ none))
     ]
-    go (Some (Together s)) e = absurd (sharer (has s t) e)
-      where
-        sharer : (b : Bool) → (if b then Some Shared else None) ≡ Some Exclusive → ⊥
-        sharer true f = cc
-        sharer false f = cc
 
--- lists
+    pub busy-without : es ≡ [] → ((u : ℕ) → has new u ≡ (if u == t then false else has old u))
+        → AreBusy new (set ls t es)
+    busy-without empty is u none = elim (cases_eq u t) [
+      | inl e ↦ ap (entries_of (set ls t es)) e ∙ (entries-set ∙ empty)
+      | inr ne ↦ other-busy u ne (sym (cond-false (u == t) false (has old u) (ne_eqb u t ne)) ∙ (sym (is u) ∙ none))
+    ]
 
-or_false : (a b : Bool) → (a || b) ≡ false → (a ≡ false) × (b ≡ false)
-or_false false b h = (refl, h)
-or_false true b h = absurd (false≢true (sym h))
-
--- a list with one more name at its end
-pub stands-push : (xs : List Name) (x q : Name) → stands (xs ++ x ∷ []) q ≡ false
-    → (is_name q x ≡ false) × (stands xs q ≡ false)
-stands-push [] x q h = or_false (is_name q x) false h
-stands-push (y ∷ ys) x q h =
-    let p = or_false (is_name q y) (stands (ys ++ x ∷ []) q) h in
-    let r = stands-push ys x q p.1 in
-    (r.0, ap (λ b. b || stands ys q) p.0 ∙ r.1)
-
-pub stands-popped : (xs : List Name) (x q : Name) → is_name q x ≡ false → stands xs q ≡ false
-    → stands (xs ++ x ∷ []) q ≡ false
-stands-popped [] x q e h = ap (λ b. b || false) e
-stands-popped (y ∷ ys) x q e h =
-    let p = or_false (is_name q y) (stands ys q) h in
-    ap (λ b. b || stands (ys ++ x ∷ []) q) p.0 ∙ stands-popped ys x q e p.1
-
--- a list without a name
-pub stands-filter : (xs : List Name) (n q : Name) → is_name q n ≡ false
-    → stands (filter (λ x. not (is_name x n)) xs) q ≡ stands xs q
-stands-filter [] n q e = refl
-stands-filter (x ∷ xs) n q e = go (is_name x n) refl (stands-filter xs n q e)
-  where
-    rest : List Name
-    rest = filter (λ x. not (is_name x n)) xs
-
-    go : (b : Bool) → is_name x n ≡ b → stands rest q ≡ stands xs q
-        → stands (cond (not b) (x ∷ rest) rest) q ≡ (is_name q x || stands xs q)
-    go false s ih = ap (λ z. is_name q x || z) ih
-    go true s ih = ih ∙ sym (ap (λ z. z || stands xs q) (ap (is_name q) (name_true x n s) ∙ e))
-
--- the lists of all terminals
-module _ (xs : List (Vec Name)) (t : ℕ) (v : Vec Name) (low : 1 ≤ t) (within : t < length xs) where
-  abbrev names : List (Vec Name) → List (List Name)
-  names ys = map (λ w. w.items) ys
-
-  -- a terminal's list
-  pub listed-at : (locks : Holdings) → v ≡ get_or xs t v → AreListed locks xs → IsListed locks t v.items
-  listed-at locks is all q h =
-      let here : get_or (names xs) t [] ≡ v.items = get_or-map (λ w. w.items) xs t v [] within
-      ∙ ap (λ w. w.items) (sym is) in
-      all t low q (ap (λ l. stands l q) here ∙ h)
-
-  -- one terminal's list and names have changed
-  pub listed-set : (old new : Holdings) → AreListed old xs → OthersKeep old new t → IsListed new t v.items
-      → AreListed new (set xs t v)
-  listed-set old new all others own j first q h = elim (cases_eq j t) [
-    | inl e ↦
-        let room : t < length (names xs) = subst (λ n. t < n) (sym (length-map xs (λ w. w.items))) within in
-        let here : get_or (names (set xs t v)) j [] ≡ v.items =
-        ap (λ k. get_or (names (set xs t v)) k []) e
-        ∙ (ap (λ l. get_or l t []) (map-set (λ w. w.items) xs t v) ∙ get_or-set_same (names xs) t v.items [] room)
-        in
-        ap (λ u. held new u q) e ∙ own q (sym (ap (λ l. stands l q) here) ∙ h)
-    | inr ne ↦
-        let there : get_or (names (set xs t v)) j [] ≡ get_or (names xs) j [] =
-        ap (λ l. get_or l j []) (map-set (λ w. w.items) xs t v) ∙ get_or-set_other (names xs) t j v.items [] ne in
-        others j ne q ∙ all j first q (sym (ap (λ l. stands l q) there) ∙ h)
+  pub busy-kept : (b : ℕ) → AreBusy b ls → has b t ≡ true → AreBusy b (set ls t es)
+  busy-kept b all in_set u none = elim (cases_eq u t) [
+    | inl e ↦ absurd (false≢true (sym none ∙ (ap (has b) e ∙ in_set)))
+    | inr ne ↦ other-busy b b all u ne none
   ]
 
--- names that stay on their lists
-pub listed-kept : (xs : List (Vec Name)) (old new : Holdings) (t : ℕ) → OthersKeep old new t
-    → ((q : Name) → held old t q ≡ None → held new t q ≡ None) → AreListed old xs → AreListed new xs
-listed-kept xs old new t others own all j first q h = elim (cases_eq j t) [
-  | inl e ↦ ap (λ u. held new u q) e ∙ own q (ap (λ u. held old u q) (sym e) ∙ all j first q h)
-  | inr ne ↦ others j ne q ∙ all j first q h
-]
-
--- a name that was given back is off the list
-pub struck : (old new : Holdings) (t : ℕ) (n : Name) (before after : List Name) → GivesBack old new t n None
-    → after ≡ filter (λ x. not (is_name x n)) before → IsListed old t before
-    → IsListed new t after
-struck old new t n before after own is listed q h = own q ∙ go (is_name q n) refl
+-- a terminal that holds a name is in the set
+pub busy-below : (ls : Holdings) (b t : ℕ) (n : Name) (m : Option Mode) → AreBusy b ls → IsBelow m (held ls t n)
+    → has b t ≡ true
+busy-below ls b t n m all below = go (has b t) refl
   where
-    go : (b : Bool) → is_name q n ≡ b → cond b None (held old t q) ≡ None
+    never : (o : Option Mode) → IsBelow o None → ⊥
+    never None h = h
+    never (Some Shared) h = h
+    never (Some Exclusive) h = h
+
+    go : (c : Bool) → has b t ≡ c → c ≡ true
     go true e = refl
-    go false e = listed q (sym (stands-filter before n q e) ∙ (ap (λ l. stands l q) (sym is) ∙ h))
+    go false e = absurd (never m (subst (IsBelow m) (idle-held ls b t all e n) below))
 
--- where nothing changes, names stay on their list
-stays : (old new : Holdings) (t : ℕ) (before after : List Name) → (new ≡ old) × (after ≡ before) → IsListed old t before
-    → OthersKeep old new t × IsListed new t after
-stays old new t before after same listed = (
-  λ u ne q. ap (λ z. held z u q) same.0,
-  λ q h. ap (λ z. held z t q) same.0 ∙ listed q (ap (λ l. stands l q) (sym same.1) ∙ h),
-)
+pub below-some : (o m : Option Mode) → IsBelow m o → IfSome m (λ k. IsSome o)
+below-some o None h = tt
+below-some (Some k) (Some m) h = refl
+below-some None (Some Shared) h = absurd h
+below-some None (Some Exclusive) h = absurd h
 
--- a name that was taken is on the list, and all is as before where it was refused
-pub entered : (old new : Holdings) (t : ℕ) (n : Name) (o : Option Holders) (before after : List Name) {T E : Type 0}
-    (r : Result T E)
-    → OnOk r ((q : Name) → lookup (ghosts.eq q) new ≡ cond (ghosts.eq n q) o (lookup (ghosts.eq q) old))
-    → OnOk r (after ≡ before ++ n ∷ []) → OnErr r ((new ≡ old) × (after ≡ before))
-    → ((u : ℕ) → u ≢ t → mode_by o u ≡ held old u n) → IsListed old t before
-    → OthersKeep old new t × IsListed new t after
-entered old new t n o before after (Ok x) is list err same listed = (others-changed old new n o is t same, own)
-  where
-    own : IsListed new t after
-    own q h =
-        let p = stands-push before n q (ap (λ l. stands l q) (sym list) ∙ h) in
-        own-changed old new n o is t q ∙ ap (λ b. cond b (mode_by o t) (held old t q)) p.0 ∙ listed q p.1
-entered old new t n o before after (Err e) is list err same listed = stays old new t before after err listed
+-- who is in the way is among the other terminals that may hold something
+module _ (ls : Holdings) (b others t : ℕ) (n : Name) (m : Mode) (all : AreBusy b ls)
+    (is : (u : ℕ) → has others u ≡ (if u == t then false else has b u)) where
+  among : (u : ℕ) → u ≢ t → has others u ≡ has b u
+  among u ne = is u ∙ cond-false (u == t) false (has b u) (ne_eqb u t ne)
 
--- a name that was taken off the end and given back
-pub popped : (old new : Holdings) (t : ℕ) (n : Name) (before after : List Name) → GivesBack old new t n None
-    → before ≡ after ++ n ∷ [] → IsListed old t before → IsListed new t after
-popped old new t n before after own is listed q h = own q ∙ go (is_name q n) refl
-  where
-    go : (b : Bool) → is_name q n ≡ b → cond b None (held old t q) ≡ None
-    go true e = refl
-    go false e = listed q (ap (λ l. stands l q) is ∙ stands-popped after n q e h)
-
--- a name that nobody held has its first holders, or all is as before
-module _ (old new : Holdings) (t : ℕ) (n : Name) (h : Holders) (m : Mode) (before after : List Name)
-    (one : (u : ℕ) → mode_among h u ≡ (if u == t then Some m else None))
-    (r : Result (Option Holders) AllocError) (found : IfOk r (λ o. o ≡ lookup (ghosts.eq n) old)) where
-  abbrev IsEntered : Type 0
-  IsEntered = ((q : Name) → lookup (ghosts.eq q) new ≡ cond (ghosts.eq n q) (Some h) (lookup (ghosts.eq q) old))
-      × (after ≡ before ++ n ∷ [])
-
-  first-others : lookup (ghosts.eq n) old ≡ None → (u : ℕ) → u ≢ t → mode_among h u ≡ held old u n
-  first-others none u ne = one u ∙ (cond-false (u == t) (Some m) None (ne_eqb u t ne) ∙ sym (held-is old n None none u))
-
-  pub begun-before : IfOk r (λ o. (u : ℕ) → held old u n ≡ mode_by o u)
-  begun-before = go r found
+  pub free-for : ((u : ℕ) → has others u ≡ true → go_together m (held ls u n) ≡ true) → IsFreeFor ls t n m
+  free-for free u ne = go (has others u) refl
     where
-      go : (r : Result (Option Holders) AllocError) → IfOk r (λ o. o ≡ lookup (ghosts.eq n) old)
-          → IfOk r (λ o. (u : ℕ) → held old u n ≡ mode_by o u)
-      go (Ok o) f = held-is old n o (sym f)
-      go (Err e) f = tt
+      go : (c : Bool) → has others u ≡ c → go_together m (held ls u n) ≡ true
+      go true e = free u e
+      go false e = ap (go_together m) (idle-held ls b u all (sym (among u ne) ∙ e) n)
 
-  pub begun-own : IfOk r (λ o. IfNone o IsEntered) → IfOk r (λ o. IfNone o (GivesBack old new t n (Some m)))
-  begun-own entry = go r entry
+  not_own : (u : ℕ) → has others u ≡ true → u ≢ t
+  not_own u e s = false≢true (sym (is u ∙ cond-true (u == t) false (has b u) (eq-eqb u t s)) ∙ e)
+
+  first-in-the-way : (u : ℕ) → IsFirstAmong ls others n m u → IsInTheWay ls t n m u
+  first-in-the-way u h = record {
+    other = not_own u h.other;
+    conflicts = h.conflicts;
+    least = λ v less ne. go v less ne (has others v) refl;
+  }
     where
-      own : IsEntered → GivesBack old new t n (Some m)
-      own e = subst (λ z. GivesBack old new t n z) (one t ∙ cond-true (t == t) (Some m) None (eq-eqb t t refl))
-          (own-changed old new n (Some h) e.0 t)
+      go : (v : ℕ) → v < u → v ≢ t → (c : Bool) → has others v ≡ c → go_together m (held ls v n) ≡ true
+      go v less ne true e = h.least v less e
+      go v less ne false e = ap (go_together m) (idle-held ls b v all (sym (among v ne) ∙ e) n)
 
-      go : (r : Result (Option Holders) AllocError) → IfOk r (λ o. IfNone o IsEntered)
-          → IfOk r (λ o. IfNone o (GivesBack old new t n (Some m)))
-      go (Ok None) e = own e
-      go (Ok (Some x)) e = tt
-      go (Err x) e = tt
+  pub in-the-way : (r : Option ℕ)
+      → MatchOption r ((u : ℕ) → has others u ≡ true → go_together m (held ls u n) ≡ true) (IsFirstAmong ls others n m)
+      → MatchOption r (IsFreeFor ls t n m) (IsInTheWay ls t n m)
+  in-the-way None h = free-for h
+  in-the-way (Some u) h = first-in-the-way u h
 
-  pub begun-others : IfOk r (λ o. IfNone o IsEntered) → IfOk r (λ o. IfNone o (OthersKeep old new t))
-  begun-others entry = go r found entry
+  pub nobody-else : ((u : ℕ) → has others u ≡ false) → IsFreeFor ls t n m
+  nobody-else none = free-for (λ u e. absurd (false≢true (sym (none u) ∙ e)))
+
+pub not_true : (b : Bool) → true ≡ not b → b ≡ false
+not_true false e = refl
+not_true true e = absurd (false≢true (sym e))
+
+pub not_false : (b : Bool) → false ≡ not b → b ≡ true
+not_false true e = refl
+not_false false e = absurd (false≢true e)
+
+-- one of those that may hold the name was looked at
+module _ (ls : Holdings) (others left rest t : ℕ) (n : Name) (m : Mode)
+    (is : (u : ℕ) → has rest u ≡ (if u == t then false else has left u)) where
+  pub within-rest : ((u : ℕ) → has left u ≡ true → has others u ≡ true) → (u : ℕ) → has rest u ≡ true
+      → has others u ≡ true
+  within-rest within u e = within u (go (u == t) (sym (is u) ∙ e))
     where
-      go : (r : Result (Option Holders) AllocError) → IfOk r (λ o. o ≡ lookup (ghosts.eq n) old)
-          → IfOk r (λ o. IfNone o IsEntered) → IfOk r (λ o. IfNone o (OthersKeep old new t))
-      go (Ok None) f e = others-changed old new n (Some h) e.0 t (first-others (sym f))
-      go (Ok (Some x)) f e = tt
-      go (Err x) f e = tt
+      go : (c : Bool) → (if c then false else has left u) ≡ true → has left u ≡ true
+      go true h = absurd (false≢true h)
+      go false h = h
 
-  pub begun-listed : IfOk r (λ o. IfNone o IsEntered) → IfOk r (λ o. IsSome o → (new ≡ old) × (after ≡ before))
-      → OnErr r ((new ≡ old) × (after ≡ before)) → IsListed old t before
-      → OthersKeep old new t × IsListed new t after
-  begun-listed entry same err listed = go r found entry same err
-    where
-      go : (r : Result (Option Holders) AllocError) → IfOk r (λ o. o ≡ lookup (ghosts.eq n) old)
-          → IfOk r (λ o. IfNone o IsEntered) → IfOk r (λ o. IsSome o → (new ≡ old) × (after ≡ before))
-          → OnErr r ((new ≡ old) × (after ≡ before)) → OthersKeep old new t × IsListed new t after
-      go (Ok None) f e s x = entered old new t n (Some h) before after {T = Unit {0}} {E = Unit {0}} (Ok tt) e.0 e.1 tt
-          (first-others (sym f)) listed
-      go (Ok (Some o)) f e s x = stays old new t before after (s refl) listed
-      go (Err k) f e s x = stays old new t before after x listed
-
--- where it was refused, nobody held it
-pub begun-absent : (old : Holdings) (n : Name) {T : Type 0} (r : Result T AllocError)
-    → OnErr r (lookup (ghosts.eq n) old ≡ None) → OnErr r ((u : ℕ) → held old u n ≡ None)
-begun-absent old n (Ok x) h = tt
-begun-absent old n (Err e) h = held-is old n None h
+  pub free-rest : go_together m (held ls t n) ≡ true
+      → ((u : ℕ) → has others u ≡ true → has left u ≡ false → go_together m (held ls u n) ≡ true)
+      → (u : ℕ) → has others u ≡ true → has rest u ≡ false → go_together m (held ls u n) ≡ true
+  free-rest own free u e none = elim (cases_eq u t) [
+    | inl s ↦ ap (λ v. go_together m (held ls v n)) s ∙ own
+    | inr ne ↦ free u e (sym (cond-false (u == t) false (has left u) (ne_eqb u t ne)) ∙ (sym (is u) ∙ none))
+  ]

@@ -90,3 +90,10 @@ name_sym a b = go (is_name a b) (is_name b a) refl refl
     go false false e f = refl
     go true false e f = sym (name_refl b) ∙ (ap (λ z. is_name b z) (sym (name_true a b e)) ∙ f)
     go false true e f = sym e ∙ (ap (λ z. is_name a z) (name_true b a f) ∙ name_refl a)
+
+-- so `==` is symmetric too, and true of equal names alone
+pub same_sym : (a b : Name) → ghosts.eq a b ≡ ghosts.eq b a
+same_sym a b = eq_is_name a b ∙ (name_sym a b ∙ sym (eq_is_name b a))
+
+pub same_true : (a b : Name) → ghosts.eq a b ≡ true → a ≡ b
+same_true a b e = name_true a b (sym (eq_is_name a b) ∙ e)

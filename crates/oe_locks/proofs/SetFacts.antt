@@ -1,4 +1,4 @@
--- Bits of a set of terminals.
+-- Bits of a set of terminals, and of a set of marks.
 use Rattle.std.proofs.Common.{◌≡◌, ◌≢◌, ℕ, suc, zero, ◌+◌, ◌*◌, ◌/◌, ◌%◌, ◌^◌, ◌<◌, ◌≤◌, min, ◌==◌, inl, inr, Bool}
 use Rattle.std.proofs.Common.{true, false, if◌then◌else◌, Option, None, Some, IsSome, ◌↔◌, refl, sym, ap, ◌∙◌, arith}
 use Rattle.std.proofs.Common.{bit_and, bit_or, w64}
@@ -7,7 +7,7 @@ use Rattle.std.specs.Int.{bit_at, bit_not, trailing_zeros}
 use Rattle.std.proofs.lemmas.Bool.{cases_eq, cases_lt, cond-true, cond-false, eq-eqb, ne_eqb, false≢true}
 use Rattle.std.proofs.lemmas.Nat.Bits.{shr_and_one, bit_at_and, bit_at_set_same, bit_at_set_other, bit_at_clear_same}
 use Rattle.std.proofs.lemmas.Nat.Bits.{bit_at_clear_other, bit_at_above, bit_at-trailing_zeros, bit_at-zero}
-use Rattle.oe_locks.specs.Holders.{has, IsLeast}
+use Rattle.oe_locks.specs.Terminals.{has, IsLeast}
 
 -- the slot of the terminal t is k
 module _ (n k t : ℕ) (within : k < 64) (slot : k + 1 ≡ t) where
@@ -54,6 +54,57 @@ module _ (n k t : ℕ) (within : k < 64) (slot : k + 1 ≡ t) where
           (bit_at_clear_other w64 n k within i l ne)
       | inr l ↦ elsewhere (bit_and n (bit_not w64 (1 * 2 ^ k % 2 ^ 64))) i false ne (cleared_above i b l)
     ]
+  ]
+
+-- a mark more
+module _ (n m : ℕ) (within : m < 64) where
+  pub mark-with : (k : ℕ) → (bit_at (bit_or n (1 * 2 ^ m % 2 ^ 64)) k == 1)
+      ≡ (if k == m then true else (bit_at n k == 1))
+  mark-with k = elim (cases_eq k m) [
+    | inl s ↦ ap (λ j. bit_at (bit_or n (1 * 2 ^ m % 2 ^ 64)) j == 1) s
+        ∙ (ap (λ z. z == 1) (bit_at_set_same w64 n m within)
+        ∙ sym (cond-true (k == m) true (bit_at n k == 1) (eq-eqb k m s)))
+    | inr ne ↦ ap (λ z. z == 1) (bit_at_set_other w64 n m within k ne)
+        ∙ sym (cond-false (k == m) true (bit_at n k == 1) (ne_eqb k m ne))
+  ]
+
+abbrev one_if : Bool → ℕ
+one_if true = 1
+one_if false = 0
+
+-- how many of the first n terminals are in the set
+unfoldable pub size : ℕ → ℕ → ℕ
+size s zero = 0
+size s (suc n) = one_if (has s (suc n)) + size s n
+
+-- a set without one terminal of another
+module _ (left rest t : ℕ) (is : (u : ℕ) → has rest u ≡ (if u == t then false else has left u)) where
+  elsewhere_same : (u : ℕ) → u ≢ t → one_if (has rest u) ≡ one_if (has left u)
+  elsewhere_same u ne = ap one_if
+      (is u ∙ cond-false (u == t) false (has left u) (ne_eqb u t ne))
+
+  size-below : (n : ℕ) → n < t → size rest n ≡ size left n
+  unfolding size
+  size-below zero l = refl
+  size-below (suc n) l =
+      let apart : suc n ≢ t = omega (arith, l) in
+      ap (λ k. k + size rest n) (elsewhere_same (suc n) apart)
+      ∙ ap (λ k. one_if (has left (suc n)) + k) (size-below n (omega (arith, l)))
+
+  pub size-less : (n : ℕ) → 1 ≤ t → t ≤ n → has left t ≡ true → size rest n < size left n
+  unfolding size
+  size-less zero low high own = absurd (omega (arith, low, high))
+  size-less (suc n) low high own = elim (cases_eq (suc n) t) [
+    | inl s ↦
+        let gone : one_if (has rest (suc n)) ≡ 0 = ap one_if
+        (is (suc n) ∙ cond-true (suc n == t) false (has left (suc n)) (eq-eqb (suc n) t s)) in
+        let there : one_if (has left (suc n)) ≡ 1 = ap one_if (ap (has left) s ∙ own) in
+        let same = size-below n (omega (arith, s)) in
+        omega (arith, gone, there, same)
+    | inr ne ↦
+        let bit = elsewhere_same (suc n) ne in
+        let less = size-less n low (omega (arith, ne, high)) own in
+        omega (arith, bit, less)
   ]
 
 -- the empty set has no terminal

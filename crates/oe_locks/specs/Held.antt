@@ -1,6 +1,6 @@
 -- Names that are held by terminals, and the modes in which they are held.
-use Rattle.std.specs.Prelude.{◌≡◌, ◌≢◌, ℕ, ◌<◌, ◌==◌, ◌&&◌, Bool, true, false, Option, None, Some, List, if◌then◌else◌}
-use Rattle.std.specs.Map.{lookup}
+use Rattle.std.specs.Prelude.{◌≡◌, ◌≢◌, ℕ, ◌<◌, ◌==◌, ◌&&◌, Bool, true, false, Option, None, Some, List, [], if◌then◌else◌, get_or}
+use Rattle.std.specs.Map.{lookup, keys_of}
 use Rattle.std.specs.Str.{bytes_eq}
 use Rattle.oe_rows.specs.contracts.locks.NamePartialEq.TheImpl.{ghosts}
 use Rattle.oe_rows.specs.declared.locks.Name.{Name}
@@ -9,8 +9,7 @@ use Rattle.oe_rows.specs.declared.locks.Mode.{Mode}
 use Rattle.oe_rows.specs.declared.locks.Mode.TheVariants.{Shared, Exclusive}
 use Rattle.oe_requests.specs.declared.refusals.Refusal.{Refusal}
 use Rattle.oe_requests.specs.declared.refusals.Refusal.TheVariants.{Busy, NoMemory}
-use Rattle.oe_locks.specs.declared.holders.Holders.{Holders}
-use Rattle.oe_locks.specs.Holders.{mode_by}
+use Rattle.oe_locks.specs.Terminals.{has}
 
 -- the two are one name: of one kind, with the same columns and letters
 abbrev pub is_name : Name → Name → Bool
@@ -43,13 +42,21 @@ IsBelow None (Some m) = Unit {0}
 IsBelow (Some Shared) (Some Exclusive) = Unit {0}
 IsBelow _ _ = ⊥
 
--- the names that are held, each with its holders
+-- what each terminal holds, by its number: names, each in a mode, in the order in which they were taken
 abbrev pub Holdings : Type 0
-Holdings = List (Name × Holders)
+Holdings = List (List (Name × Mode))
 
--- the mode in which a terminal holds a name. 0 is no terminal's number
+-- the names and modes of a terminal. 0 is no terminal's number, and its list is empty
+abbrev pub entries_of : Holdings → ℕ → List (Name × Mode)
+entries_of locks t = get_or locks t []
+
+-- the mode in which a terminal holds a name
 unfoldable pub held : Holdings → ℕ → Name → Option Mode
-held locks t q = mode_by (lookup (ghosts.eq q) locks) t
+held locks t q = lookup (ghosts.eq q) (entries_of locks t)
+
+-- the names that a terminal holds, in the order in which it took them
+abbrev pub names_of : Holdings → ℕ → List Name
+names_of locks t = keys_of (entries_of locks t)
 
 -- the terminal holds no name
 abbrev pub HoldsNothing : Holdings → ℕ → Type 0
@@ -58,16 +65,6 @@ HoldsNothing locks t = (q : Name) → held locks t q ≡ None
 -- no terminal holds a name
 abbrev pub IsIdle : Holdings → Type 0
 IsIdle locks = (t : ℕ) → HoldsNothing locks t
-
--- of the modes in which the terminals hold one name, no other's conflicts with the mode
-abbrev pub IsFree : (ℕ → Option Mode) → ℕ → Mode → Type 0
-IsFree modes t m = (u : ℕ) → u ≢ t → go_together m (modes u) ≡ true
-
--- the least other terminal whose mode conflicts
-pub record IsFirstInTheWay (modes : ℕ → Option Mode) (t : ℕ) (m : Mode) (u : ℕ) : Type 0 where
-  pub other : u ≢ t
-  pub conflicts : go_together m (modes u) ≡ false
-  pub least : (v : ℕ) → v < u → v ≢ t → go_together m (modes v) ≡ true
 
 -- no other terminal holds the name in a mode that conflicts
 abbrev pub IsFreeFor : Holdings → ℕ → Name → Mode → Type 0
@@ -98,3 +95,13 @@ abbrev pub IsCause : Holdings → ℕ → Name → Mode → Refusal → Type 0
 IsCause locks t n m (Busy name u) = (name ≡ n) × IsInTheWay locks t n m u
 IsCause locks t n m NoMemory = IsFreeFor locks t n m × (held locks t n ≡ None)
 IsCause locks t n m _ = ⊥
+
+-- a terminal that is not in the set holds nothing
+abbrev pub AreBusy : ℕ → Holdings → Type 0
+AreBusy busy locks = (t : ℕ) → has busy t ≡ false → entries_of locks t ≡ []
+
+-- the least of those terminals that holds the name in a mode that conflicts
+pub record IsFirstAmong (locks : Holdings) (others : ℕ) (n : Name) (m : Mode) (u : ℕ) : Type 0 where
+  pub other : has others u ≡ true
+  pub conflicts : go_together m (held locks u n) ≡ false
+  pub least : (v : ℕ) → v < u → has others v ≡ true → go_together m (held locks v n) ≡ true

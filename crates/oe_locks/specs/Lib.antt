@@ -1,4 +1,5 @@
+pub mod Hashes
 pub mod Held
-pub mod Holders
 pub mod Listed
-pub mod Names
+pub mod Marks
+pub mod Terminals

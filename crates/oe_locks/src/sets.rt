@@ -1,6 +1,6 @@
 //! Sets of terminals, a bit for each, so that they are copied and take no memory.
 ghost use Rattle.std.specs.Prelude.{◌≡◌, ◌==◌, ℕ, true, false, MatchOption, if◌then◌else◌};
-ghost use Rattle.oe_locks.specs.Holders.{has, IsLeast};
+ghost use Rattle.oe_locks.specs.Terminals.{has, IsLeast};
 
 use oe_values::Terminal;
 use std::marker::Model;

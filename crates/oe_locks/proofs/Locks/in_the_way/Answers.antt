@@ -1,15 +1,15 @@
-use Rattle.std.proofs.Common.{None, Some, refl, sym}
-use Rattle.oe_locks.proofs.HeldFacts.{free-is, way-is}
+use Rattle.oe_locks.proofs.HeldFacts.{in-the-way, nobody-else}
 use Rattle.oe_locks.proofs.Locks.in_the_way.Goals as goal
 
-pub returns-in_err-get : goal.returns-in_err-get
-returns-in_err-get c =
+pub returns-in_err-least : goal.returns-in_err-least
+returns-in_err-least c =
     rw (← c.self.view_is, c.from_residual.ensures)
-    (free-is c.self.inside.holders c.args.name.now None (sym c.in_err-get.ensures) c.args.terminal c.args.mode
-    (λ u ne. refl))
+    (nobody-else c.self.inside.held c.self.inside.busy c.without-others.result c.args.terminal c.args.name.now
+    c.args.mode c.self.invariant c.without-others.ensures c.in_err-least.ensures)
 
 pub returns : goal.returns
 returns c =
     rw (← c.self.view_is)
-    (way-is c.self.inside.holders c.args.name.now (Some c.in_ok-get.field-0) (sym c.in_ok-get.ensures)
-    c.args.terminal c.args.mode c.in_the_way.result c.in_the_way.ensures)
+    (in-the-way c.self.inside.held c.self.inside.busy c.without-others.result c.args.terminal c.args.name.now
+    c.args.mode c.self.invariant c.without-others.ensures c.least_in_the_way.result
+    (rw c.self.view_is c.least_in_the_way.ensures))

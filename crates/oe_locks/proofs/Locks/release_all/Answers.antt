@@ -1,18 +1,13 @@
 use Rattle.std.proofs.Common.{◌<◌, length, arith}
-use Rattle.oe_locks.proofs.HeldFacts.{listed-at, listed-set}
+use Rattle.oe_locks.proofs.HeldFacts.{nothing-set, keeps-set}
 use Rattle.oe_locks.proofs.Locks.release_all.Goals as goal
 
-pub leave_all-requires : goal.leave_all-requires
-leave_all-requires c =
-    let room : c.args.terminal < length c.self.inside.names =
-    omega (arith, c.at_mut-names.ensures.size, c.at_mut-names.ensures.high) in
-    listed-at c.self.inside.names c.args.terminal c.at_mut-names.result.now c.at_mut-names.ensures.low room
-    c.self.inside.holders c.at_mut-names.ensures.value c.self.invariant
+pub returns-clause-own : goal.returns-clause-own
+returns-clause-own c =
+    let room : c.args.terminal < length c.self.inside.held = omega (arith, c.at_mut.ensures.size, c.at_mut.ensures.high) in
+    nothing-set c.self.inside.held c.args.terminal c.clear.new.self room c.clear.ensures
 
-pub invariant_of-self : goal.invariant_of-self
-invariant_of-self c =
-    let room : c.args.terminal < length c.self.inside.names =
-    omega (arith, c.at_mut-names.ensures.size, c.at_mut-names.ensures.high) in
-    listed-set c.self.inside.names c.args.terminal c.leave_all.new.names c.at_mut-names.ensures.low room
-    c.self.inside.holders c.leave_all.new.holders c.self.invariant
-    c.leave_all.ensures.others (λ q h. c.leave_all.ensures.own q)
+pub returns-clause-others : goal.returns-clause-others
+returns-clause-others c =
+    let room : c.args.terminal < length c.self.inside.held = omega (arith, c.at_mut.ensures.size, c.at_mut.ensures.high) in
+    rw (← c.self.view_is) (keeps-set c.self.inside.held c.args.terminal c.clear.new.self room)
