@@ -1,6 +1,6 @@
 -- Names, each in a mode, that one terminal holds.
-use Rattle.std.proofs.Common.{◌≡◌, ℕ, ◌==◌, Bool, true, false, not, ◌||◌, cond, if◌then◌else◌, List, [], ◌∷◌, ◌++◌, filter}
-use Rattle.std.proofs.Common.{Option, None, Some, is_some, refl, sym, ap, ◌∙◌, subst, eq-eqb}
+use Rattle.std.proofs.Common.{◌≡◌, ℕ, ◌==◌, Bool, true, false, not, ◌||◌, cond, if◌then◌else◌, List, [], ◌∷◌, ◌++◌}
+use Rattle.std.proofs.Common.{filter, Option, None, Some, is_some, refl, sym, ap, ◌∙◌, subst, eq-eqb}
 use Rattle.std.proofs.lemmas.Bool.{cond-true, false≢true}
 use Rattle.std.proofs.lemmas.Map.Keys.{IsDistinct-head, IsDistinct-tail}
 use Rattle.std.specs.List.{IsDistinct, AllByRecursion}
@@ -42,12 +42,16 @@ apart x (y ∷ ys) h = ap (λ b. b || stands ys x) (sym (eq_is_name x y) ∙ h.0
 
 pub once-distinct : (xs : List Name) → IsDistinct ghosts.eq xs → AreOnce xs
 once-distinct [] d = tt
-once-distinct (x ∷ xs) d = (apart x xs (IsDistinct-head ghosts.eq x xs d), once-distinct xs (IsDistinct-tail ghosts.eq x xs d))
+once-distinct (x ∷ xs) d = (
+  apart x xs (IsDistinct-head ghosts.eq x xs d),
+  once-distinct xs (IsDistinct-tail ghosts.eq x xs d),
+)
 
 -- a name that is there keeps its place
 pub taken-there : (es : Entries) (n : Name) → is_some (lookup (ghosts.eq n) es) ≡ true
     → taken_names (keys_of es) n ≡ keys_of es
-taken-there es n there = cond-true (stands (keys_of es) n) (keys_of es) (keys_of es ++ n ∷ []) (stands-found es n ∙ there)
+taken-there es n there = cond-true (stands (keys_of es) n) (keys_of es) (keys_of es ++ n ∷ [])
+    (stands-found es n ∙ there)
 
 -- and so the names are after an insertion
 pub taken-inserted : (es : Entries) (n : Name) (m : Mode)
@@ -88,18 +92,22 @@ pub left-entries : (n : Name) (es : Entries) → lookup (ghosts.eq n) (remove_en
 left-entries n [] none = refl
 left-entries n (e ∷ es) none = go (ghosts.eq n e.0) refl none (left-entries n es)
   where
+    rest : Entries
+    rest = remove_entry (ghosts.eq n) es
+
     others : List Name
     others = filter (λ x. not (is_name x n)) (keys_of es)
 
     go : (b : Bool) → ghosts.eq n e.0 ≡ b
-        → lookup (ghosts.eq n) (cond b es (e ∷ remove_entry (ghosts.eq n) es)) ≡ None
-        → (lookup (ghosts.eq n) (remove_entry (ghosts.eq n) es) ≡ None → keys_of (remove_entry (ghosts.eq n) es) ≡ others)
-        → keys_of (cond b es (e ∷ remove_entry (ghosts.eq n) es)) ≡ cond (not (is_name e.0 n)) (e.0 ∷ others) others
+        → lookup (ghosts.eq n) (cond b es (e ∷ rest)) ≡ None
+        → (lookup (ghosts.eq n) rest ≡ None
+        → keys_of rest ≡ others)
+        → keys_of (cond b es (e ∷ rest)) ≡ cond (not (is_name e.0 n)) (e.0 ∷ others) others
     go true s gone ih =
         sym (stay n (keys_of es) (stands-found es n ∙ ap (λ o. is_some o) gone))
         ∙ sym (ap (λ b. cond (not b) (e.0 ∷ others) others) (name_sym e.0 n ∙ (sym (eq_is_name n e.0) ∙ s)))
     go false s gone ih =
-        ap (λ l. e.0 ∷ l) (ih (sym (ap (λ b. cond b (Some e.1) (lookup (ghosts.eq n) (remove_entry (ghosts.eq n) es))) s)
+        ap (λ l. e.0 ∷ l) (ih (sym (ap (λ b. cond b (Some e.1) (lookup (ghosts.eq n) rest)) s)
         ∙ gone))
         ∙ sym (ap (λ b. cond (not b) (e.0 ∷ others) others) (name_sym e.0 n ∙ (sym (eq_is_name n e.0) ∙ s)))
 

@@ -1,8 +1,10 @@
 -- What is held, by the lists of all terminals.
-use Rattle.std.proofs.Common.{◌≡◌, ◌≢◌, ℕ, ◌<◌, ◌==◌, inl, inr, Bool, true, false, not, cond, if◌then◌else◌, List, [], length}
-use Rattle.std.proofs.Common.{get_or, set, replicate, ◌≤◌, ◌⊎◌, Option, None, Some, IsSome, is_some, refl, sym, ap, ◌∙◌, eq-eqb, subst}
+use Rattle.std.proofs.Common.{◌≡◌, ◌≢◌, ℕ, ◌<◌, ◌==◌, inl, inr, Bool, true, false, not, cond, if◌then◌else◌}
+use Rattle.std.proofs.Common.{List, [], length, get_or, set, replicate, ◌≤◌, ◌⊎◌, Option, None, Some, IsSome, is_some}
+use Rattle.std.proofs.Common.{refl, sym, ap, ◌∙◌, eq-eqb, subst}
 use Rattle.std.proofs.lemmas.Bool.{cases_eq, cases_lt, cond-true, cond-false, ne_eqb, false≢true}
-use Rattle.std.proofs.lemmas.List.{get_or_default, get_or-set_same, get_or-set_other, get_or-replicate, length-replicate}
+use Rattle.std.proofs.lemmas.List.{get_or_default, get_or-set_same, get_or-set_other, get_or-replicate}
+use Rattle.std.proofs.lemmas.List.{length-replicate}
 use Rattle.std.proofs.Math.ListN.{get_or-eq_default}
 use Rattle.std.specs.Prelude.{MatchOption, IfSome}
 use Rattle.std.specs.Map.{lookup, keys_of}

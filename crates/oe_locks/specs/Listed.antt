@@ -1,5 +1,6 @@
 -- Lists of the names that a terminal holds, and how they change.
-use Rattle.std.specs.Prelude.{◌≡◌, ◌≢◌, ℕ, Bool, false, not, Option, None, Some, List, [], ◌∷◌, ◌++◌, ◌||◌, is_some, filter, if◌then◌else◌}
+use Rattle.std.specs.Prelude.{◌≡◌, ◌≢◌, ℕ, Bool, false, not, Option, None, Some, List, [], ◌∷◌, ◌++◌}
+use Rattle.std.specs.Prelude.{◌||◌, is_some, filter, if◌then◌else◌}
 use Rattle.oe_rows.specs.declared.locks.Name.{Name}
 use Rattle.oe_rows.specs.declared.locks.Mode.{Mode}
 use Rattle.oe_locks.specs.Held.{Holdings, held, is_name, names_of}

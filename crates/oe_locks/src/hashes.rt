@@ -1,7 +1,7 @@
 //! How names are hashed: a multiplication for each number of a name's key.
 //!
-//! The hash has no secret. A terminal's map has the names of one transaction alone, so who picks
-//! them so that they collide makes that transaction slow, and no other.
+//! The hash has no secret. A terminal's map has the names of one transaction, some thirty at most,
+//! so names that were picked to collide cost little.
 ghost use Rattle.std.specs.Prelude.{◌≡◌, length};
 ghost use Rattle.std.specs.Int.{w32, w64, from_le_bytes};
 ghost use Rattle.oe_locks.specs.Hashes.{joined, joined_bytes};

@@ -18,8 +18,8 @@ use std::marker::Model;
 #[derive(Drop)]
 pub(crate) struct Held {
     names: IndexMap<Name, Mode, NameHashes>,
-    // The mark of each of these names is in it, so that of most other names it is known without a
-    // look that they are not held.
+    // The marks of these names, and perhaps more. A name whose mark is not among them is not held,
+    // so that a look for most other names is spared.
     marks: Marks,
 }
 

@@ -3,7 +3,7 @@
 //! exclusive.
 //!
 //! Each terminal has a map from the names that it holds to their modes, in the order in which it
-//! took them, and no other place says who holds what. Memory is wanted only for a name that a
+//! took them, and nothing else says who holds what. Memory is wanted only for a name that a
 //! terminal does not hold yet. Who is in the way is looked for in the maps of those others whose
 //! marks have the name's.
 #![tactic(auto)]

@@ -1,5 +1,5 @@
-//! Marks of names: one of 64 for each name, so that a set of marks tells quickly of most names that
-//! none of them is in it.
+//! Marks of names. Each name has one of 64, by a number of its key. A name whose mark is not among
+//! the marks of some names is none of these.
 ghost use Rattle.std.specs.Prelude.{◌≡◌, ◌<◌, ◌==◌, ℕ, true, false, if◌then◌else◌};
 ghost use Rattle.oe_locks.specs.Marks.{mark, has_mark};
 

@@ -4,7 +4,8 @@ use Rattle.oe_locks.proofs.Locks.acquire.Goals as goal
 
 pub returns-in_default-take-clause-cause : goal.returns-in_default-take-clause-cause
 returns-in_default-take-clause-cause c =
-    let room : c.args.terminal < length c.self.inside.held = omega (arith, c.at_mut.ensures.size, c.at_mut.ensures.high) in (
+    let room : c.args.terminal < length c.self.inside.held =
+    omega (arith, c.at_mut.ensures.size, c.at_mut.ensures.high) in (
       c.in_default.ensures,
       rw (← c.self.view_is)
           (held-at c.self.inside.held c.args.terminal c.at_mut.result.now room c.at_mut.ensures.value c.args.name
@@ -13,14 +14,16 @@ returns-in_default-take-clause-cause c =
 
 pub returns-clause-before : goal.returns-clause-before
 returns-clause-before c =
-    let room : c.args.terminal < length c.self.inside.held = omega (arith, c.at_mut.ensures.size, c.at_mut.ensures.high) in
+    let room : c.args.terminal < length c.self.inside.held =
+    omega (arith, c.at_mut.ensures.size, c.at_mut.ensures.high) in
     rw (← c.self.view_is)
     (c.in-Ok.ensures.before
     ∙ sym (held-at c.self.inside.held c.args.terminal c.at_mut.result.now room c.at_mut.ensures.value c.args.name))
 
 pub returns-clause-own : goal.returns-clause-own
 returns-clause-own c =
-    let room : c.args.terminal < length c.self.inside.held = omega (arith, c.at_mut.ensures.size, c.at_mut.ensures.high) in
+    let room : c.args.terminal < length c.self.inside.held =
+    omega (arith, c.at_mut.ensures.size, c.at_mut.ensures.high) in
     rw (← c.self.view_is)
     (takes c.self.inside.held c.args.terminal c.take.new.self room c.at_mut.result.now
     (held-at c.self.inside.held c.args.terminal c.at_mut.result.now room c.at_mut.ensures.value) c.args.name
@@ -28,5 +31,6 @@ returns-clause-own c =
 
 pub returns-clause-others : goal.returns-clause-others
 returns-clause-others c =
-    let room : c.args.terminal < length c.self.inside.held = omega (arith, c.at_mut.ensures.size, c.at_mut.ensures.high) in
+    let room : c.args.terminal < length c.self.inside.held =
+    omega (arith, c.at_mut.ensures.size, c.at_mut.ensures.high) in
     rw (← c.self.view_is) (keeps-set c.self.inside.held c.args.terminal c.take.new.self room)

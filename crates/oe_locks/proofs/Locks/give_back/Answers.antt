@@ -5,7 +5,8 @@ use Rattle.oe_locks.proofs.Locks.give_back.Goals as goal
 
 pub give_back-requires : goal.give_back-requires
 give_back-requires c =
-    let room : c.args.terminal < length c.self.inside.held = omega (arith, c.at_mut.ensures.size, c.at_mut.ensures.high) in
+    let room : c.args.terminal < length c.self.inside.held =
+    omega (arith, c.at_mut.ensures.size, c.at_mut.ensures.high) in
     below-some _ c.args.mode
     (subst (IsBelow c.args.mode)
     (held-at c.self.inside.held c.args.terminal c.at_mut.result.now room c.at_mut.ensures.value c.args.name)
@@ -13,14 +14,16 @@ give_back-requires c =
 
 pub invariant_of-self : goal.invariant_of-self
 invariant_of-self c =
-    let room : c.args.terminal < length c.self.inside.held = omega (arith, c.at_mut.ensures.size, c.at_mut.ensures.high) in
+    let room : c.args.terminal < length c.self.inside.held =
+    omega (arith, c.at_mut.ensures.size, c.at_mut.ensures.high) in
     busy-kept c.self.inside.held c.args.terminal c.give_back.new.self room c.self.inside.busy c.self.invariant
     (busy-below c.self.inside.held c.self.inside.busy c.args.terminal c.args.name c.args.mode c.self.invariant
     (rw c.self.view_is c.requires))
 
 pub returns-clause-own : goal.returns-clause-own
 returns-clause-own c =
-    let room : c.args.terminal < length c.self.inside.held = omega (arith, c.at_mut.ensures.size, c.at_mut.ensures.high) in
+    let room : c.args.terminal < length c.self.inside.held =
+    omega (arith, c.at_mut.ensures.size, c.at_mut.ensures.high) in
     rw (← c.self.view_is)
     (gives-back c.self.inside.held c.args.terminal c.give_back.new.self room c.at_mut.result.now
     (held-at c.self.inside.held c.args.terminal c.at_mut.result.now room c.at_mut.ensures.value) c.args.name
@@ -28,5 +31,6 @@ returns-clause-own c =
 
 pub returns-clause-others : goal.returns-clause-others
 returns-clause-others c =
-    let room : c.args.terminal < length c.self.inside.held = omega (arith, c.at_mut.ensures.size, c.at_mut.ensures.high) in
+    let room : c.args.terminal < length c.self.inside.held =
+    omega (arith, c.at_mut.ensures.size, c.at_mut.ensures.high) in
     rw (← c.self.view_is) (keeps-set c.self.inside.held c.args.terminal c.give_back.new.self room)

@@ -26,7 +26,8 @@ loop-other-preserved c =
     held-at c.self.inside.held c.in-Some.other c.at-held.result.now room c.at-held.ensures.value c.args.name.now in
     let free : go_together c.args.mode (held c.self.inside.held c.in-Some.other c.args.name.now) ≡ true =
     elim c.else-may_have.branch [
-      | else-may_have-via-then-may_have+else-conflicts w ↦ ap (go_together c.args.mode) at ∙ not_false _ w.if-conflicts.ensures
+      | else-may_have-via-then-may_have+else-conflicts w ↦
+          ap (go_together c.args.mode) at ∙ not_false _ w.if-conflicts.ensures
       | else-may_have-via-else-may_have w ↦ ap (go_together c.args.mode)
           (at ∙ w.if-may_have.ensures refl c.args.name.now (sym c.mark_of-mark.ensures.value))
     ] in

@@ -4,4 +4,5 @@ use Rattle.oe_locks.specs.Listed.{AreOnce}
 use Rattle.oe_locks.proofs.held.Held.names.Goals as goal
 
 pub returns-clause-once : goal.returns-clause-once
-returns-clause-once c = subst AreOnce (sym (c.as_slice.ensures ∙ c.keys.ensures.rest)) (once-distinct _ c.keys.ensures.unique)
+returns-clause-once c = subst AreOnce (sym (c.as_slice.ensures ∙ c.keys.ensures.rest))
+    (once-distinct _ c.keys.ensures.unique)
