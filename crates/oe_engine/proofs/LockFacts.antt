@@ -1,7 +1,8 @@
 -- The locks of the code are those of the theory of transactions.
-use Rattle.std.proofs.Common.{◌≡◌, ℕ, ◌==◌, Bool, true, false, cond, refl, sym, ap, ◌∙◌, inl, inr}
+use Rattle.std.proofs.Common.{◌≡◌, ℕ, ◌==◌, Bool, true, false, ◌||◌, cond, List, [], ◌∷◌, is_some, refl, sym, ap, ◌∙◌}
+use Rattle.std.proofs.Common.{inl, inr}
 use Rattle.std.specs.Prelude.{Option, None, Some, option_map}
-use Rattle.std.proofs.lemmas.Bool.{cases_eq, cond-true, cond-false, eq-eqb, ne_eqb}
+use Rattle.std.proofs.lemmas.Bool.{cases_eq, cond-true, cond-false, eq-eqb, ne_eqb, false≢true}
 use mathlib.Core.Path.{fun_ext}
 use Rattle.oe_rows.specs.declared.locks.Name.{Name}
 use Rattle.oe_rows.specs.declared.locks.Mode.{Mode}
@@ -15,6 +16,7 @@ use Rattle.oe_model.specs.System.{system}
 use Rattle.oe_model.proofs.SystemLaws as model
 use Rattle.oe_locks.specs.Held as locks
 use Rattle.oe_locks.specs.Held.{Holdings, held, Takes, GivesBack, OthersKeep, HoldsNothing}
+use Rattle.oe_locks.specs.Listed.{stands, IsListed}
 use Rattle.oe_locks.proofs.NameFacts as names
 
 -- the tests of names are one
@@ -119,3 +121,20 @@ put_taken f n m q = go (is_name q n) refl
     go : (b : Bool) → is_name q n ≡ b → cond b (f n) (cond b (Some (world.risen m (f q))) (f q)) ≡ f q
     go true e = ap f (sym (model.name_true q n e))
     go false e = refl
+
+-- where nothing is held no name is listed
+pub nothing_listed : (xs : List Name) → ((q : Name) → stands xs q ≡ false) → xs ≡ []
+nothing_listed [] none = refl
+nothing_listed (x ∷ xs) none = absurd (false≢true (sym (none x) ∙ ap (λ b. b || stands xs x) (names.name_refl x)))
+
+-- the terminal's list, in the theory's words
+pub listed_held : (ls : Holdings) (t : ℕ) (xs : List Name) → IsListed ls t xs → (q : Name)
+    → stands xs q ≡ is_some (held_of ls t q)
+listed_held ls t xs listed q = listed q ∙ go (held ls t q)
+  where
+    go : (o : Option Mode) → is_some o ≡ is_some (option_map mode_of o)
+    go None = refl
+    go (Some m) = refl
+
+pub listed_idle : (ls : Holdings) (t : ℕ) (xs : List Name) → IsListed ls t xs → HoldsNothing ls t → xs ≡ []
+listed_idle ls t xs listed idle = nothing_listed xs (λ q. listed q ∙ ap (λ o. is_some o) (idle q))

@@ -1,11 +1,12 @@
 //! Names and rows of a transaction, one at a time.
-ghost use Rattle.std.specs.Prelude.{◌≡◌, ◌<◌, Option, None, Some, false, option_map, IfErr, OnOk, OnErr};
+ghost use Rattle.std.specs.Prelude.{◌≡◌, ◌<◌, Option, None, Some, [], false, is_some, option_map, IfErr, OnOk, OnErr};
 ghost use Rattle.oe_theory.specs.Machine.{Take};
 ghost use Rattle.oe_model.specs.Locks.{mode_of, governs};
 ghost use Rattle.oe_model.specs.Rows.{row_at};
 ghost use Rattle.oe_store.specs.Places.{rows};
 ghost use Rattle.oe_rows.specs.declared.locks.Name.{Name};
-ghost use Rattle.oe_locks.specs.Listed.{stands};
+ghost use Rattle.oe_locks.specs.Held.{names_of};
+ghost use Rattle.oe_locks.specs.Listed.{stands, AreOnce};
 ghost use Rattle.oe_engine.specs.View.{view_of, IsOpen};
 ghost use Rattle.oe_engine.specs.Covered.{IsUnused};
 ghost use Rattle.oe_engine.specs.Calls.{ask_of, IsFree, IsBelow, MayRead, locked, put_mode, StageRefused};
@@ -86,11 +87,15 @@ impl Engine {
         self.locks.holds(name, tx.terminal())
     }
 
-    /// Lends a list on which all names stand that a terminal holds.
+    /// Lends the names that a terminal holds, each once, in the order in which it took them; none
+    /// where the terminal has no transaction open.
     #[tactic(auto, unfolding(crate::specs::View::view_of, crate::specs::View::view_from))]
     pub fn names(&self, terminal: Terminal) -> &[Name]
-        ensures { (q : Name) → stands result.now q ≡ false
-            → (view_of self.now).held terminal q ≡ None }
+        ensures order { result.now ≡ names_of self.now.locks terminal }
+        ensures held { (q : Name) → stands result.now q
+            ≡ is_some ((view_of self.now).held terminal q) }
+        ensures once { AreOnce result.now }
+        ensures idle { (view_of self.now).is_open terminal ≡ false → result.now ≡ [] }
     {
         self.locks.names(terminal)
     }
