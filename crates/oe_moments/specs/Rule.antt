@@ -2,7 +2,7 @@
 -- moment that was told, word 1 what the keeper claims, word 2 the moment up to which it has purged, and word d + 3 the
 -- pin of desk d: 0 for none, 2 n + 1 for an announced pin of n, and 2 n + 2 for a sure one.
 use Rattle.std.specs.Prelude.{◌≡◌, ◌≢◌, ℕ, ◌+◌, ◌*◌, ◌-◌, ◌/◌, ◌<◌, ◌≤◌, min, max, true, false, List, length}
-use Rattle.std.specs.Prelude.{slice_index, ◌==◌, if◌then◌else◌}
+use Rattle.std.specs.Prelude.{slice_index, ◌==◌, if◌then◌else◌, Bool}
 use mathlib.Core.Option.{some}
 use lib.ListN.{get_elem?}
 use Rattle.atomic_table.specs.Table.{State, Me, Step}
@@ -121,9 +121,13 @@ pub record Kept (desks : ℕ) (s : State ℕ Notes) : Type 0 where
 
 -- WHAT EACH STEP OF A DESK MAKES OF ITS NOTES
 
--- the desk has seen, or told, that newest moment
+abbrev pub turn : Bool → Bool
+turn true = false
+turn false = true
+
+-- the desk has loaded the newest moment, and seen or told that one
 abbrev pub saw : ℕ → DeskNotes → DeskNotes
-saw n p = record p { seen = n }
+saw n p = record p { seen = n; turned = turn p.turned }
 
 -- the desk's pin has come that far
 abbrev pub with_pin : PinState → DeskNotes → DeskNotes
@@ -138,7 +142,7 @@ looked_pin (Sure n) = Sure n
 
 -- the desk has looked at what the keeper claims
 abbrev pub looked : ℕ → DeskNotes → DeskNotes
-looked c p = record { number = p.number; seen = p.seen; claim = c; pin = looked_pin p.pin }
+looked c p = record { number = p.number; seen = p.seen; claim = c; pin = looked_pin p.pin; turned = p.turned }
 
 -- a desk reads the newest moment, which is not below what it has seen
 abbrev pub sees_newest : Step ℕ → Me ℕ Notes → ℕ → Me ℕ Notes → Type 0
@@ -210,7 +214,7 @@ dealer_first = Dealer (record { dealt = 0; keeper = false })
 
 -- a desk that has done nothing
 abbrev pub fresh : ℕ → DeskNotes
-fresh d = record { number = d; seen = 0; claim = 0; pin = Free }
+fresh d = record { number = d; seen = 0; claim = 0; pin = Free; turned = false }
 
 abbrev pub dealt_on : Notes → Notes
 dealt_on (Dealer o) = Dealer (record { dealt = o.dealt + 1; keeper = o.keeper })

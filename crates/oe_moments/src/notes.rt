@@ -16,13 +16,15 @@ pub enum PinState {
 }
 
 /// What a desk knows: its number from 0, the newest moment that it has seen or told, the claim that
-/// it looked at last, and its pin.
+/// it looked at last, and its pin. `turned` turns over with each load of the newest moment, so that
+/// a clause can say that there was one.
 #[derive(Clone, Copy)]
 pub struct DeskNotes {
     pub number: u64,
     pub seen: Moment,
     pub claim: Moment,
     pub pin: PinState,
+    pub turned: bool,
 }
 
 /// What the keeper knows: whether it scans, how many desks' pins it has passed, the least moment so

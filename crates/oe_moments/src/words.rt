@@ -5,7 +5,7 @@
 //! has a seat. Only `open` takes memory, and may be refused it. No call waits.
 ghost use Rattle.std.specs.Prelude.{◌≡◌, ◌≢◌, ◌↔◌, ℕ, ◌+◌, ◌-◌, ◌<◌, ◌≤◌, max, true, false, IfOk, IfErr, OnOk, OnErr, IsTrue};
 ghost use Rattle.atomic_table.specs.Seated.{TableId};
-ghost use Rattle.oe_moments.specs.Rule.{saw, with_pin, looked, looked_pin, claimed, lowered, scanned, settled, fresh, at_start, pin_word};
+ghost use Rattle.oe_moments.specs.Rule.{saw, turn, with_pin, looked, looked_pin, claimed, lowered, scanned, settled, fresh, at_start, pin_word};
 ghost use Rattle.oe_moments.specs.Pins.{TheSeat, TheKeeper, TheDealer, AreOfDesks, HaveDesk, with_notes, with_watch, with_deal, is_pinned, Holds};
 ghost use Rattle.oe_moments.specs.declared.notes.PinState.TheVariants.{Free, Announced, Looked, Sure};
 ghost use Rattle.oe_moments.specs.declared.notes.Notes.TheVariants.{Dealer, Desk, Keeper};
@@ -203,6 +203,7 @@ impl Moments {
                 seen: start,
                 claim: start,
                 pin: PinState::Free,
+                turned: false,
             },
             shop: dealer.shop,
             terminal: Terminal::new(number as u32 + 1).unwrap(),
@@ -245,6 +246,7 @@ impl Moments {
         let found = shared.load::<SeesNewest>(&mut seat.chair, 0);
         let newest = Moment::new(found).unwrap();
         seat.knows.seen = newest;
+        seat.knows.turned = !seat.knows.turned;
         newest
     }
 
@@ -258,6 +260,7 @@ impl Moments {
         let shared = &self.table.shared;
         let found = shared.fetch_max::<Tells>(&mut seat.chair, 0, moment.get());
         seat.knows.seen = Moment::new(found.max(moment.get())).unwrap();
+        seat.knows.turned = !seat.knows.turned;
     }
 
     /// Announces a pin of the newest moment, which it loads.
@@ -312,11 +315,13 @@ impl Moments {
         seat.knows.pin = PinState::Free;
     }
 
-    /// Pins the newest moment. `TooOld` with the keeper's claim, where that is above it.
+    /// Pins the newest moment, which it loads. `TooOld` with the keeper's claim, where that is above
+    /// it.
     pub fn pin(&self, seat: &mut DeskSeat) -> Result<Pin, TooOld>
         requires words { seat.old.words ≡ self.now }
         requires free { is_pinned seat.old.notes.pin ≡ false }
         ensures seat { seat.new ≡ with_notes seat.new.notes seat.old }
+        ensures looked { seat.new.notes.turned ≡ turn seat.old.notes.turned }
         ensures number { seat.new.notes.number ≡ seat.old.notes.number }
         ensures rises { seat.old.notes.seen ≤ seat.new.notes.seen }
         ensures ok { IfOk result (λ p. Holds seat.new p × (p.moment ≡ seat.new.notes.seen)
