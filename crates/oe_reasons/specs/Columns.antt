@@ -17,8 +17,8 @@ use Rattle.oe_reasons.specs.declared.forms.Column.{Column}
 use Rattle.oe_reasons.specs.declared.forms.Column.TheVariants as column
 use Rattle.oe_reasons.specs.declared.forms.Form.{Form}
 use Rattle.oe_reasons.specs.declared.forms.Form.TheVariants as form
-use Rattle.oe_reasons.specs.declared.faults.Fault.{Fault}
-use Rattle.oe_reasons.specs.declared.faults.Fault.TheVariants as fault
+use Rattle.oe_reasons.specs.declared.faults.WordFault.{WordFault}
+use Rattle.oe_reasons.specs.declared.faults.WordFault.TheVariants as fault
 use Rattle.oe_reasons.specs.declared.faults.WrongWord.{WrongWord}
 use Rattle.oe_reasons.specs.Verbs.{is_word, kind_of, verbs}
 
@@ -181,7 +181,7 @@ amount_in s = do
 
 -- the column of a word that is wrong, and what is wrong with it
 abbrev pub Wrong : Type 0
-Wrong = Option (Column × Fault)
+Wrong = Option (Column × WordFault)
 
 -- a number that is out of its column's range
 abbrev pub out_of_range : Column → ℕ → Wrong

@@ -5,8 +5,8 @@ use Rattle.oe_reasons.specs.declared.forms.Column.{Column}
 use Rattle.oe_reasons.specs.declared.forms.Column.TheVariants as column
 use Rattle.oe_reasons.specs.declared.forms.Form.{Form}
 use Rattle.oe_reasons.specs.declared.forms.Form.TheVariants as form
-use Rattle.oe_reasons.specs.declared.faults.Fault.{Fault}
-use Rattle.oe_reasons.specs.declared.faults.Fault.TheVariants as fault
+use Rattle.oe_reasons.specs.declared.faults.WordFault.{WordFault}
+use Rattle.oe_reasons.specs.declared.faults.WordFault.TheVariants as fault
 use Rattle.oe_reasons.specs.declared.faults.WrongWord.{WrongWord}
 use Rattle.oe_reasons.specs.declared.reasons.Reason.{Reason}
 use Rattle.oe_reasons.specs.declared.reasons.Reason.TheVariants as reason
@@ -64,7 +64,7 @@ word_text None = []
 word_text (Some w) = w
 
 -- `amount 0.99 is below 1.00`
-abbrev pub fault_text : Column → Fault → List ℕ
+abbrev pub fault_text : Column → WordFault → List ℕ
 fault_text c fault.Misspelt = misspelt_text c
 fault_text c fault.Below = codes " is below " ++ least_text c
 fault_text c fault.Above = codes " is above " ++ greatest_text c

@@ -17,7 +17,7 @@ use oe_values::{Stamp, Text};
 
 /// What is wrong with a word.
 #[derive(Clone, Copy)]
-pub enum Fault {
+pub enum WordFault {
     /// It does not spell what stands there.
     Misspelt,
     /// Its number is below the least.
@@ -31,7 +31,7 @@ pub enum Fault {
 pub struct WrongWord {
     pub place: usize,
     pub column: Column,
-    pub fault: Fault,
+    pub fault: WordFault,
 }
 
 /// The nine tables.
@@ -147,34 +147,34 @@ fn is_table(word: &[u8]) -> bool
 }
 
 /// Gives what is wrong with a number of a column.
-fn out_of_range(column: Column, number: u64) -> Option<(Column, Fault)>
+fn out_of_range(column: Column, number: u64) -> Option<(Column, WordFault)>
     ensures { result ≡ out_of_range column number }
 {
     if number < column.least() {
-        Some((column, Fault::Below))
+        Some((column, WordFault::Below))
     } else if column.greatest() < number {
-        Some((column, Fault::Above))
+        Some((column, WordFault::Above))
     } else {
         None
     }
 }
 
 /// Gives what is wrong with a number of a column, where it is one.
-fn number_fault(column: Column, number: Option<u64>) -> Option<(Column, Fault)>
+fn number_fault(column: Column, number: Option<u64>) -> Option<(Column, WordFault)>
     ensures { result ≡ number_fault column number }
 {
     match number {
         Some(number) => out_of_range(column, number),
-        None => Some((column, Fault::Misspelt)),
+        None => Some((column, WordFault::Misspelt)),
     }
 }
 
 /// Gives what is wrong with an order's line.
-fn line_fault(line: Option<(u64, u64, u64)>) -> Option<(Column, Fault)>
+fn line_fault(line: Option<(u64, u64, u64)>) -> Option<(Column, WordFault)>
     ensures { result ≡ line_fault line }
 {
     let Some((supply, item, quantity)) = line else {
-        return Some((Column::OrderLine, Fault::Misspelt));
+        return Some((Column::OrderLine, WordFault::Misspelt));
     };
     out_of_range(Column::Supply, supply)
         .or(out_of_range(Column::Item, item))
@@ -182,18 +182,18 @@ fn line_fault(line: Option<(u64, u64, u64)>) -> Option<(Column, Fault)>
 }
 
 /// Gives what is wrong with a stamp.
-fn stamp_fault(word: &[u8]) -> Option<(Column, Fault)>
+fn stamp_fault(word: &[u8]) -> Option<(Column, WordFault)>
     ensures { result ≡ fault_of column.Stamp word.now }
 {
     if is_stamp(word) {
         None
     } else {
-        Some((Column::Stamp, Fault::Misspelt))
+        Some((Column::Stamp, WordFault::Misspelt))
     }
 }
 
 /// Gives what is wrong with a customer by number or by last name.
-fn buyer_fault(word: &[u8]) -> Option<(Column, Fault)>
+fn buyer_fault(word: &[u8]) -> Option<(Column, WordFault)>
     ensures { result ≡ fault_of column.Buyer word.now }
 {
     if is_last_name(word) {
@@ -203,34 +203,34 @@ fn buyer_fault(word: &[u8]) -> Option<(Column, Fault)>
     if number.is_some() {
         number_fault(Column::Customer, number)
     } else {
-        Some((Column::Buyer, Fault::Misspelt))
+        Some((Column::Buyer, WordFault::Misspelt))
     }
 }
 
 /// Gives what is wrong with a last name.
-fn last_name_fault(word: &[u8]) -> Option<(Column, Fault)>
+fn last_name_fault(word: &[u8]) -> Option<(Column, WordFault)>
     ensures { result ≡ fault_of column.LastName word.now }
 {
     if is_last_name(word) {
         None
     } else {
-        Some((Column::LastName, Fault::Misspelt))
+        Some((Column::LastName, WordFault::Misspelt))
     }
 }
 
 /// Gives what is wrong with a first name.
-fn first_name_fault(word: &[u8]) -> Option<(Column, Fault)>
+fn first_name_fault(word: &[u8]) -> Option<(Column, WordFault)>
     ensures { result ≡ fault_of column.FirstName word.now }
 {
     if is_first_name(word) {
         None
     } else {
-        Some((Column::FirstName, Fault::Misspelt))
+        Some((Column::FirstName, WordFault::Misspelt))
     }
 }
 
 /// Gives what is wrong with a moment.
-fn moment_fault(word: &[u8]) -> Option<(Column, Fault)>
+fn moment_fault(word: &[u8]) -> Option<(Column, WordFault)>
     ensures { result ≡ fault_of column.Moment word.now }
 {
     if is_word(word, b"now") {
@@ -241,18 +241,18 @@ fn moment_fault(word: &[u8]) -> Option<(Column, Fault)>
 }
 
 /// Gives what is wrong with a table's name.
-fn table_fault(word: &[u8]) -> Option<(Column, Fault)>
+fn table_fault(word: &[u8]) -> Option<(Column, WordFault)>
     ensures { result ≡ fault_of column.Table word.now }
 {
     if is_table(word) {
         None
     } else {
-        Some((Column::Table, Fault::Misspelt))
+        Some((Column::Table, WordFault::Misspelt))
     }
 }
 
 /// Gives what is wrong with a word where a column stands, and with which part of it.
-fn fault_in(column: Column, word: &[u8]) -> Option<(Column, Fault)>
+fn fault_in(column: Column, word: &[u8]) -> Option<(Column, WordFault)>
     ensures { result ≡ fault_of column word.now }
 {
     match column {

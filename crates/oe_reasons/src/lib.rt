@@ -11,7 +11,7 @@ pub mod texts;
 pub mod verbs;
 mod words;
 
-pub use faults::{Fault, WrongWord, is_miscounted, read_form, wrong_word};
+pub use faults::{WordFault, WrongWord, is_miscounted, read_form, wrong_word};
 pub use forms::{Column, Form};
 pub use laws::{lists_are_whole, ranges_are_the_grammars, verbs_are_read, words_are_right};
 pub use reasons::{Reason, why};

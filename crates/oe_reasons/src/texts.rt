@@ -5,7 +5,7 @@ ghost use Rattle.oe_reasons.specs.Columns.{word_at};
 ghost use Rattle.oe_reasons.specs.Texts.{column_name, count_text, counted_text, fault_text, guess_text};
 ghost use Rattle.oe_reasons.specs.Texts.{miscounted_text, misspelt_text, reason_text, word_text, wrong_text};
 
-use crate::faults::{Fault, WrongWord};
+use crate::faults::{WordFault, WrongWord};
 use crate::forms::{Column, Form, forms_of};
 use crate::reasons::Reason;
 use crate::shapes::{either, greatest, least, shape};
@@ -99,18 +99,18 @@ fn word(out: &mut Pending, line: &[u8], place: usize)
 }
 
 /// Appends what is wrong with a word of a column.
-fn tell_fault(out: &mut Pending, column: Column, fault: Fault)
+fn tell_fault(out: &mut Pending, column: Column, fault: WordFault)
     requires { array_vec_len out.old + 110 ≤ SIZE }
     ensures items { out.new.items ≡ out.old.items ++ fault_text column fault }
     ensures len { array_vec_len out.new ≤ array_vec_len out.old + 110 }
 {
     match fault {
-        Fault::Misspelt => text(out, misspelt(column)),
-        Fault::Below => {
+        WordFault::Misspelt => text(out, misspelt(column)),
+        WordFault::Below => {
             text(out, b" is below ");
             least(out, column);
         }
-        Fault::Above => {
+        WordFault::Above => {
             text(out, b" is above ");
             greatest(out, column);
         }
