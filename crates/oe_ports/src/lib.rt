@@ -1,8 +1,9 @@
 #![tactic(auto)]
 //! Where a script comes from and where its answers go: a reader, a writer, the output that waits,
-//! and the rows of a dump.
+//! the rows of a dump, and what the system refuses.
 
 pub mod dumps;
+pub mod faults;
 pub mod output;
 pub mod ports;
 pub mod standard;

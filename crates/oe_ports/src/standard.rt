@@ -4,8 +4,9 @@
 //! says whether these calls hand the system's bytes on: whoever relies on the program reads them.
 ghost use Rattle.std.specs.Prelude.{None};
 
+use crate::faults::SystemFault;
 use crate::ports::{Failed, Intake, Outlet};
-use std::io::{ErrorKind, Read};
+use std::io::Read;
 
 /// A reader of the system.
 #[derive(Drop)]
@@ -23,18 +24,26 @@ impl<T: Read> Intake for Standard<T> {
 #[derive(Drop)]
 pub struct Printed<'a, P: Print> {
     to: &'a P,
-    closed: bool,
+    fault: SystemFault,
 }
 
 impl<'a, P: Print> Printed<'a, P> {
     /// Makes an output that is not known to be closed.
     pub fn new(to: &'a P) -> Printed<'a, P> {
-        Printed { to, closed: false }
+        Printed {
+            to,
+            fault: SystemFault::Write,
+        }
+    }
+
+    /// Names why the last write that failed did.
+    pub fn fault(&self) -> SystemFault {
+        self.fault
     }
 
     /// Tells whether a write failed because nobody reads any more.
     pub fn is_closed(&self) -> bool {
-        self.closed
+        matches!(self.fault, SystemFault::OutputClosed)
     }
 }
 
@@ -45,7 +54,7 @@ impl<'a, P: Print> Outlet for Printed<'a, P> {
         match self.to.write_all(bytes) {
             Ok(()) => Ok(bytes.len()),
             Err(error) => {
-                self.closed = error.kind() == ErrorKind::BrokenPipe;
+                self.fault = SystemFault::of_write(&error);
                 Err(Failed)
             }
         }
