@@ -1,11 +1,12 @@
 -- What the open transactions of a core hold, and what they ask for next.
-use Rattle.std.proofs.Common.{◌≡◌, ℕ, Option, None, Some, refl, sym, ap, ◌∙◌, subst}
+use Rattle.std.proofs.Common.{◌≡◌, ℕ, false, List, [], Option, None, Some, is_some, sym, ap, ◌∙◌, subst}
 use Rattle.oe_theory.specs.Machine as theory
 use Rattle.oe_theory.specs.Machine.{Tx, Hold}
 use Rattle.oe_theory.specs.World.{Open, tx_of}
 use Rattle.oe_theory.specs.Store.{open_of, opened_by}
 use Rattle.oe_rows.specs.declared.locks.Name.{Name}
 use Rattle.oe_requests.specs.declared.requests.Request.{Request}
+use Rattle.oe_locks.specs.Listed.{stands}
 use Rattle.oe_model.specs.Rows.{Rows}
 use Rattle.oe_model.specs.System.{system, ask}
 use Rattle.oe_engine.specs.View.{view_of, Handle, IsOpen}
@@ -52,11 +53,15 @@ module _ (s : CoreState) (t : ℕ) where
       go None k = absurd k
       go (Some w) k = h k.is_open ∙ ap (λ u. (view_of s.engine).held u n) k.terminal
 
-  pub nothing_more : (n : Name) → (view_of s.engine).held t n ≡ None → held_by (world_of s) t n ≡ None
+  pub listed_held : IsOrderly s → (xs : List Name)
+      → ((q : Name) → stands xs q ≡ is_some ((view_of s.engine).held t q))
+      → ((view_of s.engine).is_open t ≡ false → xs ≡ []) → (q : Name)
+      → stands xs q ≡ is_some (held_by (world_of s) t q)
   unfolding world_of
-  nothing_more n h = go (in_slot s.txs t) (in_slot s.works t)
+  listed_held o xs held idle q = go (in_slot s.txs t) (in_slot s.works t) (o.works t)
     where
-      go : (x : Option Handle) (w : Option WorkState) → held_of (open_in s t x w) n ≡ None
-      go None w = refl
-      go (Some x) None = refl
-      go (Some x) (Some w) = h
+      go : (x : Option Handle) (w : Option WorkState) → Works s.engine t x w
+          → stands xs q ≡ is_some (held_of (open_in s t x w) q)
+      go None w closed = ap (λ l. stands l q) (idle closed)
+      go (Some x) None k = absurd k
+      go (Some x) (Some w) k = held q

@@ -2,13 +2,14 @@
 //! mark. By its invariant it stands for a world that steps of the machine led to; each public call
 //! is one such step, or is refused with its cause and changes nothing. Memory may be refused to
 //! `open` and `begin`, and to an advance.
-ghost use Rattle.std.specs.Prelude.{◌≡◌, ◌↔◌, IfOk, IfSome, IsSome, None, false, is_some, suc, option_map};
+ghost use Rattle.std.specs.Prelude.{◌≡◌, ◌↔◌, IfOk, IfSome, IsSome, None, is_some, suc, option_map};
 ghost use Rattle.oe_theory.specs.World.{horizon, latest, newest, tables, total};
 ghost use Rattle.oe_theory.specs.Next.{Next, IsQuiet, count_open};
 ghost use Rattle.oe_theory.specs.Theorems.{opened, IsReached};
 ghost use Rattle.oe_rows.specs.declared.locks.Name.{Name};
 ghost use Rattle.oe_requests.specs.Reply.{told_reply};
-ghost use Rattle.oe_locks.specs.Listed.{stands};
+ghost use Rattle.oe_locks.specs.Held.{names_of};
+ghost use Rattle.oe_locks.specs.Listed.{stands, AreOnce};
 ghost use Rattle.oe_model.specs.Locks.{mode_of};
 ghost use Rattle.oe_model.specs.Conditions.{IsPopulation};
 ghost use Rattle.oe_model.specs.System.{system, terminal_limit};
@@ -142,10 +143,13 @@ impl Core {
         }
     }
 
-    /// Lends a list on which all names stand that a terminal's transaction holds.
+    /// Lends the names that a terminal's transaction holds, each once, in the order in which it took
+    /// them; none where the terminal has no transaction open.
     pub fn names(&self, terminal: Terminal) -> &[Name]
-        ensures { (q : Name) → stands result.now q ≡ false
-            → held_by (world_of self.now) terminal q ≡ None }
+        ensures order { result.now ≡ names_of self.now.engine.locks terminal }
+        ensures held { (q : Name) → stands result.now q
+            ≡ is_some (held_by (world_of self.now) terminal q) }
+        ensures once { AreOnce result.now }
     {
         self.engine.names(terminal)
     }

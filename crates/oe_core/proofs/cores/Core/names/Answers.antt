@@ -1,5 +1,7 @@
-use Rattle.oe_core.proofs.AskFacts.{nothing_more}
+use Rattle.oe_core.proofs.AskFacts.{listed_held}
 use Rattle.oe_core.proofs.cores.Core.names.Goals as goal
 
-pub returns : goal.returns
-returns c = rw (← c.self.view_is) (λ q e. nothing_more _ _ q (c.names.ensures q e))
+pub returns-clause-held : goal.returns-clause-held
+returns-clause-held c =
+    rw (← c.self.view_is)
+    (listed_held _ c.args.terminal c.self.invariant c.names.result.now c.names.ensures.held c.names.ensures.idle)
