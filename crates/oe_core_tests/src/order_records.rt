@@ -11,7 +11,9 @@ use oe_extent::Written;
 use oe_image::parts::StockPart;
 use oe_layout::{LentRecord, LinkedRecord, OwnRecord, Previous};
 use oe_log::Segment;
-use oe_rows::{Key, Layout, Name, Order, OrderKey, OrderLine, Stock, StockCounters, StockKey};
+use oe_rows::{
+    Key, Layout, Name, Order, OrderKey, OrderLine, Stock, StockBefore, StockCounters, StockKey,
+};
 use oe_undo::{Holder, Ticks};
 use oe_values::{Amount, Number, Stamp, Terminal, Text};
 use std::process::Abort;
@@ -105,26 +107,37 @@ fn is_part(previous: Previous, key: StockKey, part: StockPart) -> bool {
     is_written(&LinkedRecord { previous, record }, FIRST_SALE)
 }
 
-/// Tells whether the newest record of a terminal is the one of the second sale, or of the first
-/// where records have changed columns.
+/// Gives the columns of stock that sales change.
+fn part_of(before: &StockBefore) -> StockPart {
+    StockPart {
+        quantity: before.quantity,
+        ytd: before.ytd,
+        order_count: before.order_count,
+        remote_count: before.remote_count,
+    }
+}
+
+/// Tells whether a record is the one of the second sale, or of the first where records have changed
+/// columns.
+fn is_worked(previous: Previous, record: &OwnRecord) -> bool {
+    match record {
+        OwnRecord::UpdatedStock(key, row) => is_whole(previous, *key, row),
+        OwnRecord::ChangedStock(key, before) => is_part(previous, *key, part_of(before)),
+        _ => false,
+    }
+}
+
+/// Tells whether the newest record of a terminal is.
 fn is_newest(engine: &Engine, terminal: Terminal) -> bool {
     let log = engine.undo().segments();
     if !log.is_open(terminal) {
         return false;
     }
-    match log.newest_record(Segment::of(terminal), &mut Ticks::new()) {
-        Some((previous, OwnRecord::UpdatedStock(key, row))) => is_whole(previous, key, &row),
-        Some((previous, OwnRecord::ChangedStock(key, before))) => {
-            let part = StockPart {
-                quantity: before.quantity,
-                ytd: before.ytd,
-                order_count: before.order_count,
-                remote_count: before.remote_count,
-            };
-            is_part(previous, key, part)
-        }
-        _ => false,
-    }
+    let Some((previous, record)) = log.newest_record(Segment::of(terminal), &mut Ticks::new())
+    else {
+        return false;
+    };
+    is_worked(previous, &record)
 }
 
 /// Gives the extent and the offset at which the stock's newest record lies, where the terminal has

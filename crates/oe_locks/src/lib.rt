@@ -118,7 +118,13 @@ impl Locks {
     }
 
     /// Takes the name for the terminal, or raises the mode in which the terminal holds it, where
-    /// nobody is in the way, and answers the mode in which the terminal held it before.
+    /// nobody is in the way, and answers the mode in which the terminal held it before, or `None`
+    /// where it did not hold it. A mode is never lowered. A new name goes behind those that the
+    /// terminal holds, and one that it holds keeps its place.
+    ///
+    /// `Busy` names the least other terminal that holds the name in a mode that conflicts.
+    /// `NoMemory` comes only where nobody does, and the terminal does not hold the name yet in any
+    /// mode. After an error nothing has changed.
     #[inline(always)]
     pub fn acquire(
         &mut self,
