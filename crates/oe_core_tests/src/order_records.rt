@@ -43,7 +43,10 @@ fn sell(engine: &mut Engine, tx: &Tx, counts: [u32; 3]) -> Option<()> {
         remote_count: Number::new(0)?,
     };
     let stock = stock_key()?;
-    engine.change(tx, &StockCounts { stock, counters }).ok()
+    if engine.change(tx, &StockCounts { stock, counters }).is_err() {
+        return None;
+    }
+    Some(())
 }
 
 /// Takes the order's number, and inserts its row, of five lines, and its NEW-ORDER row.
@@ -52,7 +55,9 @@ fn enter(engine: &mut Engine, tx: &Tx, order: OrderKey) -> Option<()> {
         district: order.district_key(),
         order: Number::new(12)?,
     };
-    engine.change(tx, &next).ok()?;
+    if engine.change(tx, &next).is_err() {
+        return None;
+    }
     let row = Order {
         customer: Number::new(1)?,
         entry: Stamp::from_seconds(3_187_296_000)?,
@@ -60,10 +65,15 @@ fn enter(engine: &mut Engine, tx: &Tx, order: OrderKey) -> Option<()> {
         line_count: Number::new(5)?,
         all_local: true,
     };
-    engine.change(tx, &InsertOrder { order, row }).ok()?;
+    if engine.change(tx, &InsertOrder { order, row }).is_err() {
+        return None;
+    }
     let _mode = engine.held(tx, &Name::Order(order))?;
     let order = order.new_order_key();
-    engine.change(tx, &InsertNewOrder { order }).ok()
+    if engine.change(tx, &InsertNewOrder { order }).is_err() {
+        return None;
+    }
+    Some(())
 }
 
 /// Inserts the first line of the order: ten of item 1.
@@ -77,7 +87,10 @@ fn insert_line(engine: &mut Engine, tx: &Tx, order: OrderKey) -> Option<()> {
         dist_info: Text::read("STOCK-DIST-01-01-0000001")?,
     };
     let line = order.line(Number::new(1)?);
-    engine.change(tx, &InsertOrderLine { line, row }).ok()
+    if engine.change(tx, &InsertOrderLine { line, row }).is_err() {
+        return None;
+    }
+    Some(())
 }
 
 /// Makes room for the longest record and more.
