@@ -14,8 +14,8 @@ use Rattle.oe_comparison.specs.Texts.{Told}
 use Rattle.oe_comparison.specs.Runs.{LeavesRows, IsOther, TellsOther, Tells, AreTold, Compares, TellsReplies}
 use Rattle.oe_comparison.specs.declared.runs.Verdict.{Verdict}
 use Rattle.oe_comparison.specs.declared.runs.Verdict.TheVariants as verdict
-use Rattle.oe_comparison.specs.declared.runs.Fault.{Fault}
-use Rattle.oe_comparison.specs.declared.runs.Fault.TheVariants as stop
+use Rattle.oe_comparison.specs.declared.runs.ComparisonFault.{ComparisonFault}
+use Rattle.oe_comparison.specs.declared.runs.ComparisonFault.TheVariants as stop
 
 -- the rows that a serial file's transactions leave
 pub leaves : (input ours : List ℕ) (d : Decision) (n : ℕ) (t : Places) → d ≡ decision.Serial n t
@@ -33,7 +33,7 @@ decided input ours d e is made =
 
 -- the report on tables, where they were compared
 pub compares : (n : ℕ) (r : Rows) (before after : Nine) (old new : Option Sink) (told : Told)
-    (result : Result Verdict Fault)
+    (result : Result Verdict ComparisonFault)
     → AreTold before after r told → Tells n told old new result → Compares n r before after old new result
 compares n r before after old new told (Ok (verdict.Replies v)) are t = t
 compares n r before after old new told (Ok verdict.Same) are t = (told, are, t.0, t.1)
@@ -44,7 +44,8 @@ compares n r before after old new told (Err (stop.Stopped s)) are t = absurd t
 compares n r before after old new told (Err stop.Write) are t = (told, are, t)
 
 -- replies that are not serial
-pub replies_told : (input ours : List ℕ) (v : replies.Verdict) (old new : Option Sink) (result : Result Verdict Fault)
+pub replies_told : (input ours : List ℕ) (v : replies.Verdict) (old new : Option Sink)
+    (result : Result Verdict ComparisonFault)
     → IsDecided input v ours → IsOther v → TellsOther v ours old new result → TellsReplies input old new result
 replies_told input ours v old new (Ok (verdict.Replies w)) made other t = (
   ours,

@@ -8,15 +8,15 @@ use Rattle.oe_serial.specs.Verdicts as serial
 use Rattle.oe_serial.specs.Verdicts.{IsOfFile, IsDecided, verdict_text}
 use Rattle.oe_serial.specs.declared.verdicts.Verdict as replies
 use Rattle.oe_serial.specs.declared.verdicts.Verdict.TheVariants as reply
-use Rattle.oe_reading.specs.declared.faults.Fault as line
+use Rattle.oe_reading.specs.declared.faults.TableFault as line
 use Rattle.oe_reading.specs.Fault as fault
 use Rattle.oe_loading.specs.Loading.{Nine}
 use Rattle.oe_comparison.specs.Tables.{TablesCompared}
 use Rattle.oe_comparison.specs.Texts.{Told, comparison_text}
 use Rattle.oe_comparison.specs.declared.runs.Verdict.{Verdict}
 use Rattle.oe_comparison.specs.declared.runs.Verdict.TheVariants as verdict
-use Rattle.oe_comparison.specs.declared.runs.Fault.{Fault}
-use Rattle.oe_comparison.specs.declared.runs.Fault.TheVariants as stop
+use Rattle.oe_comparison.specs.declared.runs.ComparisonFault.{ComparisonFault}
+use Rattle.oe_comparison.specs.declared.runs.ComparisonFault.TheVariants as stop
 
 abbrev pub status_of : Verdict → ℕ
 status_of (verdict.Replies v) = serial.status_of v
@@ -36,14 +36,14 @@ IsOther (reply.Differs number theirs) = Unit {0}
 IsOther (reply.Unreadable bad) = Unit {0}
 
 -- the verdict on replies that are not serial was written, or a beginning of it
-abbrev pub TellsOther : replies.Verdict → List ℕ → Option Sink → Option Sink → Result Verdict Fault → Type 0
+abbrev pub TellsOther : replies.Verdict → List ℕ → Option Sink → Option Sink → Result Verdict ComparisonFault → Type 0
 TellsOther v ours old new (Ok (verdict.Replies w)) = (w ≡ v) × Sent old [] new [] (verdict_text v ours)
 TellsOther v ours old new (Ok w) = ⊥
 TellsOther v ours old new (Err stop.Write) = Cut old [] new (verdict_text v ours)
 TellsOther v ours old new (Err f) = ⊥
 
 -- the report was written, or a beginning of it
-abbrev pub Tells : ℕ → Told → Option Sink → Option Sink → Result Verdict Fault → Type 0
+abbrev pub Tells : ℕ → Told → Option Sink → Option Sink → Result Verdict ComparisonFault → Type 0
 Tells n told old new (Ok verdict.Same) = (told.count ≡ 0) × Sent old [] new [] (comparison_text n told)
 Tells n told old new (Ok (verdict.Differs count)) =
     (told.count ≡ count) × (count ≢ 0) × Sent old [] new [] (comparison_text n told)
@@ -54,11 +54,11 @@ Tells n told old new (Err f) = ⊥
 -- the nine files have these lines and no fault
 abbrev pub AreTold : Nine → Nine → Rows → Told → Type 0
 AreTold before after r told =
-    (faults : fault.Told line.Fault) × TablesCompared before after r faults told × (faults.count ≡ 0)
+    (faults : fault.Told line.TableFault) × TablesCompared before after r faults told × (faults.count ≡ 0)
 
 -- The lines of tables that differ were written behind the verdict on n replies; lines of the files can't be read, and
 -- nothing was written; the files were not read to their ends, and nothing was written; or a beginning was written.
-abbrev pub Compares : ℕ → Rows → Nine → Nine → Option Sink → Option Sink → Result Verdict Fault → Type 0
+abbrev pub Compares : ℕ → Rows → Nine → Nine → Option Sink → Option Sink → Result Verdict ComparisonFault → Type 0
 Compares n r before after old new (Ok (verdict.Replies v)) = ⊥
 Compares n r before after old new (Ok verdict.Same) =
     (told : Told) × AreTold before after r told × (told.count ≡ 0) × Sent old [] new [] (comparison_text n told)
@@ -73,7 +73,7 @@ Compares n r before after old new (Err stop.Write) =
     (told : Told) × AreTold before after r told × Cut old [] new (comparison_text n told)
 
 -- the verdict on replies that are not serial was written, or a beginning of it
-abbrev pub TellsReplies : List ℕ → Option Sink → Option Sink → Result Verdict Fault → Type 0
+abbrev pub TellsReplies : List ℕ → Option Sink → Option Sink → Result Verdict ComparisonFault → Type 0
 TellsReplies input old new (Ok (verdict.Replies v)) =
     (ours : List ℕ) × IsDecided input v ours × IsOther v × Sent old [] new [] (verdict_text v ours)
 TellsReplies input old new (Ok v) = ⊥
@@ -83,7 +83,7 @@ TellsReplies input old new (Err (stop.Short s)) = new ≡ old
 TellsReplies input old new (Err (stop.Stopped s)) = ⊥
 
 -- The replies are not serial, or nothing was decided; or they are, and the tables at the end were compared.
-abbrev pub ComparisonRan : List ℕ → Nine → Nine → Option Sink → Option Sink → Result Verdict Fault → Type 0
+abbrev pub ComparisonRan : List ℕ → Nine → Nine → Option Sink → Option Sink → Result Verdict ComparisonFault → Type 0
 ComparisonRan input before after old new result =
     TellsReplies input old new result
     ⊎ ((n : ℕ) × (r : Rows) × LeavesRows input n r × Compares n r before after old new result)

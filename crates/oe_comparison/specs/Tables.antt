@@ -23,7 +23,7 @@ use Rattle.oe_reading.specs.Fault as fault
 use Rattle.oe_reading.specs.Rows.{SpellsRow, SpellsHistory}
 use Rattle.oe_reading.specs.Tables.{TableRead}
 use Rattle.oe_loading.specs.Loading.{Nine}
-use Rattle.oe_reading.specs.declared.faults.Fault.{Fault}
+use Rattle.oe_reading.specs.declared.faults.TableFault.{TableFault}
 use Rattle.oe_comparison.specs.Differences.{difference, theirs_shown, ours_shown, keyless}
 use Rattle.oe_comparison.specs.Histories.{history_order, AreSorted}
 use Rattle.oe_comparison.specs.Texts.{Told, nothing_told, with_difference, with_history}
@@ -47,16 +47,16 @@ pub record AreHistoriesTold (rows : List (Numbered HistoryKey History)) (ours : 
 pub record TableCompared {K X : Type 0} (cmp : K → K → Ordering) (key_of : K → Key)
     (spells : ℕ → List ℕ → K × X → Type 0) (table : Table)
     (IsSo : List (Numbered K X) → List (K × X) → Told → Told → Type 0) (before after : Option Source)
-    (start faults : fault.Told Fault) (ours : List (K × X)) (old new : Told) : Type 0 where
+    (start faults : fault.Told TableFault) (ours : List (K × X)) (old new : Told) : Type 0 where
   pub rows : List (Numbered K X)
   pub read : TableRead cmp key_of spells table before after start faults rows
   pub told : IsSo rows ours old new
 
 -- warehouses, districts and customers were compared
-pub record HomesCompared (before after : Nine) (r : Rows) (start faults : fault.Told Fault)
+pub record HomesCompared (before after : Nine) (r : Rows) (start faults : fault.Told TableFault)
     (old new : Told) : Type 0 where
-  pub warehouse_faults : fault.Told Fault
-  pub district_faults : fault.Told Fault
+  pub warehouse_faults : fault.Told TableFault
+  pub district_faults : fault.Told TableFault
   pub warehouse_told : Told
   pub district_told : Told
   pub warehouses : TableCompared warehouse_cmp (λ k. key.Warehouse k) (SpellsRow warehouse_forms warehouse_values)
@@ -70,10 +70,10 @@ pub record HomesCompared (before after : Nine) (r : Rows) (start faults : fault.
       district_faults faults (entries r.customers) district_told new
 
 -- histories, orders not yet delivered and orders were compared
-pub record DeedsCompared (before after : Nine) (r : Rows) (start faults : fault.Told Fault)
+pub record DeedsCompared (before after : Nine) (r : Rows) (start faults : fault.Told TableFault)
     (old new : Told) : Type 0 where
-  pub history_faults : fault.Told Fault
-  pub new_order_faults : fault.Told Fault
+  pub history_faults : fault.Told TableFault
+  pub new_order_faults : fault.Told TableFault
   pub history_told : Told
   pub new_order_told : Told
   pub histories : TableCompared history_cmp (λ k. key.History k) SpellsHistory table.History AreHistoriesTold
@@ -86,10 +86,10 @@ pub record DeedsCompared (before after : Nine) (r : Rows) (start faults : fault.
       (entries r.orders) new_order_told new
 
 -- order lines, items and stocks were compared
-pub record GoodsCompared (before after : Nine) (r : Rows) (start faults : fault.Told Fault)
+pub record GoodsCompared (before after : Nine) (r : Rows) (start faults : fault.Told TableFault)
     (old new : Told) : Type 0 where
-  pub order_line_faults : fault.Told Fault
-  pub item_faults : fault.Told Fault
+  pub order_line_faults : fault.Told TableFault
+  pub item_faults : fault.Told TableFault
   pub order_line_told : Told
   pub item_told : Told
   pub order_lines : TableCompared order_line_cmp (λ k. key.OrderLine k) (SpellsRow order_line_forms order_line_values)
@@ -113,9 +113,9 @@ abbrev pub KeepsGoods : Nine → Nine → Type 0
 KeepsGoods old new = (new.order_line ≡ old.order_line) × (new.item ≡ old.item) × (new.stock ≡ old.stock)
 
 -- the nine files were read and compared in this order
-pub record TablesCompared (before after : Nine) (r : Rows) (faults : fault.Told Fault) (told : Told) : Type 0 where
-  pub home_faults : fault.Told Fault
-  pub deed_faults : fault.Told Fault
+pub record TablesCompared (before after : Nine) (r : Rows) (faults : fault.Told TableFault) (told : Told) : Type 0 where
+  pub home_faults : fault.Told TableFault
+  pub deed_faults : fault.Told TableFault
   pub home_told : Told
   pub deed_told : Told
   pub homes : HomesCompared before after r fault.no_faults home_faults nothing_told home_told

@@ -13,4 +13,4 @@ mod tables;
 mod walks;
 
 pub use laws::{differences_are_first, rows_are_told_apart};
-pub use runs::{Fault, Verdict, run_comparison, status};
+pub use runs::{ComparisonFault, Verdict, run_comparison, status};

@@ -19,6 +19,7 @@ use oe_serial::{AnswerText, Decision, Shortage, Verdict as Replies, decide, writ
 use oe_store::Tables;
 use oe_texts::{LONGEST, Pending};
 use std::alloc::Global;
+use thiserror::Error;
 
 /// What a file of commits and nine files of tables come to.
 #[derive(Drop)]
@@ -35,13 +36,16 @@ pub enum Verdict<'a> {
 }
 
 /// Why nothing was decided, or a verdict is not told whole.
-#[derive(Clone, Copy)]
-pub enum Fault {
+#[derive(Clone, Copy, Debug, Error)]
+pub enum ComparisonFault {
     /// No memory or undo extents for the transactions. Nothing was written.
+    #[error(transparent)]
     Short(Shortage),
     /// A file was not read to its end, or memory was refused. Nothing was written.
+    #[error(transparent)]
     Stopped(Stop),
     /// A write failed. A beginning of the report was written.
+    #[error("write")]
     Write,
 }
 
@@ -63,7 +67,7 @@ fn tell_replies<'a, W: Outlet>(
     replies: Replies<'a>,
     ours: &[u8],
     writer: &mut W,
-) -> Result<Verdict<'a>, Fault>
+) -> Result<Verdict<'a>, ComparisonFault>
     requires short { IsShort replies }
     requires ours { length ours.now ≤ LONGEST }
     requires other { IsOther replies }
@@ -71,7 +75,7 @@ fn tell_replies<'a, W: Outlet>(
 {
     match write_verdict(&replies, ours, writer) {
         Ok(()) => Ok(Verdict::Replies(replies)),
-        Err(_) => Err(Fault::Write),
+        Err(_) => Err(ComparisonFault::Write),
     }
 }
 
@@ -92,11 +96,15 @@ fn write_report<W: Outlet>(count: u128, report: &Report, writer: &mut W) -> Resu
 }
 
 // Writes the report on tables that were compared, and gives the verdict.
-fn tell<'a, W: Outlet>(count: u128, report: &Report, writer: &mut W) -> Result<Verdict<'a>, Fault>
+fn tell<'a, W: Outlet>(
+    count: u128,
+    report: &Report,
+    writer: &mut W,
+) -> Result<Verdict<'a>, ComparisonFault>
     ensures { Tells count report.now (W.sink writer.old) (W.sink writer.new) result }
 {
     if write_report(count, report, writer).is_err() {
-        return Err(Fault::Write);
+        return Err(ComparisonFault::Write);
     }
     if report.count() == 0 {
         return Ok(Verdict::Same);
@@ -111,16 +119,16 @@ fn compare<'a, S: Intake, W: Outlet>(
     tables: &Tables,
     sources: &mut Sources<S>,
     writer: &mut W,
-) -> Result<Verdict<'a>, Fault>
+) -> Result<Verdict<'a>, ComparisonFault>
     ensures { Compares count (rows tables.now) (nine_of S.source sources.old)
         (nine_of S.source sources.new) (W.sink writer.old) (W.sink writer.new) result }
 {
     let Ok(mut faults) = Faults::new(alloc) else {
-        return Err(Fault::Stopped(Stop::NoMemory));
+        return Err(ComparisonFault::Stopped(Stop::NoMemory));
     };
     let mut report = Report::new(alloc);
     if let Err(stop) = compare_tables(alloc, tables, sources, &mut faults, &mut report) {
-        return Err(Fault::Stopped(stop));
+        return Err(ComparisonFault::Stopped(stop));
     }
     if faults.count() > 0 {
         return Ok(Verdict::Unreadable(faults));
@@ -138,14 +146,14 @@ pub fn run_comparison<'a, S: Intake, W: Outlet>(
     input: &'a [u8],
     sources: &mut Sources<S>,
     writer: &mut W,
-) -> Result<Verdict<'a>, Fault>
+) -> Result<Verdict<'a>, ComparisonFault>
     ensures { ComparisonRan input.now (nine_of S.source sources.old)
         (nine_of S.source sources.new) (W.sink writer.old) (W.sink writer.new) result }
 {
     let mut ours: AnswerText = ArrayVec::new();
     let decision = match decide(alloc, input, &mut ours) {
         Ok(decision) => decision,
-        Err(shortage) => return Err(Fault::Short(shortage)),
+        Err(shortage) => return Err(ComparisonFault::Short(shortage)),
     };
     match decision {
         Decision::Serial(count, tables) => {

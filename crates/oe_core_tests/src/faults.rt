@@ -1,10 +1,11 @@
 //! Each read and each write of a script fails in turn. After a fault neither reader nor writer is
-//! called again, and a front of the script's answers was written.
+//! called again, and a front of the script's answers was written. Who embeds a run carries its fault
+//! on by `?`.
 ghost use Rattle.std.specs.Prelude.{None};
 
 use oe_ports::ports::{Failed, Intake, Outlet};
 use oe_script::script::run_script;
-use oe_script::session::Fault;
+use oe_script::session::ScriptFault;
 use std::alloc::Global;
 
 /// Four deliveries of a district commit, the last of which finds none to deliver, and two conditions
@@ -107,8 +108,8 @@ fn run(alloc: Global, trial: &Trial) -> Option<[usize; 4]> {
     };
     let end = match run_script(alloc, &mut reader, &mut writer) {
         Ok(()) => WHOLE,
-        Err(Fault::Read) => READ,
-        Err(Fault::Write) => WRITE,
+        Err(ScriptFault::Read) => READ,
+        Err(ScriptFault::Write) => WRITE,
     };
     if !writer.is_beginning {
         return None;
@@ -218,4 +219,32 @@ fn each_write_fails(rt: HostRuntime) {
     assert!(rt; is_whole(rt.alloc(), 1, 1));
     assert!(rt; are_write_faults(rt.alloc(), 8_192, 16));
     assert!(rt; is_whole(rt.alloc(), 8_192, 16));
+}
+
+/// Runs a script whose first read fails, as a program that embeds it does.
+fn run_embedded(alloc: Global) -> anyhow::Result<()> {
+    let mut reader = FailingIntake {
+        rest: SCRIPT,
+        piece: 16,
+        good_calls: 0,
+        calls: 0,
+    };
+    let mut writer = FailingOutlet {
+        piece: 16,
+        good_calls: usize::MAX,
+        calls: 0,
+        written: 0,
+        is_beginning: true,
+    };
+    run_script(alloc, &mut reader, &mut writer)?;
+    Ok(())
+}
+
+#[test]
+fn a_fault_is_carried_on(rt: HostRuntime) {
+    let Err(error) = run_embedded(rt.alloc()) else {
+        panic!(rt; "no fault")
+    };
+    let text = format!(in rt.alloc(); "{error}").expect(&rt, "memory");
+    assert!(rt; text.as_str() == "read");
 }

@@ -13,7 +13,7 @@ use oe_ports::ports::{Failed, Intake, Outlet};
 use oe_reasons::{tell, why};
 use oe_script::listeners::{Listener, Place};
 use oe_script::script::hear_script;
-use oe_script::session::Fault;
+use oe_script::session::ScriptFault;
 use oe_texts::{Pending, SIZE, text};
 use std::alloc::Global;
 
@@ -115,7 +115,7 @@ pub fn explain_script<R: Intake, W: Outlet, E: Outlet>(
     reader: &mut R,
     writer: &mut W,
     explainer: &mut Explainer<E>,
-) -> Result<(), Fault>
+) -> Result<(), ScriptFault>
     requires { explainer.old.has_failed ≡ false }
     ensures { ScriptHeard
         (Said explainer.new.has_failed (E.sink explainer.old.to) (E.sink explainer.new.to))

@@ -1,6 +1,6 @@
 -- How a fault cuts a script's output.
 use Rattle.std.proofs.Common.{◌≡◌, ℕ, ◌+◌, List, ◌++◌, Some, None, Err, sym, ap, ◌∙◌, subst}
-use Rattle.oe_script.specs.declared.session.Fault.TheVariants as fault
+use Rattle.oe_script.specs.declared.session.ScriptFault.TheVariants as fault
 use Rattle.oe_ports.specs.Ports.{Source, Sink}
 use Rattle.oe_script.specs.Session.{ScriptRan}
 use Rattle.oe_script.specs.Script.{State, Output, Reached, last_text}

@@ -33,7 +33,7 @@ use Rattle.oe_lines.specs.declared.commands.MomentChoice.{MomentChoice}
 use Rattle.oe_lines.specs.declared.commands.MomentChoice.TheVariants as moment
 use Rattle.oe_runs.specs.Run.{Ran}
 use Rattle.oe_texts.specs.Answer.{answer_line, audit_line}
-use Rattle.oe_script.specs.declared.session.Fault.TheVariants as fault
+use Rattle.oe_script.specs.declared.session.ScriptFault.TheVariants as fault
 use Rattle.oe_ports.specs.Ports.{Source, Sink}
 use Rattle.oe_script.specs.Session.{ScriptRan}
 use Rattle.oe_script.specs.Script.{State, moment_in, Asks, LineAnswer, RunOfLines, ended, last_text, Output}

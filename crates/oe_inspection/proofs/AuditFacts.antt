@@ -8,8 +8,8 @@ use Rattle.oe_loading.specs.declared.loading.Loaded.{Loaded}
 use Rattle.oe_inspection.specs.Audits.{Reports, AuditRan}
 use Rattle.oe_inspection.specs.declared.audits.Verdict.{Verdict}
 use Rattle.oe_inspection.specs.declared.audits.Verdict.TheVariants as verdict
-use Rattle.oe_inspection.specs.declared.audits.Fault.{Fault}
-use Rattle.oe_inspection.specs.declared.audits.Fault.TheVariants as fault
+use Rattle.oe_inspection.specs.declared.audits.AuditFault.{AuditFault}
+use Rattle.oe_inspection.specs.declared.audits.AuditFault.TheVariants as fault
 
 abbrev pub IsOne : ℕ → Type 0
 IsOne n = n ≡ 1
@@ -20,7 +20,7 @@ or_one true n e other = absurd (other e)
 or_one false n e other = refl
 
 pub ran : (format : Format) (first : Option ℕ) (before after : Nine) (l : Loaded) (old new : Option Sink)
-    (r : Result Verdict Fault)
+    (r : Result Verdict AuditFault)
     → IsLoaded format before after l → Reports first l old new r → AuditRan format first before after old new r
 ran format first before after l old new (Ok verdict.Holds) i p = (l, i, p)
 ran format first before after l old new (Ok verdict.Fails) i p = (l, i, p)

@@ -6,7 +6,7 @@ use Rattle.oe_rows.specs.declared.keys.Table.{Table}
 use Rattle.oe_rowlines.specs.declared.forms.LineFault.{LineFault}
 use Rattle.oe_rowlines.specs.declared.forms.LineFault.TheVariants as line_fault
 use Rattle.oe_texts.specs.Key.{key_texts}
-use Rattle.oe_reading.specs.declared.faults.Fault.{Fault}
+use Rattle.oe_reading.specs.declared.faults.TableFault.{TableFault}
 use Rattle.oe_reading.specs.declared.faults.Wrong.{Wrong}
 use Rattle.oe_reading.specs.declared.faults.Wrong.TheVariants as wrong
 use Rattle.oe_reading.specs.Fault.{Told}
@@ -34,7 +34,7 @@ wrong_text t line (wrong.Miscount said) = miscount_text said line
 wrong_text t line wrong.PastCount = codes "stands behind the count of rows"
 
 -- <table> line <number>: <what is wrong>
-abbrev pub fault_line : Fault → List ℕ
+abbrev pub fault_line : TableFault → List ℕ
 fault_line f =
     table_name f.table ++ codes " line " ++ decimal f.line ++ codes ": " ++ wrong_text f.table f.line f.wrong
     ++ codes "\n"
@@ -44,5 +44,5 @@ abbrev pub more_line : ℕ → List ℕ
 more_line n = if n == 0 then [] else decimal n ++ codes " more\n"
 
 -- a line for each fault that is kept, and how many there are besides
-abbrev pub faults_text : Told Fault → List ℕ
+abbrev pub faults_text : Told TableFault → List ℕ
 faults_text t = flat_map fault_line t.kept ++ more_line (t.count - length t.kept)

@@ -8,6 +8,7 @@ use oe_loading::{LoadError, Loaded, Sources, load};
 use oe_ports::ports::{Intake, Outlet};
 use oe_reading::{Faults, Format, Stop};
 use std::alloc::Global;
+use thiserror::Error;
 
 /// What nine files come to.
 #[derive(Drop)]
@@ -21,11 +22,13 @@ pub enum Verdict {
 }
 
 /// Why files are not reported of whole.
-#[derive(Clone, Copy)]
-pub enum Fault {
+#[derive(Clone, Copy, Debug, Error)]
+pub enum AuditFault {
     /// A file was not read to its end, or memory was refused. Nothing was written.
+    #[error(transparent)]
     Stopped(Stop),
     /// A write failed. A beginning of the report was written.
+    #[error("write")]
     Write,
 }
 
@@ -42,7 +45,11 @@ pub fn status(verdict: &Verdict) -> u8
 }
 
 // Writes the report of what is loaded.
-fn report<W: Outlet>(loaded: Loaded, first: Option<u32>, writer: &mut W) -> Result<Verdict, Fault>
+fn report<W: Outlet>(
+    loaded: Loaded,
+    first: Option<u32>,
+    writer: &mut W,
+) -> Result<Verdict, AuditFault>
     ensures { Reports first loaded (W.sink writer.old) (W.sink writer.new) result }
 {
     let Loaded {
@@ -55,7 +62,7 @@ fn report<W: Outlet>(loaded: Loaded, first: Option<u32>, writer: &mut W) -> Resu
     match written {
         Ok(0) => Ok(Verdict::Holds),
         Ok(_) => Ok(Verdict::Fails),
-        Err(_) => Err(Fault::Write),
+        Err(_) => Err(AuditFault::Write),
     }
 }
 
@@ -70,13 +77,13 @@ pub fn run_audit<S: Intake, W: Outlet>(
     sources: &mut Sources<S>,
     first: Option<u32>,
     writer: &mut W,
-) -> Result<Verdict, Fault>
+) -> Result<Verdict, AuditFault>
     ensures { AuditRan format first (nine_of S.source sources.old) (nine_of S.source sources.new)
         (W.sink writer.old) (W.sink writer.new) result }
 {
     match load(alloc, format, sources) {
         Ok(loaded) => report(loaded, first, writer),
         Err(LoadError::Unreadable(faults)) => Ok(Verdict::Unreadable(faults)),
-        Err(LoadError::Stopped(stop)) => Err(Fault::Stopped(stop)),
+        Err(LoadError::Stopped(stop)) => Err(AuditFault::Stopped(stop)),
     }
 }

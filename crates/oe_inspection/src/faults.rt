@@ -11,7 +11,7 @@ use crate::columns::{column_count, column_name};
 use crate::forms::form;
 use oe_ports::output::{flush, make_room};
 use oe_ports::ports::{Failed, Outlet};
-use oe_reading::{Fault, Faults, Wrong};
+use oe_reading::{Faults, TableFault, Wrong};
 use oe_rowlines::LineFault;
 use oe_rows::Table;
 use oe_texts::columns::number;
@@ -66,7 +66,7 @@ fn miscount(out: &mut Pending, said: u64, line: u64)
 }
 
 /// Appends what is wrong with a line.
-fn wrong(out: &mut Pending, fault: &Fault)
+fn wrong(out: &mut Pending, fault: &TableFault)
     requires { array_vec_len out.old + 130 ≤ SIZE }
     ensures items { out.new.items
         ≡ out.old.items ++ wrong_text fault.now.table fault.now.line fault.now.wrong }
@@ -97,7 +97,7 @@ fn wrong(out: &mut Pending, fault: &Fault)
 }
 
 /// Appends a fault's line.
-pub fn fault_line(out: &mut Pending, fault: &Fault)
+pub fn fault_line(out: &mut Pending, fault: &TableFault)
     requires { array_vec_len out.old + LONGEST ≤ SIZE }
     ensures { out.new.items ≡ out.old.items ++ fault_line fault.now }
 {
@@ -110,7 +110,7 @@ pub fn fault_line(out: &mut Pending, fault: &Fault)
 }
 
 /// Writes a fault's line.
-fn put_fault<W: Outlet>(fault: &Fault, out: &mut Pending, to: &mut W) -> Result<(), Failed>
+fn put_fault<W: Outlet>(fault: &TableFault, out: &mut Pending, to: &mut W) -> Result<(), Failed>
     ensures { Streams (W.sink to.old) out.old.items (W.sink to.new) out.new.items
         (fault_line fault.now) result }
 {
@@ -122,7 +122,7 @@ fn put_fault<W: Outlet>(fault: &Fault, out: &mut Pending, to: &mut W) -> Result<
 }
 
 /// Writes the lines of faults.
-fn put_kept<W: Outlet>(faults: &[Fault], out: &mut Pending, to: &mut W) -> Result<(), Failed>
+fn put_kept<W: Outlet>(faults: &[TableFault], out: &mut Pending, to: &mut W) -> Result<(), Failed>
     ensures { Streams (W.sink to.old) out.old.items (W.sink to.new) out.new.items
         (flat_map fault_line faults.now) result }
 {

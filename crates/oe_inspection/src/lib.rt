@@ -7,5 +7,5 @@ pub mod columns;
 pub mod faults;
 mod forms;
 
-pub use audits::{Fault, Verdict, run_audit, status};
+pub use audits::{AuditFault, Verdict, run_audit, status};
 pub use faults::{fault_line, write_faults};

@@ -16,7 +16,7 @@ use Rattle.oe_load.specs.Ends.{IsBegun, IsWhole, IsFlatBegun, IsFlatWhole, Begun
 use Rattle.oe_load.specs.declared.turns.Shortage.{Shortage}
 use Rattle.oe_load.specs.declared.loads.Ending.{Ending}
 use Rattle.oe_load.specs.declared.loads.Ending.TheVariants as ending
-use Rattle.oe_load.specs.declared.loads.Fault.TheVariants as fault
+use Rattle.oe_load.specs.declared.loads.LoadFault.TheVariants as fault
 use Rattle.oe_load.proofs.LoadFacts.{script_more, text_more}
 
 -- what went out behind a text that waited, where nothing was added

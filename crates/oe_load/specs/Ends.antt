@@ -13,8 +13,8 @@ use Rattle.oe_load.specs.Flats as flats
 use Rattle.oe_load.specs.Flats.{InTurn, requests_text}
 use Rattle.oe_load.specs.declared.loads.Ending.{Ending}
 use Rattle.oe_load.specs.declared.loads.Ending.TheVariants as ending
-use Rattle.oe_load.specs.declared.loads.Fault.{Fault}
-use Rattle.oe_load.specs.declared.loads.Fault.TheVariants as fault
+use Rattle.oe_load.specs.declared.loads.LoadFault.{LoadFault}
+use Rattle.oe_load.specs.declared.loads.LoadFault.TheVariants as fault
 
 -- the text is a script as far as it was told; whole, where all requests are served
 pub record IsBegun (p : Plan) (text : List ℕ) : Type 0 where
@@ -57,7 +57,7 @@ Whole p false text = IsWhole p text
 
 -- The whole load was written; it stops short, and what there is of it was written, or nothing was; or a write failed
 -- behind a beginning of that.
-abbrev pub LoadRan : Plan → Bool → Option Sink → Option Sink → Result (Unit {0}) Fault → Type 0
+abbrev pub LoadRan : Plan → Bool → Option Sink → Option Sink → Result (Unit {0}) LoadFault → Type 0
 LoadRan p is_flat old new (Ok x) = (text : List ℕ) × Whole p is_flat text × Sent old [] new [] text
 LoadRan p is_flat old new (Err (fault.Short e)) =
     (text : List ℕ) × ((text ≡ []) ⊎ Begun p is_flat text) × Sent old [] new [] text

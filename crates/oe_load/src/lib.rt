@@ -9,5 +9,5 @@ mod ranges;
 mod served;
 mod turns;
 
-pub use loads::{Fault, run_load};
+pub use loads::{LoadFault, run_load};
 pub use turns::Shortage;

@@ -26,16 +26,19 @@ use oe_values::{NoMemory, Terminal};
 use oe_words::open_line;
 use rand_pcg::Lcg64Xsh32;
 use std::alloc::Global;
+use thiserror::Error;
 
 /// No load takes more turns for each of its requests. Most take some twenty.
 const TURNS: u32 = 2_000;
 
 /// Why a load is not told whole.
-#[derive(Clone, Copy, PartialEq, Eq)]
-pub enum Fault {
+#[derive(Clone, Copy, Debug, Error)]
+pub enum LoadFault {
     /// The load stops there. What was written is answered without an error but `Busy`.
+    #[error(transparent)]
     Short(Shortage),
     /// A write failed. A beginning of a load was written.
+    #[error("write")]
     Write,
 }
 
@@ -187,20 +190,20 @@ fn closed<W: Outlet>(
     ending: Result<Ending, Failed>,
     out: &mut Pending,
     to: &mut W,
-) -> Result<(), Fault>
+) -> Result<(), LoadFault>
     ensures { (p : Plan) (is_flat : Bool) (start : Option Sink) →
         Wrote p is_flat start (W.sink to.old) out.old.items ending →
         LoadRan p is_flat start (W.sink to.new) result }
 {
     let Ok(ending) = ending else {
-        return Err(Fault::Write);
+        return Err(LoadFault::Write);
     };
     if let Err(_) = flush(out, to) {
-        return Err(Fault::Write);
+        return Err(LoadFault::Write);
     }
     match ending {
         Ending::Served => Ok(()),
-        Ending::Short(shortage) => Err(Fault::Short(shortage)),
+        Ending::Short(shortage) => Err(LoadFault::Short(shortage)),
     }
 }
 
@@ -223,7 +226,7 @@ pub fn run_load<W: Outlet>(
     kinds: Kinds,
     is_flat: bool,
     writer: &mut W,
-) -> Result<(), Fault>
+) -> Result<(), LoadFault>
     ensures { LoadRan (record { numbers = numbers.now; kinds = kinds }) is_flat
         (W.sink writer.old) (W.sink writer.new) result }
 {

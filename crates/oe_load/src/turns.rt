@@ -23,18 +23,32 @@ use oe_requests::{Answer, Query, Refusal, Request};
 use oe_texts::{LONGEST, Pending, SIZE};
 use oe_values::{Number, Terminal};
 use oe_words::{begin_line, next_line, purge_line, read_line, rollback_line};
+use std::fmt;
+use std::fmt::{Debug, Display, Formatter, Write};
+use thiserror::Error;
 
 /// Why a load stops before its end.
-#[derive(Clone, Copy, PartialEq, Eq)]
+#[derive(Clone, Copy, Error)]
 pub enum Shortage {
     /// Memory was refused.
+    #[error("no memory")]
     NoMemory,
     /// A transaction alone has filled the undo ring.
+    #[error("no undo extents")]
     UndoFull,
     /// A request was refused otherwise.
+    #[error("a request is refused")]
     Refused(Refusal),
     /// Too many turns were taken.
+    #[error("the load has no end")]
     NoEnd,
+}
+
+// Its text stands for it, since a refusal has no `Debug`.
+impl Debug for Shortage {
+    fn fmt<W: Write>(&self, f: &mut Formatter<W>) -> fmt::Result {
+        Display::fmt(self, f)
+    }
 }
 
 /// What the line that was told is answered.

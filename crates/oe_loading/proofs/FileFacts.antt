@@ -1,6 +1,6 @@
 -- Files in which nothing was told.
 use Rattle.std.proofs.Common.{◌≡◌}
-use Rattle.oe_reading.specs.declared.faults.Fault.{Fault}
+use Rattle.oe_reading.specs.declared.faults.TableFault.{TableFault}
 use Rattle.oe_reading.specs.declared.formats.Format.{Format}
 use Rattle.oe_reading.specs.Fault.{Told}
 use Rattle.oe_loading.specs.Loading.{Nine}
@@ -9,7 +9,7 @@ use Rattle.oe_reading.proofs.ReadFacts.{table_read_as}
 use Rattle.oe_rows.proofs.KeyFacts.{warehouse_total, district_total, customer_total, history_total, new_order_total}
 use Rattle.oe_rows.proofs.KeyFacts.{order_total, order_line_total, item_total, stock_total}
 
-pub files_read : (format : Format) (old new : Nine) (f : NineRows) (start told : Told Fault)
+pub files_read : (format : Format) (old new : Nine) (f : NineRows) (start told : Told TableFault)
     → FilesTold format old new f start told
     → told.count ≡ 0 → FilesRead format old new f
 files_read format old new f start told t e =

@@ -22,7 +22,7 @@ use Rattle.oe_model.specs.Keys.{supply_of_line}
 use Rattle.std.specs.FinMap.{insert}
 use Rattle.oe_model.specs.Rows.{Rows}
 use Rattle.oe_store.specs.Places.{rows}
-use Rattle.oe_reading.specs.declared.faults.Fault.{Fault}
+use Rattle.oe_reading.specs.declared.faults.TableFault.{TableFault}
 use Rattle.oe_reading.specs.declared.formats.Format.{Format}
 use Rattle.oe_reading.specs.declared.lines.Numbered.{Numbered}
 use Rattle.oe_reading.specs.Fault.{Told, no_faults}
@@ -42,10 +42,10 @@ use Rattle.oe_loading.proofs.PlaceFacts.{put_keeps}
 
 -- what no row of a table changes stays as the table is loaded
 pub table_keeps : {K X Z : Type 0}
-    {reads : Option Source → Option Source → Told Fault → Told Fault → List (Numbered K X) → Type 0}
+    {reads : Option Source → Option Source → Told TableFault → Told TableFault → List (Numbered K X) → Type 0}
     (key_of : K → Key) (refers : K → X → List Key) (with : K → X → Rows → Rows) (f : Rows → Z)
     → ((k : K) (x : X) (r : Rows) → f (with k x r) ≡ f r)
-    → (old new : Option Source) (start told : Told Fault) (r s : Rows) (a b : List apart.Apart) (count : ℕ)
+    → (old new : Option Source) (start told : Told TableFault) (r s : Rows) (a b : List apart.Apart) (count : ℕ)
     → TableLoaded reads (Puts key_of refers with) old new start told r s a b count → f s ≡ f r
 table_keeps {K} {X} {Z} key_of refers with f still old new start told r s a b count l = by told.count refl
   where
@@ -55,7 +55,7 @@ table_keeps {K} {X} {Z} key_of refers with f still old new start told r s a b co
 
 pub customers_keep : {Z : Type 0} {format : Format} (f : Rows → Z) → ((k : CustomerKey) (x : Customer) (r : Rows)
     → f (record r { customers = insert r.customers k x }) ≡ f r)
-    → (old new : Option Source) (start told : Told Fault) (r s : Rows) (a b : List apart.Apart) (count : ℕ)
+    → (old new : Option Source) (start told : Told TableFault) (r s : Rows) (a b : List apart.Apart) (count : ℕ)
     → TableLoaded (CustomersRead format) PutsCustomers old new start told r s a b count → f s ≡ f r
 customers_keep f still old new start told r s a b count l =
     table_keeps (λ k. key.Customer k) (λ k x. key.District (district_of_customer k) ∷ [])
@@ -63,7 +63,7 @@ customers_keep f still old new start told r s a b count l =
 
 pub items_keep : {Z : Type 0} {format : Format} (f : Rows → Z) → ((k : ItemKey) (x : Item) (r : Rows) → f
     (record r { items = insert r.items k x }) ≡ f r)
-    → (old new : Option Source) (start told : Told Fault) (r s : Rows) (a b : List apart.Apart) (count : ℕ)
+    → (old new : Option Source) (start told : Told TableFault) (r s : Rows) (a b : List apart.Apart) (count : ℕ)
     → TableLoaded (ItemsRead format) PutsItems old new start told r s a b count → f s ≡ f r
 items_keep f still old new start told r s a b count l =
     table_keeps (λ k. key.Item k) (λ k x. [])
@@ -71,7 +71,7 @@ items_keep f still old new start told r s a b count l =
 
 pub orders_keep : {Z : Type 0} {format : Format} (f : Rows → Z) → ((k : OrderKey) (x : Order) (r : Rows) → f
     (changed (InsertOrder k x) r) ≡ f r)
-    → (old new : Option Source) (start told : Told Fault) (r s : Rows) (a b : List apart.Apart) (count : ℕ)
+    → (old new : Option Source) (start told : Told TableFault) (r s : Rows) (a b : List apart.Apart) (count : ℕ)
     → TableLoaded (OrdersRead format) PutsOrders old new start told r s a b count → f s ≡ f r
 orders_keep f still old new start told r s a b count l =
     table_keeps (λ k. key.Order k) (λ k x. key.Customer (customer_of_order k x) ∷ []) (λ k x r. changed
@@ -79,7 +79,7 @@ orders_keep f still old new start told r s a b count l =
 
 pub lines_keep : {Z : Type 0} {format : Format} (f : Rows → Z)
     → ((k : OrderLineKey) (x : OrderLine) (r : Rows) → f (changed (InsertOrderLine k x) r) ≡ f r)
-    → (old new : Option Source) (start told : Told Fault) (r s : Rows) (a b : List apart.Apart) (count : ℕ)
+    → (old new : Option Source) (start told : Told TableFault) (r s : Rows) (a b : List apart.Apart) (count : ℕ)
     → TableLoaded (OrderLinesRead format) PutsLines old new start told r s a b count → f s ≡ f r
 lines_keep f still old new start told r s a b count l =
     table_keeps (λ k. key.OrderLine k) (λ k x. key.Order (order_of_line k) ∷ key.Stock (supply_of_line x) ∷ [])
@@ -87,13 +87,13 @@ lines_keep f still old new start told r s a b count l =
 
 pub new_orders_keep : {Z : Type 0} {format : Format} (f : Rows → Z) → ((k : NewOrderKey) (x : NewOrder)
     (r : Rows) → f (changed (InsertNewOrder k x) r) ≡ f r)
-    → (old new : Option Source) (start told : Told Fault) (r s : Rows) (a b : List apart.Apart) (count : ℕ)
+    → (old new : Option Source) (start told : Told TableFault) (r s : Rows) (a b : List apart.Apart) (count : ℕ)
     → TableLoaded (NewOrdersRead format) PutsNewOrders old new start told r s a b count → f s ≡ f r
 new_orders_keep f still old new start told r s a b count l =
     table_keeps (λ k. key.NewOrder k) (λ k x. key.Order (order_of_new_order k) ∷ []) (λ k x r. changed
     (InsertNewOrder k x) r) f still old new start told r s a b count l
 
-pub base_loaded : (format : Format) (old new : Nine) (start told_1 told_2 told_3 told : Told Fault)
+pub base_loaded : (format : Format) (old new : Nine) (start told_1 told_2 told_3 told : Told TableFault)
     (homes r s t end : Rows) (z a b c d : List apart.Apart) (n : begun.Begun)
     → HomesLoaded format old.warehouse new.warehouse old.district new.district start told_1 homes z a n.warehouses
     n.districts
@@ -135,7 +135,7 @@ base_loaded format old new start told_1 told_2 told_3 told homes r s t end z a b
   counted = (h.counted.0, h.counted.1, k.counted, i.counted, o.counted);
 }
 
-pub deeds_loaded : (format : Format) (old new : Nine) (start told_1 told_2 told_3 told : Told Fault)
+pub deeds_loaded : (format : Format) (old new : Nine) (start told_1 told_2 told_3 told : Told TableFault)
     (q r s t end : Rows) (a b c d e : List apart.Apart) (n : counts.DeedCounts)
     → TableLoaded (OrdersRead format) PutsOrders old.order new.order start told_1 q r a b n.orders
     → TableLoaded (OrderLinesRead format) PutsLines old.order_line new.order_line told_1 told_2 r s b c n.order_lines
@@ -187,7 +187,7 @@ all_counts n m = record {
   stocks = n.stocks;
 }
 
-pub files_loaded : (format : Format) (old mid new : Nine) (start middle told : Told Fault) (end : Rows)
+pub files_loaded : (format : Format) (old mid new : Nine) (start middle told : Told TableFault) (end : Rows)
     (z a b : List apart.Apart) (n : begun.Begun) (m : counts.DeedCounts) → z ≡ [] → KeepsDeeds old mid
     → KeepsBase mid new → BaseLoaded format old mid start middle (rows n.tables) z a n
     → DeedsLoaded format mid new middle told (rows n.tables) end a b m
@@ -274,12 +274,12 @@ files_loaded format old mid new start middle told end z a b n m none_apart deeds
 
 -- ---- what is answered
 
-module _ (format : Format) (old new : Nine) (start told : Told Fault) (end : Rows) (parted : List apart.Apart)
+module _ (format : Format) (old new : Nine) (start told : Told TableFault) (end : Rows) (parted : List apart.Apart)
     (counts : RowCounts) (l : FilesLoaded format old new start told end parted counts) where
   pub are_faults : start ≡ no_faults → 0 < told.count → AreFaults format old new told
   are_faults none some = record {
     files = l.files;
-    read = subst (λ (t : Told Fault). FilesTold format old new l.files t told) none l.read;
+    read = subst (λ (t : Told TableFault). FilesTold format old new l.files t told) none l.read;
     some = some;
   }
 

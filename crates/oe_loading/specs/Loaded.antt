@@ -28,7 +28,7 @@ use Rattle.oe_model.specs.Keys.{warehouse_of_district, district_of_customer, ord
 use Rattle.oe_model.specs.Keys.{order_of_line, supply_of_line, warehouse_of_stock, item_of_stock}
 use Rattle.oe_model.specs.Rows.{Rows}
 use Rattle.oe_model.specs.Changes.{changed, InsertHistory, InsertNewOrder, InsertOrder, InsertOrderLine}
-use Rattle.oe_reading.specs.declared.faults.Fault.{Fault}
+use Rattle.oe_reading.specs.declared.faults.TableFault.{TableFault}
 use Rattle.oe_reading.specs.declared.lines.Numbered.{Numbered}
 use Rattle.oe_loading.specs.declared.loading.Apart as apart
 use Rattle.oe_loading.specs.declared.loading.Begun as begun
@@ -160,58 +160,58 @@ pub record FilesPut (f : NineRows) (end : Rows) (parted : List apart.Apart) : Ty
   pub deeds : DeedsPut f.orders f.order_lines f.new_orders f.histories middle end parted_middle parted
 
 -- files are read one after another, and each adds its faults to those before
-abbrev pub WarehousesRead : Format → Option Source → Option Source → Told Fault → Told Fault
+abbrev pub WarehousesRead : Format → Option Source → Option Source → Told TableFault → Told TableFault
     → List (Numbered WarehouseKey Warehouse) → Type 0
 WarehousesRead format =
     TableReadAs format warehouse_cmp (λ k. key.Warehouse k) (SpellsRow warehouse_forms warehouse_values) table.Warehouse
 
-abbrev pub DistrictsRead : Format → Option Source → Option Source → Told Fault → Told Fault
+abbrev pub DistrictsRead : Format → Option Source → Option Source → Told TableFault → Told TableFault
     → List (Numbered DistrictKey District) → Type 0
 DistrictsRead format =
     TableReadAs format district_cmp (λ k. key.District k) (SpellsRow district_forms district_values) table.District
 
-abbrev pub CustomersRead : Format → Option Source → Option Source → Told Fault → Told Fault
+abbrev pub CustomersRead : Format → Option Source → Option Source → Told TableFault → Told TableFault
     → List (Numbered CustomerKey Customer) → Type 0
 CustomersRead format =
     TableReadAs format customer_cmp (λ k. key.Customer k) (SpellsRow customer_forms customer_values) table.Customer
 
-abbrev pub HistoriesRead : Format → Option Source → Option Source → Told Fault → Told Fault
+abbrev pub HistoriesRead : Format → Option Source → Option Source → Told TableFault → Told TableFault
     → List (Numbered HistoryKey History) → Type 0
 HistoriesRead format = TableReadAs format history_cmp (λ k. key.History k) SpellsHistory table.History
 
-abbrev pub NewOrdersRead : Format → Option Source → Option Source → Told Fault → Told Fault
+abbrev pub NewOrdersRead : Format → Option Source → Option Source → Told TableFault → Told TableFault
     → List (Numbered NewOrderKey NewOrder) → Type 0
 NewOrdersRead format =
     TableReadAs format new_order_cmp (λ k. key.NewOrder k) (SpellsRow new_order_forms new_order_values) table.NewOrder
 
-abbrev pub OrdersRead : Format → Option Source → Option Source → Told Fault → Told Fault
+abbrev pub OrdersRead : Format → Option Source → Option Source → Told TableFault → Told TableFault
     → List (Numbered OrderKey Order) → Type 0
 OrdersRead format = TableReadAs format order_cmp (λ k. key.Order k) (SpellsRow order_forms order_values) table.Order
 
-abbrev pub OrderLinesRead : Format → Option Source → Option Source → Told Fault → Told Fault
+abbrev pub OrderLinesRead : Format → Option Source → Option Source → Told TableFault → Told TableFault
     → List (Numbered OrderLineKey OrderLine) → Type 0
 OrderLinesRead format =
     TableReadAs format order_line_cmp (λ k. key.OrderLine k) (SpellsRow order_line_forms order_line_values)
     table.OrderLine
 
-abbrev pub ItemsRead : Format → Option Source → Option Source → Told Fault → Told Fault → List (Numbered ItemKey Item)
-    → Type 0
+abbrev pub ItemsRead : Format → Option Source → Option Source → Told TableFault → Told TableFault
+    → List (Numbered ItemKey Item) → Type 0
 ItemsRead format = TableReadAs format item_cmp (λ k. key.Item k) (SpellsRow item_forms item_values) table.Item
 
-abbrev pub StocksRead : Format → Option Source → Option Source → Told Fault → Told Fault
+abbrev pub StocksRead : Format → Option Source → Option Source → Told TableFault → Told TableFault
     → List (Numbered StockKey Stock) → Type 0
 StocksRead format = TableReadAs format stock_cmp (λ k. key.Stock k) (SpellsRow stock_forms stock_values) table.Stock
 
 -- reading the files one after another gave these rows, and added these faults to the faults at the start
-pub record FilesTold (format : Format) (old new : Nine) (f : NineRows) (start told : Told Fault) : Type 0 where
-  pub told_warehouses : Told Fault
-  pub told_districts : Told Fault
-  pub told_customers : Told Fault
-  pub told_items : Told Fault
-  pub told_stocks : Told Fault
-  pub told_orders : Told Fault
-  pub told_order_lines : Told Fault
-  pub told_new_orders : Told Fault
+pub record FilesTold (format : Format) (old new : Nine) (f : NineRows) (start told : Told TableFault) : Type 0 where
+  pub told_warehouses : Told TableFault
+  pub told_districts : Told TableFault
+  pub told_customers : Told TableFault
+  pub told_items : Told TableFault
+  pub told_stocks : Told TableFault
+  pub told_orders : Told TableFault
+  pub told_order_lines : Told TableFault
+  pub told_new_orders : Told TableFault
   pub warehouses : WarehousesRead format old.warehouse new.warehouse start told_warehouses f.warehouses
   pub districts : DistrictsRead format old.district new.district told_warehouses told_districts f.districts
   pub customers : CustomersRead format old.customer new.customer told_districts told_customers f.customers
@@ -262,10 +262,10 @@ counts_of f = record {
 
 -- A table's file was read, and its rows were put and counted; where a fault was told by then, none is put.
 pub record TableLoaded {K X : Type 0}
-    (reads : Option Source → Option Source → Told Fault → Told Fault → List (Numbered K X) → Type 0)
+    (reads : Option Source → Option Source → Told TableFault → Told TableFault → List (Numbered K X) → Type 0)
     (puts : List (Numbered K X) → Rows → Rows → List apart.Apart → List apart.Apart → Type 0)
-    (old new : Option Source) (start told : Told Fault) (r s : Rows) (parted parted' : List apart.Apart) (count : ℕ)
-    : Type 0 where
+    (old new : Option Source) (start told : Told TableFault) (r s : Rows)
+    (parted parted' : List apart.Apart) (count : ℕ) : Type 0 where
   pub lot : List (Numbered K X)
   pub read : reads old new start told lot
   pub put : told.count ≡ 0 → puts lot r s parted parted'
@@ -274,28 +274,28 @@ pub record TableLoaded {K X : Type 0}
 
 -- the files of warehouses and districts were read, and their rows kept where no line is a fault
 pub record HomesLoaded (format : Format) (warehouse warehouse' district district' : Option Source)
-    (start told : Told Fault) (end : Rows) (parted parted' : List apart.Apart)
+    (start told : Told TableFault) (end : Rows) (parted parted' : List apart.Apart)
     (warehouse_count district_count : ℕ) : Type 0 where
   pub warehouses : List (Numbered WarehouseKey Warehouse)
   pub districts : List (Numbered DistrictKey District)
-  pub middle : Told Fault
+  pub middle : Told TableFault
   pub read_warehouses : WarehousesRead format warehouse warehouse' start middle warehouses
   pub read_districts : DistrictsRead format district district' middle told districts
   pub put : told.count ≡ 0 → HomesPut warehouses districts end parted parted'
   pub counted : (warehouse_count ≡ length warehouses) × (district_count ≡ length districts)
 
 -- the files of what orders refer to were read, and their rows put where no line is a fault
-pub record BaseLoaded (format : Format) (old new : Nine) (start told : Told Fault) (end : Rows)
+pub record BaseLoaded (format : Format) (old new : Nine) (start told : Told TableFault) (end : Rows)
     (parted parted' : List apart.Apart) (b : begun.Begun) : Type 0 where
   pub warehouses : List (Numbered WarehouseKey Warehouse)
   pub districts : List (Numbered DistrictKey District)
   pub customers : List (Numbered CustomerKey Customer)
   pub items : List (Numbered ItemKey Item)
   pub stocks : List (Numbered StockKey Stock)
-  pub told_warehouses : Told Fault
-  pub told_districts : Told Fault
-  pub told_customers : Told Fault
-  pub told_items : Told Fault
+  pub told_warehouses : Told TableFault
+  pub told_districts : Told TableFault
+  pub told_customers : Told TableFault
+  pub told_items : Told TableFault
   pub read_warehouses : WarehousesRead format old.warehouse new.warehouse start told_warehouses warehouses
   pub read_districts : DistrictsRead format old.district new.district told_warehouses told_districts districts
   pub read_customers : CustomersRead format old.customer new.customer told_districts told_customers customers
@@ -306,15 +306,15 @@ pub record BaseLoaded (format : Format) (old new : Nine) (start told : Told Faul
       × (b.customers ≡ length customers) × (b.items ≡ length items) × (b.stocks ≡ length stocks)
 
 -- the files of orders and of what refers to them were read, and their rows put where no line is a fault
-pub record DeedsLoaded (format : Format) (old new : Nine) (start told : Told Fault) (r end : Rows)
+pub record DeedsLoaded (format : Format) (old new : Nine) (start told : Told TableFault) (r end : Rows)
     (parted parted' : List apart.Apart) (d : counts.DeedCounts) : Type 0 where
   pub orders : List (Numbered OrderKey Order)
   pub order_lines : List (Numbered OrderLineKey OrderLine)
   pub new_orders : List (Numbered NewOrderKey NewOrder)
   pub histories : List (Numbered HistoryKey History)
-  pub told_orders : Told Fault
-  pub told_order_lines : Told Fault
-  pub told_new_orders : Told Fault
+  pub told_orders : Told TableFault
+  pub told_order_lines : Told TableFault
+  pub told_new_orders : Told TableFault
   pub read_orders : OrdersRead format old.order new.order start told_orders orders
   pub read_order_lines : OrderLinesRead format old.order_line new.order_line told_orders told_order_lines order_lines
   pub read_new_orders : NewOrdersRead format old.new_order new.new_order told_order_lines told_new_orders new_orders
@@ -324,7 +324,7 @@ pub record DeedsLoaded (format : Format) (old new : Nine) (start told : Told Fau
       × (d.new_orders ≡ length new_orders) × (d.histories ≡ length histories)
 
 -- all files were read, and their rows put where no line is a fault
-pub record FilesLoaded (format : Format) (old new : Nine) (start told : Told Fault) (end : Rows)
+pub record FilesLoaded (format : Format) (old new : Nine) (start told : Told TableFault) (end : Rows)
     (parted : List apart.Apart) (counts : RowCounts) : Type 0 where
   pub files : NineRows
   pub read : FilesTold format old new files start told
@@ -345,7 +345,7 @@ abbrev pub IsLoaded : Format → Nine → Nine → loaded.Loaded → Type 0
 IsLoaded format old new l = AreLoaded format old new (rows l.tables) l.apart.items l.counts
 
 -- the faults of the files, at least one
-pub record AreFaults (format : Format) (old new : Nine) (told : Told Fault) : Type 0 where
+pub record AreFaults (format : Format) (old new : Nine) (told : Told TableFault) : Type 0 where
   pub files : NineRows
   pub read : FilesTold format old new files no_faults told
   pub some : 0 < told.count

@@ -12,7 +12,7 @@ use Rattle.std.proofs.lemmas.List.MinMax.{ranks_by}
 use Rattle.std.proofs.lemmas.List.Sorted.{IsPermutation-refl}
 use Rattle.oe_rows.specs.declared.keys.Key.{Key}
 use Rattle.oe_rows.specs.declared.keys.Table.{Table}
-use Rattle.oe_reading.specs.declared.faults.Fault.{Fault}
+use Rattle.oe_reading.specs.declared.faults.TableFault.{TableFault}
 use Rattle.oe_reading.specs.declared.faults.Wrong.TheVariants as wrong
 use Rattle.oe_reading.specs.declared.lines.Numbered.{Numbered}
 use Rattle.oe_reading.specs.Batches.{Ascend, EndBelow, AreGathered, AreOrdered}
@@ -90,7 +90,7 @@ module _ {K X : Type 0} (cmp : K → K → Ordering) where
       → twice_behind cmp table key_of n ns ≡ []
   none_behind table key_of n [] up = refl
   none_behind table key_of n (m ∷ ns) up =
-      let told : Fault = record { table = table; line = m.line; wrong = wrong.Twice (key_of m.key) } in
+      let told : TableFault = record { table = table; line = m.line; wrong = wrong.Twice (key_of m.key) } in
       ap (λ (o : Ordering). (if is_eq o then told ∷ [] else []) ++ twice_behind cmp table key_of m ns)
       (up 0 n (omega arith)) ∙ none_behind table key_of m ns (ascend_behind n (m ∷ ns) up)
 
@@ -101,7 +101,7 @@ module _ {K X : Type 0} (cmp : K → K → Ordering) where
 
   -- rows that ascend are in order as they are
   pub ascending_ordered : IsTotalOrder cmp → (table : Table) (key_of : K → Key) (rows rows' : List (Numbered K X))
-      (told : Told Fault) → rows' ≡ rows → Ascend cmp rows → AreOrdered cmp table key_of rows rows' told told
+      (told : Told TableFault) → rows' ≡ rows → Ascend cmp rows → AreOrdered cmp table key_of rows rows' told told
   ascending_ordered total table key_of rows rows' told e up =
       subst (λ rs. AreOrdered cmp table key_of rows rs told told) (sym e)
       (record {

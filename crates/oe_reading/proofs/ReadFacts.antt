@@ -12,7 +12,7 @@ use Rattle.std.proofs.lemmas.Grind.{flat_map-append}
 use Rattle.std.proofs.lemmas.Bool.{eqb-true, eq-eqb}
 use Rattle.memchr.specs.Find.{IsFirstByte, Nowhere, Passes, is_byte}
 use Rattle.oe_rows.specs.declared.keys.Table.{Table}
-use Rattle.oe_reading.specs.declared.faults.Fault.{Fault}
+use Rattle.oe_reading.specs.declared.faults.TableFault.{TableFault}
 use Rattle.oe_reading.specs.declared.faults.Wrong.{Wrong}
 use Rattle.oe_reading.specs.declared.faults.Wrong.TheVariants as wrong
 use Rattle.oe_rowlines.specs.declared.forms.LineFault.{LineFault}
@@ -47,15 +47,15 @@ shown_next n m e = omega (arith, e)
 
 -- ---- one line more
 
-module _ {K X : Type 0} (format : Format) (spells : ℕ → List ℕ → K × X → Type 0) (table : Table) (start : Told Fault)
-    (ls : List (List ℕ)) (line : List ℕ) (count n : ℕ) (next : n ≡ shown (count + 1)) where
+module _ {K X : Type 0} (format : Format) (spells : ℕ → List ℕ → K × X → Type 0) (table : Table)
+    (start : Told TableFault) (ls : List (List ℕ)) (line : List ℕ) (count n : ℕ) (next : n ≡ shown (count + 1)) where
   at_next : count ≡ shown (length ls) → n ≡ shown (length ls + 1)
   at_next e = next ∙ shown_next count (length ls) e
 
   at_end : count ≡ shown (length ls) → n ≡ shown (length (ls ++ line ∷ []))
   at_end e = at_next e ∙ ap shown (sym (length_push ls line))
 
-  pub fault_stands : (counted headed : Bool) (rows : List (Numbered K X)) (told told' : Told Fault) (w : Wrong)
+  pub fault_stands : (counted headed : Bool) (rows : List (Numbered K X)) (told told' : Told TableFault) (w : Wrong)
       → Stands format spells table start ls counted headed count rows told
       → IsWrong format spells table counted headed n line w
       → told' ≡ pushed (record { table = table; line = n; wrong = w }) told
@@ -69,7 +69,7 @@ module _ {K X : Type 0} (format : Format) (spells : ℕ → List ℕ → K × X 
         at_end s.3,
       )
 
-  pub heading_stands : (headed : Bool) (rows : List (Numbered K X)) (told : Told Fault)
+  pub heading_stands : (headed : Bool) (rows : List (Numbered K X)) (told : Told TableFault)
       → Stands format spells table start ls false headed count rows told
       → heads format n (text_in format line) ≡ true
       → Stands format spells table start (ls ++ line ∷ []) false true n rows told
@@ -80,7 +80,7 @@ module _ {K X : Type 0} (format : Format) (spells : ℕ → List ℕ → K × X 
     at_end s.3,
   )
 
-  pub row_stands : (headed : Bool) (rows rows' : List (Numbered K X)) (told told' : Told Fault) (r : K × X)
+  pub row_stands : (headed : Bool) (rows rows' : List (Numbered K X)) (told told' : Told TableFault) (r : K × X)
       → Stands format spells table start ls false headed count rows told
       → spelled_as format table spells n (text_in format line) r
       → rows' ≡ rows ++ record { line = n; key = r.0; row = r.1 } ∷ [] → told' ≡ told
@@ -96,7 +96,7 @@ module _ {K X : Type 0} (format : Format) (spells : ℕ → List ℕ → K × X 
         at_end s.3,
       )
 
-  pub count_stands : (headed : Bool) (rows rows' : List (Numbered K X)) (told told' : Told Fault) (said : ℕ)
+  pub count_stands : (headed : Bool) (rows rows' : List (Numbered K X)) (told told' : Told TableFault) (said : ℕ)
       → Stands format spells table start ls false headed count rows told → said_of (text_in format line) ≡ Some said
       → rows' ≡ rows → CountsOne table headed said n told told'
       → Stands format spells table start (ls ++ line ∷ []) true headed n rows' told'
@@ -111,7 +111,7 @@ module _ {K X : Type 0} (format : Format) (spells : ℕ → List ℕ → K × X 
       subst (λ rs. Stands format spells table start (ls ++ line ∷ []) true headed n rs told') (sym e)
       (fault_stands false headed rows told told' (wrong.Miscount said) s (says, h.0) h.1)
 
-  pub one_stands : (headed : Bool) (rows rows' : List (Numbered K X)) (told told' : Told Fault)
+  pub one_stands : (headed : Bool) (rows rows' : List (Numbered K X)) (told told' : Told TableFault)
       → heads format n (text_in format line) ≡ false
       → Stands format spells table start ls false headed count rows told
       → TakesOne format spells table n (text_in format line) rows told rows' told'
@@ -126,8 +126,8 @@ module _ {K X : Type 0} (format : Format) (spells : ℕ → List ℕ → K × X 
       (fault_stands false headed rows told told' wrong.NoRecord s (none, h.0, h.1) h.3)
 
 pub stands_as : {format : Format} {K X : Type 0} {spells : ℕ → List ℕ → K × X → Type 0} {table : Table}
-    {start : Told Fault} {ls : List (List ℕ)} {b c h i : Bool} {n m : ℕ} {rows : List (Numbered K X)}
-    {told : Told Fault}
+    {start : Told TableFault} {ls : List (List ℕ)} {b c h i : Bool} {n m : ℕ} {rows : List (Numbered K X)}
+    {told : Told TableFault}
     → c ≡ b → i ≡ h → m ≡ n
     → Stands format spells table start ls b h n rows told → Stands format spells table start ls c i m rows told
 stands_as e f g s = rw (e, f, g) s
@@ -135,7 +135,7 @@ stands_as e f g s = rw (e, f, g) s
 -- what was read of a line's text
 
 module _ {K X : Type 0} (spells : ℕ → List ℕ → K × X → Type 0) (table : Table) (n : ℕ)
-    (rows rows' : List (Numbered K X)) (told told' : Told Fault) where
+    (rows rows' : List (Numbered K X)) (told told' : Told TableFault) where
   pub takes_dump : (text : List ℕ) (read : Result (K × X) LineFault)
       → ((r : K × X) → read ≡ Ok r → spells n text r) → ((r : K × X) → spells n text r → read ≡ Ok r)
       → TakesRead table n read rows told rows' told' → TakesOne written.Dump spells table n text rows told rows' told'
@@ -182,7 +182,7 @@ all_none : {A : Type 0} (P : A → Type 0) → All P []
 all_none P k d h = absurd (omega (arith, h))
 
 module _ {K X : Type 0} (format : Format) (spells : ℕ → List ℕ → K × X → Type 0) (table : Table) where
-  pub standing_start : (start : Told Fault) (r : reading.Reading K X) → r.lot.rows ≡ [] → r.lot.count ≡ 0
+  pub standing_start : (start : Told TableFault) (r : reading.Reading K X) → r.lot.rows ≡ [] → r.lot.count ≡ 0
       → r.lot.is_counted ≡ false → r.lot.is_headed ≡ false → r.line.items ≡ [] → r.over ≡ false
       → Standing format spells table start [] r start
   standing_start start r e f g k h o = record {
@@ -195,8 +195,8 @@ module _ {K X : Type 0} (format : Format) (spells : ℕ → List ℕ → K × X 
     holds = rw (h, o) (refl, omega arith);
   }
 
-  pub standing_bytes : (start : Told Fault) (input more : List ℕ) (r r' : reading.Reading K X) (told : Told Fault)
-      → IsInLine more → r'.lot ≡ r.lot
+  pub standing_bytes : (start : Told TableFault) (input more : List ℕ) (r r' : reading.Reading K X)
+      (told : Told TableFault) → IsInLine more → r'.lot ≡ r.lot
       → ((line : List ℕ) → Holds r.line.items r.over line → Holds r'.line.items r'.over (line ++ more))
       → Standing format spells table start input r told → Standing format spells table start (input ++ more) r' told
   standing_bytes start input more r r' told free same keeps s = record {
@@ -211,9 +211,9 @@ module _ {K X : Type 0} (format : Format) (spells : ℕ → List ℕ → K × X 
     holds = keeps s.line s.holds;
   }
 
-  pub standing_line : (start : Told Fault) (input last : List ℕ) (r r' : reading.Reading K X) (told told' : Told Fault)
-      → IsInLine last
-      → ((line : List ℕ) → Holds r.line.items r.over line → (start : Told Fault) (ls : List (List ℕ))
+  pub standing_line : (start : Told TableFault) (input last : List ℕ) (r r' : reading.Reading K X)
+      (told told' : Told TableFault) → IsInLine last
+      → ((line : List ℕ) → Holds r.line.items r.over line → (start : Told TableFault) (ls : List (List ℕ))
       → Stands format spells table start ls r.lot.is_counted r.lot.is_headed r.lot.count r.lot.rows told
       → Stands format spells table start (ls ++ (line ++ last) ∷ []) r'.lot.is_counted r'.lot.is_headed r'.lot.count
       r'.lot.rows told')
@@ -238,7 +238,7 @@ module _ {K X : Type 0} (format : Format) (spells : ℕ → List ℕ → K × X 
 
   -- the end of the input
 
-  pub finished_none : (start : Told Fault) (input : List ℕ) (r : reading.Reading K X) (told : Told Fault)
+  pub finished_none : (start : Told TableFault) (input : List ℕ) (r : reading.Reading K X) (told : Told TableFault)
       → r.line.items ≡ [] → r.over ≡ false
       → Standing format spells table start input r told → Finished format spells table start input r told
   finished_none start input r told e o s =
@@ -263,9 +263,9 @@ module _ {K X : Type 0} (format : Format) (spells : ℕ → List ℕ → K × X 
   not_begun held true h begun = omega (arith, h)
   not_begun held false h begun = omega (arith, begun refl, ap length h.0)
 
-  pub finished_line : (start : Told Fault) (input : List ℕ) (r r' : reading.Reading K X) (told told' : Told Fault)
-      → (r.over ≡ false → 0 < length r.line.items)
-      → ((line : List ℕ) → Holds r.line.items r.over line → (start : Told Fault) (ls : List (List ℕ))
+  pub finished_line : (start : Told TableFault) (input : List ℕ) (r r' : reading.Reading K X)
+      (told told' : Told TableFault) → (r.over ≡ false → 0 < length r.line.items)
+      → ((line : List ℕ) → Holds r.line.items r.over line → (start : Told TableFault) (ls : List (List ℕ))
       → Stands format spells table start ls r.lot.is_counted r.lot.is_headed r.lot.count r.lot.rows told
       → Stands format spells table start (ls ++ line ∷ []) r'.lot.is_counted r'.lot.is_headed r'.lot.count
       r'.lot.rows told')
@@ -327,21 +327,21 @@ read_all E (Some a) (Some b) (Some d) read buf h g room =
 pushed_some : (n : ℕ) → shown (n + 1) ≡ 0 → ⊥
 pushed_some n e = omega (arith, e)
 
-pub none_pushed : (fs : List Fault) (t : Told Fault) → (all_pushed fs t).count ≡ 0 → (fs ≡ []) × (t.count ≡ 0)
+pub none_pushed : (fs : List TableFault) (t : Told TableFault) → (all_pushed fs t).count ≡ 0 → (fs ≡ []) × (t.count ≡ 0)
 none_pushed [] t e = (refl, e)
 none_pushed (f ∷ fs) t e = absurd (pushed_some (all_pushed fs t).count e)
 
 -- a file in which nothing was told
 pub table_read_as : {K X : Type 0} (format : Format) (cmp : K → K → Ordering) (total : IsTotalOrder cmp)
     (key_of : K → Key) (spells : ℕ → List ℕ → K × X → Type 0) (table : Table) (old new : Option Source)
-    (start told : Told Fault) (rows : List (Numbered K X))
+    (start told : Told TableFault) (rows : List (Numbered K X))
     → TableReadAs format cmp key_of spells table old new start told rows → told.count ≡ 0
     → ReadWellAs format cmp spells table old new rows × (start.count ≡ 0)
 table_read_as format cmp total key_of spells table old new start told rows l e =
     let read = l.read in
-    let twice = none_each (twice_in cmp table key_of rows) l.middle (sym (ap (λ (t : Told Fault). t.count) l.twice) ∙ e)
-    in
-    let none = none_pushed read.2.3 start (sym (ap (λ (t : Told Fault). t.count) read.2.6) ∙ twice.1) in (
+    let twice = none_each (twice_in cmp table key_of rows) l.middle
+    (sym (ap (λ (t : Told TableFault). t.count) l.twice) ∙ e) in
+    let none = none_pushed read.2.3 start (sym (ap (λ (t : Told TableFault). t.count) read.2.6) ∙ twice.1) in (
       (
         (
           read.0,
@@ -362,7 +362,7 @@ table_read_as format cmp total key_of spells table old new start told rows l e =
     )
 
 pub table_read : {K X : Type 0} (cmp : K → K → Ordering) (total : IsTotalOrder cmp) (key_of : K → Key)
-    (spells : ℕ → List ℕ → K × X → Type 0) (table : Table) (old new : Option Source) (start told : Told Fault)
+    (spells : ℕ → List ℕ → K × X → Type 0) (table : Table) (old new : Option Source) (start told : Told TableFault)
     (rows : List (Numbered K X)) → TableRead cmp key_of spells table old new start told rows → told.count ≡ 0
     → ReadWell cmp spells table old new rows × (start.count ≡ 0)
 table_read cmp total key_of spells table old new start told rows =

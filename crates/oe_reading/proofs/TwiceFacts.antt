@@ -15,7 +15,7 @@ use Rattle.std.proofs.lemmas.Map.Keys.{sorted_from_all_adjacent}
 use Rattle.std.proofs.lemmas.List.{append-nil, length-map, get_or-map}
 use Rattle.oe_rows.specs.declared.keys.Key.{Key}
 use Rattle.oe_rows.specs.declared.keys.Table.{Table}
-use Rattle.oe_reading.specs.declared.faults.Fault.{Fault}
+use Rattle.oe_reading.specs.declared.faults.TableFault.{TableFault}
 use Rattle.oe_reading.specs.declared.lines.Numbered.{Numbered}
 use Rattle.oe_reading.specs.Fault.{Told, shown, pushed, each_pushed}
 use Rattle.oe_reading.specs.Twice.{twice_at, twice_behind, twice_in}
@@ -63,7 +63,7 @@ module _ {K X : Type 0} (cmp : K → K → Ordering) (table : Table) (key_of : K
   twice_more (n ∷ ns) i d e h = behind_more n ns i d e (omega (arith, h))
 
   -- the faults with the row behind the first i ones
-  told_more : (ns : List (Numbered K X)) (i : ℕ) (p n : Numbered K X) (start now : Told Fault) → suc i < length ns
+  told_more : (ns : List (Numbered K X)) (i : ℕ) (p n : Numbered K X) (start now : Told TableFault) → suc i < length ns
       → p ≡ get_or ns i p → n ≡ get_or ns (suc i) n
       → now ≡ each_pushed (twice_in cmp table key_of (take (suc i) ns)) start
       → each_pushed (twice_at cmp table key_of p n) now
@@ -75,7 +75,7 @@ module _ {K X : Type 0} (cmp : K → K → Ordering) (table : Table) (key_of : K
       ∙ ap (λ fs. each_pushed fs start)
       ((λ j. front ++ twice_at cmp table key_of (is-p j) (is-n j)) ∙ sym (twice_more ns i p n h))
 
-  pub told_next : (ns : List (Numbered K X)) (at : ℕ) (p n : Numbered K X) (start now : Told Fault) → 1 ≤ at
+  pub told_next : (ns : List (Numbered K X)) (at : ℕ) (p n : Numbered K X) (start now : Told TableFault) → 1 ≤ at
       → at < length ns → p ≡ get_or ns (at - 1) p → n ≡ get_or ns at n
       → now ≡ each_pushed (twice_in cmp table key_of (take at ns)) start
       → each_pushed (twice_at cmp table key_of p n) now

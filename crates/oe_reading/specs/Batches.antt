@@ -5,7 +5,7 @@ use Rattle.std.specs.declared.cmp.Ordering.{Ordering}
 use Rattle.std.specs.declared.cmp.Ordering.TheVariants.{Less}
 use Rattle.oe_rows.specs.declared.keys.Key.{Key}
 use Rattle.oe_rows.specs.declared.keys.Table.{Table}
-use Rattle.oe_reading.specs.declared.faults.Fault.{Fault}
+use Rattle.oe_reading.specs.declared.faults.TableFault.{TableFault}
 use Rattle.oe_reading.specs.declared.lines.Numbered.{Numbered}
 use Rattle.oe_reading.specs.Fault.{Told, each_pushed}
 use Rattle.oe_reading.specs.Twice.{twice_in}
@@ -29,7 +29,7 @@ module _ {K X : Type 0} (cmp : K → K → Ordering) where
 
   -- The rows stand in the order of their keys; each whose key the row before it has makes a fault.
   pub record AreOrdered (table : Table) (key_of : K → Key) (rows ordered : List (Numbered K X))
-      (old new : Told Fault) : Type 0 where
+      (old new : Told TableFault) : Type 0 where
     pub moved : IsPermutation rows ordered
     pub sorted : IsSortedByKey (λ n. n.key) cmp ordered
     pub twice : new ≡ each_pushed (twice_in cmp table key_of ordered) old

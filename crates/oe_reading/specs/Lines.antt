@@ -6,7 +6,7 @@ use Rattle.std.specs.List.{flat_map}
 use Rattle.oe_rows.specs.declared.keys.Table.{Table}
 use Rattle.oe_values.specs.Front.{◌>>=◌, after_of, decimal_of, alone}
 use Rattle.oe_ports.specs.Ports.{Source}
-use Rattle.oe_reading.specs.declared.faults.Fault.{Fault}
+use Rattle.oe_reading.specs.declared.faults.TableFault.{TableFault}
 use Rattle.oe_reading.specs.declared.faults.Wrong.{Wrong}
 use Rattle.oe_reading.specs.declared.faults.Wrong.TheVariants as wrong
 use Rattle.oe_reading.specs.declared.formats.Format.{Format}
@@ -81,41 +81,43 @@ module _ {K X : Type 0} (format : Format) (spells : ℕ → List ℕ → K × X 
 
   -- These lines were taken, one after another: they gave these rows, and these faults, the newest first. A count may
   -- have come, and a heading.
-  pub data Taken : List (List ℕ) → (counted headed : Bool) → List (Numbered K X) → List Fault → Type 0 where
+  pub data Taken : List (List ℕ) → (counted headed : Bool) → List (Numbered K X) → List TableFault → Type 0 where
     Begins : Taken [] false false [] []
-    TakesHeading : {ls : List (List ℕ)} {headed : Bool} {rs : List (Numbered K X)} {fs : List Fault} (line : List ℕ)
-        → Taken ls false headed rs fs → heads format (shown (length ls + 1)) (text_in format line) ≡ true
+    TakesHeading : {ls : List (List ℕ)} {headed : Bool} {rs : List (Numbered K X)} {fs : List TableFault}
+        (line : List ℕ) → Taken ls false headed rs fs
+        → heads format (shown (length ls + 1)) (text_in format line) ≡ true
         → Taken (ls ++ line ∷ []) false true rs fs
-    TakesRow : {ls : List (List ℕ)} {headed : Bool} {rs : List (Numbered K X)} {fs : List Fault} (line : List ℕ)
+    TakesRow : {ls : List (List ℕ)} {headed : Bool} {rs : List (Numbered K X)} {fs : List TableFault} (line : List ℕ)
         (r : K × X)
         → Taken ls false headed rs fs → Spelled (shown (length ls + 1)) line r
         → Taken (ls ++ line ∷ []) false headed
         (rs ++ record { line = shown (length ls + 1); key = r.0; row = r.1 } ∷ []) fs
-    TakesCount : {ls : List (List ℕ)} {headed : Bool} {rs : List (Numbered K X)} {fs : List Fault} (line : List ℕ)
+    TakesCount : {ls : List (List ℕ)} {headed : Bool} {rs : List (Numbered K X)} {fs : List TableFault} (line : List ℕ)
         (said : ℕ)
         → Taken ls false headed rs fs → said_of (text_in format line) ≡ Some said
         → said + beside_rows headed ≡ shown (length ls + 1)
         → Taken (ls ++ line ∷ []) true headed rs fs
-    TakesFault : {ls : List (List ℕ)} {rs : List (Numbered K X)} {fs : List Fault} {counted headed : Bool}
+    TakesFault : {ls : List (List ℕ)} {rs : List (Numbered K X)} {fs : List TableFault} {counted headed : Bool}
         (line : List ℕ) (w : Wrong)
         → Taken ls counted headed rs fs → IsWrong counted headed (shown (length ls + 1)) line w
         → Taken (ls ++ line ∷ []) (counts counted w) headed rs
         (record { table = table; line = shown (length ls + 1); wrong = w } ∷ fs)
 
   -- lines were taken, and their faults told
-  abbrev pub Stands : Told Fault → List (List ℕ) → (counted headed : Bool) → ℕ → List (Numbered K X) → Told Fault
-      → Type 0
+  abbrev pub Stands : Told TableFault → List (List ℕ) → (counted headed : Bool) → ℕ → List (Numbered K X)
+      → Told TableFault → Type 0
   Stands start ls counted headed count rows told =
-      (fs : List Fault) × Taken ls counted headed rows fs × (told ≡ all_pushed fs start) × (count ≡ shown (length ls))
+      (fs : List TableFault) × Taken ls counted headed rows fs × (told ≡ all_pushed fs start)
+      × (count ≡ shown (length ls))
 
   -- the file's lines were taken, and their faults told
-  abbrev pub IsRead : List ℕ → Told Fault → List (Numbered K X) → Told Fault → Type 0
+  abbrev pub IsRead : List ℕ → Told TableFault → List (Numbered K X) → Told TableFault → Type 0
   IsRead bytes start rows told =
-      (lines : List (List ℕ)) × (counted : Bool) × (headed : Bool) × (fs : List Fault) × AreLines bytes lines
+      (lines : List (List ℕ)) × (counted : Bool) × (headed : Bool) × (fs : List TableFault) × AreLines bytes lines
       × Taken lines counted headed rows fs × (told ≡ all_pushed fs start)
 
   -- A file was read to its end: the lines of all its bytes were taken.
-  abbrev pub FileRead : Option Source → Option Source → Told Fault → List (Numbered K X) → Told Fault → Type 0
+  abbrev pub FileRead : Option Source → Option Source → Told TableFault → List (Numbered K X) → Told TableFault → Type 0
   FileRead old new start rows told =
       (bytes : List ℕ) × AreAll old new bytes × IsRead bytes start rows told
 

@@ -3,7 +3,7 @@ use Rattle.std.specs.Prelude.{◌≡◌, ◌≢◌, ℕ, ◌+◌, ◌⊎◌, Boo
 use Rattle.std.specs.List.{flat_map}
 use Rattle.oe_rows.specs.declared.keys.Table.{Table}
 use Rattle.oe_rowlines.specs.declared.forms.LineFault.{LineFault}
-use Rattle.oe_reading.specs.declared.faults.Fault.{Fault}
+use Rattle.oe_reading.specs.declared.faults.TableFault.{TableFault}
 use Rattle.oe_reading.specs.declared.faults.Wrong.TheVariants as wrong
 use Rattle.oe_reading.specs.declared.lines.Numbered.{Numbered}
 use Rattle.oe_reading.specs.declared.lines.Reading as reading
@@ -15,15 +15,15 @@ use Rattle.oe_reading.specs.Record.{line_of}
 use Rattle.oe_reading.specs.Lines.{IsInLine, ended, beside_rows, Stands, Holds, IsRead}
 
 -- a count came that is right, or another
-abbrev pub CountsOne : Table → (headed : Bool) → ℕ → ℕ → Told Fault → Told Fault → Type 0
+abbrev pub CountsOne : Table → (headed : Bool) → ℕ → ℕ → Told TableFault → Told TableFault → Type 0
 CountsOne table headed said n old new =
     ((said + beside_rows headed ≡ n) × (new ≡ old))
     ⊎ ((said + beside_rows headed ≢ n)
     × (new ≡ pushed (record { table = table; line = n; wrong = wrong.Miscount said }) old))
 
 -- what was read of the n-th line is a row, or a fault
-abbrev pub TakesRead : {K X : Type 0} → Table → ℕ → Result (K × X) LineFault → List (Numbered K X) → Told Fault
-    → List (Numbered K X) → Told Fault → Type 0
+abbrev pub TakesRead : {K X : Type 0} → Table → ℕ → Result (K × X) LineFault → List (Numbered K X) → Told TableFault
+    → List (Numbered K X) → Told TableFault → Type 0
 TakesRead table n (Ok r) rows told rows' told' =
     (rows' ≡ rows ++ record { line = n; key = r.0; row = r.1 } ∷ []) × (told' ≡ told)
 TakesRead table n (Err f) rows told rows' told' =
@@ -31,8 +31,8 @@ TakesRead table n (Err f) rows told rows' told' =
 
 module _ {K X : Type 0} (format : Format) (spells : ℕ → List ℕ → K × X → Type 0) (table : Table) where
   -- the n-th line, of this text, gave a row, or is none
-  abbrev pub TakesOne : ℕ → (text : List ℕ) → List (Numbered K X) → Told Fault → List (Numbered K X) → Told Fault
-      → Type 0
+  abbrev pub TakesOne : ℕ → (text : List ℕ) → List (Numbered K X) → Told TableFault → List (Numbered K X)
+      → Told TableFault → Type 0
   TakesOne n text rows told rows' told' =
       ((r : K × X) × spelled_as format table spells n text r
       × (rows' ≡ rows ++ record { line = n; key = r.0; row = r.1 } ∷ []) × (told' ≡ told))
@@ -42,7 +42,8 @@ module _ {K X : Type 0} (format : Format) (spells : ℕ → List ℕ → K × X 
       × (told' ≡ pushed (record { table = table; line = n; wrong = wrong.NoRecord }) told)))
 
   -- the lines of this input were taken, and the beginning of the next is held
-  pub record Standing (start : Told Fault) (input : List ℕ) (r : reading.Reading K X) (told : Told Fault) : Type 0 where
+  pub record Standing (start : Told TableFault) (input : List ℕ) (r : reading.Reading K X) (told : Told TableFault)
+      : Type 0 where
     pub lines : List (List ℕ)
     pub line : List ℕ
     pub whole : input ≡ flat_map ended lines ++ line
@@ -53,5 +54,5 @@ module _ {K X : Type 0} (format : Format) (spells : ℕ → List ℕ → K × X 
     pub holds : Holds r.line.items r.over line
 
   -- all lines of this input were taken
-  abbrev pub Finished : Told Fault → List ℕ → reading.Reading K X → Told Fault → Type 0
+  abbrev pub Finished : Told TableFault → List ℕ → reading.Reading K X → Told TableFault → Type 0
   Finished start input r told = IsRead format spells table input start r.lot.rows told

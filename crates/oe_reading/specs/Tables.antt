@@ -5,7 +5,7 @@ use Rattle.std.specs.declared.cmp.Ordering.{Ordering}
 use Rattle.oe_rows.specs.declared.keys.Key.{Key}
 use Rattle.oe_rows.specs.declared.keys.Table.{Table}
 use Rattle.oe_ports.specs.Ports.{Source}
-use Rattle.oe_reading.specs.declared.faults.Fault.{Fault}
+use Rattle.oe_reading.specs.declared.faults.TableFault.{TableFault}
 use Rattle.oe_reading.specs.declared.formats.Format.{Format}
 use Rattle.oe_reading.specs.declared.formats.Format.TheVariants as written
 use Rattle.oe_reading.specs.declared.lines.Numbered.{Numbered}
@@ -16,10 +16,10 @@ use Rattle.oe_reading.specs.Twice.{twice_in}
 -- A file of this format was read to its end. Its rows stand in the order of their keys; its faults are those of its
 -- lines, in their order, and then one for each key that stands twice.
 pub record TableReadAs (format : Format) {K X : Type 0} (cmp : K → K → Ordering) (key_of : K → Key)
-    (spells : ℕ → List ℕ → K × X → Type 0) (table : Table) (old new : Option Source) (start told : Told Fault)
+    (spells : ℕ → List ℕ → K × X → Type 0) (table : Table) (old new : Option Source) (start told : Told TableFault)
     (rows : List (Numbered K X)) : Type 0 where
   pub taken : List (Numbered K X)
-  pub middle : Told Fault
+  pub middle : Told TableFault
   pub read : FileRead format spells table old new start taken middle
   pub moved : IsPermutation taken rows
   pub sorted : IsSortedByKey (λ n. n.key) cmp rows
@@ -27,7 +27,7 @@ pub record TableReadAs (format : Format) {K X : Type 0} (cmp : K → K → Order
 
 -- the same of a file that a dump prints
 abbrev pub TableRead : {K X : Type 0} → (K → K → Ordering) → (K → Key) → (ℕ → List ℕ → K × X → Type 0) → Table
-    → Option Source → Option Source → Told Fault → Told Fault → List (Numbered K X) → Type 0
+    → Option Source → Option Source → Told TableFault → Told TableFault → List (Numbered K X) → Type 0
 TableRead = TableReadAs written.Dump
 
 -- Each line of the file spells one of the rows, or is the last and says how many there are, or is the first and names

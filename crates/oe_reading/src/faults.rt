@@ -33,7 +33,7 @@ pub enum Wrong {
 
 /// A line that can't be read. Lines are counted from 1.
 #[derive(Clone, Copy)]
-pub struct Fault {
+pub struct TableFault {
     pub table: Table,
     pub line: u64,
     pub wrong: Wrong,
@@ -47,7 +47,7 @@ pub struct Firsts<T> {
 }
 
 /// The faults so far.
-pub type Faults = Firsts<Fault>;
+pub type Faults = Firsts<TableFault>;
 
 impl<T> Model for Firsts<T> {
     ghost use Rattle.oe_reading.specs.Fault.{Told};

@@ -12,7 +12,7 @@ pub mod rows;
 pub mod tables;
 
 pub use batches::{Batches, Walk};
-pub use faults::{Fault, Faults, Wrong};
+pub use faults::{Faults, TableFault, Wrong};
 pub use formats::Format;
 pub use lines::{LINE, Numbered, PIECE, Stop};
 pub use rows::RowLine;

@@ -5,7 +5,7 @@
 ghost use Rattle.std.specs.Prelude.{◌≡◌, ◌≢◌, ◌<◌, ◌≤◌, ◌+◌, ◌++◌, ◌∷◌, [], ◌⊎◌, ℕ, List, length, true, false, OnOk, IfOk, IfSome, ◌^◌};
 ghost use Rattle.oe_ports.specs.Ports.{Source};
 ghost use Rattle.oe_reading.specs.declared.faults.Wrong.TheVariants as wrong;
-ghost use Rattle.oe_reading.specs.declared.faults.Fault.{Fault};
+ghost use Rattle.oe_reading.specs.declared.faults.TableFault.{TableFault};
 ghost use Rattle.oe_reading.specs.Fault.{Told, shown, pushed};
 ghost use Rattle.oe_reading.specs.Lines.{said_of, beside_rows, Stands, Holds, FileRead};
 ghost use Rattle.oe_reading.specs.Reading.{TakesOne, TakesRead, CountsOne, Standing, Finished};
@@ -13,7 +13,7 @@ ghost use Rattle.oe_reading.specs.declared.formats.Format.{Format};
 ghost use Rattle.oe_reading.specs.declared.formats.Format.TheVariants as written;
 
 use crate::batches::Gathered;
-use crate::faults::{Fault, Faults, Wrong};
+use crate::faults::{Faults, TableFault, Wrong};
 use crate::formats::{Format, ends_in_return, heads, null_place, text_in};
 use crate::records::{Record, Unread};
 use crate::rows::RowLine;
@@ -25,6 +25,9 @@ use oe_rows::Table;
 use oe_values::TableKey;
 use oe_values::fronts::{after, decimal};
 use std::alloc::Global;
+use std::fmt;
+use std::fmt::{Debug, Display, Formatter, Write};
+use thiserror::Error;
 
 /// A line's bytes before its end are at most as many.
 pub const LINE: usize = 4_096;
@@ -33,12 +36,21 @@ pub const LINE: usize = 4_096;
 pub const PIECE: usize = 65_536;
 
 /// Why files were not read to their ends.
-#[derive(Clone, Copy)]
+#[derive(Clone, Copy, Error)]
 pub enum Stop {
     /// A read of the table's file failed.
+    #[error("{}: can't be read", .0.name())]
     Read(Table),
     /// There was no memory.
+    #[error("no memory")]
     NoMemory,
+}
+
+// Its text stands for it, since a table has no `Debug`.
+impl Debug for Stop {
+    fn fmt<W: Write>(&self, f: &mut Formatter<W>) -> fmt::Result {
+        Display::fmt(self, f)
+    }
 }
 
 /// A row with its key, and the number of its line.
@@ -99,7 +111,7 @@ impl<K: TableKey + Drop, R: RowLine<K> + Drop> Lot<K, R> {
             ≡ pushed (record { table = R.own_table; line = self.now.count; wrong = wrong })
             faults.old }
     {
-        faults.push(Fault {
+        faults.push(TableFault {
             table: R::table(),
             line: self.count,
             wrong,
@@ -199,7 +211,7 @@ impl<K: TableKey + Drop, R: RowLine<K> + Drop> Lot<K, R> {
 
     // Takes the next line.
     fn take_line(&mut self, format: Format, line: &[u8], faults: &mut Faults) -> Result<(), Stop>
-        ensures { OnOk result ((start : Told Fault) (ls : List (List ℕ)) →
+        ensures { OnOk result ((start : Told TableFault) (ls : List (List ℕ)) →
             Stands format R.spells R.own_table start ls self.old.is_counted self.old.is_headed
             self.old.count self.old.rows faults.old →
             Stands format R.spells R.own_table start (ls ++ line.now ∷ []) self.new.is_counted
@@ -228,7 +240,7 @@ impl<K: TableKey + Drop, R: RowLine<K> + Drop> Lot<K, R> {
 
     // Takes the next line, which has too many bytes.
     fn take_long(&mut self, faults: &mut Faults)
-        ensures { (format : Format) (start : Told Fault) (ls : List (List ℕ)) (line : List ℕ) →
+        ensures { (format : Format) (start : Told TableFault) (ls : List (List ℕ)) (line : List ℕ) →
             4_096 < length line →
             Stands format R.spells R.own_table start ls self.old.is_counted self.old.is_headed
             self.old.count self.old.rows faults.old →
@@ -243,7 +255,7 @@ impl<K: TableKey + Drop, R: RowLine<K> + Drop> Lot<K, R> {
 impl<K: TableKey + Drop, R: RowLine<K> + Drop> Reading<K, R> {
     // Nothing is read.
     fn new(alloc: Global) -> Self
-        ensures { (format : Format) (start : Told Fault) →
+        ensures { (format : Format) (start : Told TableFault) →
             Standing format R.spells R.own_table start [] result start }
     {
         Reading {
@@ -278,7 +290,7 @@ impl<K: TableKey + Drop, R: RowLine<K> + Drop> Reading<K, R> {
     fn end_kept(&mut self, format: Format, faults: &mut Faults) -> Result<(), Stop>
         ensures taken { OnOk result ((line : List ℕ) →
             Holds self.old.line.items self.old.over line →
-            (start : Told Fault) (ls : List (List ℕ)) →
+            (start : Told TableFault) (ls : List (List ℕ)) →
             Stands format R.spells R.own_table start ls self.old.lot.is_counted
             self.old.lot.is_headed self.old.lot.count self.old.lot.rows faults.old →
             Stands format R.spells R.own_table start (ls ++ line ∷ []) self.new.lot.is_counted
@@ -302,7 +314,7 @@ impl<K: TableKey + Drop, R: RowLine<K> + Drop> Reading<K, R> {
     fn end_line(&mut self, format: Format, last: &[u8], faults: &mut Faults) -> Result<(), Stop>
         ensures taken { OnOk result ((line : List ℕ) →
             Holds self.old.line.items self.old.over line →
-            (start : Told Fault) (ls : List (List ℕ)) →
+            (start : Told TableFault) (ls : List (List ℕ)) →
             Stands format R.spells R.own_table start ls self.old.lot.is_counted
             self.old.lot.is_headed self.old.lot.count self.old.lot.rows faults.old →
             Stands format R.spells R.own_table start (ls ++ (line ++ last.now) ∷ [])
@@ -328,7 +340,7 @@ impl<K: TableKey + Drop, R: RowLine<K> + Drop> Reading<K, R> {
 
     // Takes the next bytes of the file.
     fn feed(&mut self, format: Format, piece: &[u8], faults: &mut Faults) -> Result<(), Stop>
-        ensures { OnOk result ((start : Told Fault) (input : List ℕ) →
+        ensures { OnOk result ((start : Told TableFault) (input : List ℕ) →
             Standing format R.spells R.own_table start input self.old faults.old →
             Standing format R.spells R.own_table start (input ++ piece.now) self.new faults.new) }
     {
@@ -345,7 +357,7 @@ impl<K: TableKey + Drop, R: RowLine<K> + Drop> Reading<K, R> {
 
     // Takes what is left at the end of the file.
     fn finish(&mut self, format: Format, faults: &mut Faults) -> Result<(), Stop>
-        ensures { OnOk result ((start : Told Fault) (input : List ℕ) →
+        ensures { OnOk result ((start : Told TableFault) (input : List ℕ) →
             Standing format R.spells R.own_table start input self.old faults.old →
             Finished format R.spells R.own_table start input self.new faults.new) }
     {
@@ -362,7 +374,7 @@ impl<K: TableKey + Drop, R: RowLine<K> + Drop> Reading<K, R> {
         source: &mut S,
         faults: &mut Faults,
     ) -> Result<(), Stop>
-        requires { (start : Told Fault) →
+        requires { (start : Told TableFault) →
             Standing format R.spells R.own_table start [] self.old start }
         ensures { OnOk result (FileRead format R.spells R.own_table (S.source source.old)
             (S.source source.new) faults.old self.new.lot.rows faults.new) }

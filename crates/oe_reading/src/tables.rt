@@ -7,7 +7,7 @@ ghost use Rattle.oe_reading.specs.Twice.{twice_at, twice_in};
 ghost use Rattle.oe_reading.specs.Tables.{TableReadAs, TableRead};
 
 use crate::batches::{Batches, Gathered};
-use crate::faults::{Fault, Faults, Wrong};
+use crate::faults::{Faults, TableFault, Wrong};
 use crate::formats::Format;
 use crate::lines::{Numbered, Stop, read_file};
 use crate::rows::RowLine;
@@ -36,7 +36,7 @@ fn tell_same<K: TableKey, R: RowLine<K>>(
         ≡ each_pushed (twice_at K.cmp R.own_table R.key_of before.now row.now) faults.old }
 {
     if before.key.cmp(&row.key).is_eq() {
-        faults.push(Fault {
+        faults.push(TableFault {
             table: R::table(),
             line: row.line,
             wrong: Wrong::Twice(R::key(&row.key)),

@@ -3,9 +3,9 @@ use Rattle.std.proofs.Common.{◌≡◌, ℕ, ◌+◌, ◌^◌, ◌<◌, ◌≤�
 use Rattle.std.proofs.Common.{Result, Ok, Err, inl, inr, append_assoc, sym, ap, ◌∙◌, refl, subst, arith}
 use Rattle.std.proofs.lemmas.List.{append-nil, length-append, length-take}
 use Rattle.oe_ports.specs.declared.ports.Failed.{Failed}
-use Rattle.oe_script.specs.declared.session.Fault.TheVariants.{Read, Write}
+use Rattle.oe_script.specs.declared.session.ScriptFault.TheVariants.{Read, Write}
 use Rattle.oe_ports.specs.Ports.{Source, Sink, Reads, Sent, Cut}
-use Rattle.oe_script.specs.declared.session.Fault.{Fault}
+use Rattle.oe_script.specs.declared.session.ScriptFault.{ScriptFault}
 use Rattle.oe_script.specs.Script.{State, Output, Reached}
 use Rattle.oe_script.specs.Hearing.{Heard, HearsAll, HearsEach, HeardFront}
 use Rattle.oe_script.specs.Session.{Standing, Broken, ReadSoFar, Began, Answered, ScriptHeard, ScriptRan}
@@ -162,11 +162,12 @@ ran_whole IsKnown (Some a) (Some b) (Some z) (Some c) (Some d) read buf calls p 
 
 -- a script ends so whoever hears of it
 pub heard_ran : (IsKnown : List Heard → Type 0) (a b : Option Source) (c d : Option Sink)
-    (r : Result (Unit {0}) Fault) → ScriptHeard IsKnown a b c d r → ScriptRan a b c d r
+    (r : Result (Unit {0}) ScriptFault) → ScriptHeard IsKnown a b c d r → ScriptRan a b c d r
 heard_ran IsKnown None b c d r h = tt
 heard_ran IsKnown (Some a) b None d r h = by_source b d r
   where
-    by_source : (b : Option Source) (d : Option Sink) (r : Result (Unit {0}) Fault) → ScriptRan (Some a) b None d r
+    by_source : (b : Option Source) (d : Option Sink) (r : Result (Unit {0}) ScriptFault)
+        → ScriptRan (Some a) b None d r
     by_source None d r = tt
     by_source (Some b) d r = tt
 heard_ran IsKnown (Some a) None (Some c) d r h = absurd h
@@ -177,12 +178,12 @@ heard_ran IsKnown (Some a) (Some b) (Some c) (Some d) (Err Write) h = (h.0, h.1,
 
 -- what is known of what is heard may be said in other words
 pub heard_map : (IsKnown IsSaid : List Heard → Type 0) → ((told : List Heard) → IsKnown told → IsSaid told)
-    → (a b : Option Source) (c d : Option Sink) (r : Result (Unit {0}) Fault) → ScriptHeard IsKnown a b c d r
+    → (a b : Option Source) (c d : Option Sink) (r : Result (Unit {0}) ScriptFault) → ScriptHeard IsKnown a b c d r
     → ScriptHeard IsSaid a b c d r
 heard_map IsKnown IsSaid says None b c d r h = tt
 heard_map IsKnown IsSaid says (Some a) b None d r h = by_source b d r
   where
-    by_source : (b : Option Source) (d : Option Sink) (r : Result (Unit {0}) Fault)
+    by_source : (b : Option Source) (d : Option Sink) (r : Result (Unit {0}) ScriptFault)
         → ScriptHeard IsSaid (Some a) b None d r
     by_source None d r = tt
     by_source (Some b) d r = tt

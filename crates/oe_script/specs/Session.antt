@@ -2,8 +2,8 @@
 use Rattle.std.specs.Prelude.{◌≡◌, ℕ, ◌+◌, ◌^◌, ◌≤◌, ◌⊎◌, Bool, List, [], ◌++◌, length, ⊤, Option, Some, None}
 use Rattle.std.specs.Prelude.{Result, Ok, Err, MatchResult}
 use Rattle.oe_core.specs.Core.{CoreState, world_of}
-use Rattle.oe_script.specs.declared.session.Fault.{Fault}
-use Rattle.oe_script.specs.declared.session.Fault.TheVariants.{Read, Write}
+use Rattle.oe_script.specs.declared.session.ScriptFault.{ScriptFault}
+use Rattle.oe_script.specs.declared.session.ScriptFault.TheVariants.{Read, Write}
 use Rattle.oe_ports.specs.Ports.{Source, Sink, Sent, Cut}
 use Rattle.oe_script.specs.Script.{State, Output, Holds, Reached}
 use Rattle.oe_script.specs.Hearing.{Heard, HearsAll, HearsEach, HearsReached, HeardFront}
@@ -77,7 +77,8 @@ ReadFailed a b = (b.failures ≡ a.failures + 1) ⊎ ((b.failures ≡ a.failures
 -- all of the input is read, and an output of it is written. After a fault one call failed, of the reader or the writer
 -- that it names, and none of the other; but an input of 2^64 - 1 bytes or more may end in a fault of the reader without
 -- one. After a fault of the reader the whole lines are answered.
-abbrev pub ScriptRan : Option Source → Option Source → Option Sink → Option Sink → Result (Unit {0}) Fault → Type 0
+abbrev pub ScriptRan : Option Source → Option Source → Option Sink → Option Sink
+    → Result (Unit {0}) ScriptFault → Type 0
 ScriptRan (Some a) (Some b) (Some c) (Some d) (Ok x) =
     (b.failures ≡ a.failures) × (d.failures ≡ c.failures) × (b.remaining ≡ [])
     × (out : List ℕ) × Output a.remaining out × (d.contents ≡ c.contents ++ out)
@@ -92,7 +93,7 @@ ScriptRan None b c d r = ⊤
 -- So a script ends, and this is known of what is heard of it: of the whole input without a fault, of the whole lines
 -- that were read after a fault of the reader, and of some first lines after one of the writer.
 abbrev pub ScriptHeard : (List Heard → Type 0) → Option Source → Option Source → Option Sink → Option Sink
-    → Result (Unit {0}) Fault → Type 0
+    → Result (Unit {0}) ScriptFault → Type 0
 ScriptHeard IsKnown (Some a) (Some b) (Some c) (Some d) (Ok x) =
     (b.failures ≡ a.failures) × (d.failures ≡ c.failures) × (b.remaining ≡ [])
     × (out : List ℕ) × (o : Output a.remaining out) × (d.contents ≡ c.contents ++ out)

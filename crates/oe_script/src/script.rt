@@ -4,7 +4,7 @@ ghost use Rattle.oe_script.specs.Hearing.{HearsEach};
 ghost use Rattle.oe_script.specs.Session.{ScriptHeard, ScriptRan};
 
 use crate::listeners::{Listener, Quiet};
-use crate::session::{Fault, Session};
+use crate::session::{ScriptFault, Session};
 use oe_ports::ports::{Intake, Outlet};
 use std::alloc::Global;
 
@@ -19,7 +19,7 @@ pub fn run_script<R: Intake, W: Outlet>(
     alloc: Global,
     reader: &mut R,
     writer: &mut W,
-) -> Result<(), Fault>
+) -> Result<(), ScriptFault>
     ensures { ScriptRan (R.source reader.old) (R.source reader.new)
         (W.sink writer.old) (W.sink writer.new) result }
 {
@@ -38,7 +38,7 @@ pub fn hear_script<R: Intake, W: Outlet, H: Listener>(
     reader: &mut R,
     writer: &mut W,
     listener: &mut H,
-) -> Result<(), Fault>
+) -> Result<(), ScriptFault>
     ensures ran { ScriptRan (R.source reader.old) (R.source reader.new)
         (W.sink writer.old) (W.sink writer.new) result }
     ensures heard { ScriptHeard (λ told. HearsEach H.hears listener.old told listener.new)

@@ -16,6 +16,7 @@ use oe_ports::output::{flush, put_bad};
 use oe_ports::ports::{Failed, Intake, Outlet};
 use oe_texts::Pending;
 use std::alloc::Global;
+use thiserror::Error;
 
 /// A line's bytes before its end are at most as many.
 pub const LINE: usize = 1_024;
@@ -36,9 +37,13 @@ pub struct Session {
 }
 
 /// Why a script could not be answered whole.
-#[derive(Clone, Copy)]
-pub enum Fault {
+#[derive(Clone, Copy, Debug, Error)]
+pub enum ScriptFault {
+    /// A read failed, or the input has 2^64 - 1 bytes or more.
+    #[error("read")]
     Read,
+    /// A write failed.
+    #[error("write")]
     Write,
 }
 
@@ -85,7 +90,7 @@ impl Session {
         reader: &mut R,
         writer: &mut W,
         listener: &mut H,
-    ) -> Result<(), Fault>
+    ) -> Result<(), ScriptFault>
         requires core { self.old.core ≡ None }
         requires line { self.old.line.items ≡ [] }
         requires over { self.old.over ≡ false }
@@ -99,21 +104,21 @@ impl Session {
         for _ in 0..u64::MAX {
             prove!(self.out.is_empty());
             match reader.read(&mut buf) {
-                Err(_) => return Err(Fault::Read),
+                Err(_) => return Err(ScriptFault::Read),
                 Ok(0) => {
                     return match self.finish(writer, listener) {
                         Ok(()) => Ok(()),
-                        Err(_) => Err(Fault::Write),
+                        Err(_) => Err(ScriptFault::Write),
                     };
                 }
                 Ok(n) => {
                     if let Err(_) = self.answer(alloc, &buf[..n], writer, listener) {
-                        return Err(Fault::Write);
+                        return Err(ScriptFault::Write);
                     }
                 }
             }
         }
-        Err(Fault::Read)
+        Err(ScriptFault::Read)
     }
 
     /// Takes the next bytes of the input, and writes what waits.

@@ -18,8 +18,8 @@ use Rattle.oe_serial.specs.declared.verdicts.Verdict.{Verdict}
 use Rattle.oe_serial.specs.declared.verdicts.Verdict.TheVariants as verdict
 use Rattle.oe_serial.specs.declared.verdicts.Decision.{Decision}
 use Rattle.oe_serial.specs.declared.verdicts.Decision.TheVariants as decision
-use Rattle.oe_serial.specs.declared.reports.Fault.{Fault}
-use Rattle.oe_serial.specs.declared.reports.Fault.TheVariants as fault
+use Rattle.oe_serial.specs.declared.reports.SerialFault.{SerialFault}
+use Rattle.oe_serial.specs.declared.reports.SerialFault.TheVariants as fault
 
 -- the line's transaction commits, and the text of its reply is the line's
 abbrev pub Agrees : Between system → List ℕ → Between system → Type 0
@@ -122,7 +122,7 @@ IsShort (verdict.Unreadable bad) = Unit {0}
 
 -- The file is decided, and the verdict written; nothing was decided or written, for want of memory or extents; or a
 -- beginning of the verdict was.
-abbrev pub SerialRan : List ℕ → Option Sink → Option Sink → Result Verdict Fault → Type 0
+abbrev pub SerialRan : List ℕ → Option Sink → Option Sink → Result Verdict SerialFault → Type 0
 SerialRan input old new (Ok v) = (ours : List ℕ) × IsDecided input v ours × Sent old [] new [] (verdict_text v ours)
 SerialRan input old new (Err (fault.Short s)) = new ≡ old
 SerialRan input old new (Err fault.Write) =

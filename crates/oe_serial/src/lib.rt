@@ -11,5 +11,5 @@ pub mod verdicts;
 
 pub use answers::AnswerText;
 pub use lines::BadLines;
-pub use reports::{Fault, run_serial, status, write_verdict};
+pub use reports::{SerialFault, run_serial, status, write_verdict};
 pub use verdicts::{Decision, Shortage, Verdict, decide};

@@ -10,13 +10,16 @@ use oe_ports::output::flush;
 use oe_ports::ports::{Failed, Outlet};
 use oe_texts::{LONGEST, Pending};
 use std::alloc::Global;
+use thiserror::Error;
 
 /// Why a file is not told of whole.
-#[derive(Clone, Copy, PartialEq, Eq)]
-pub enum Fault {
+#[derive(Clone, Copy, Debug, Error)]
+pub enum SerialFault {
     /// Nothing was decided, and nothing was written.
+    #[error(transparent)]
     Short(Shortage),
     /// A write failed. A beginning of the line was written.
+    #[error("write")]
     Write,
 }
 
@@ -71,16 +74,16 @@ pub fn run_serial<'a, W: Outlet>(
     alloc: Global,
     input: &'a [u8],
     writer: &mut W,
-) -> Result<Verdict<'a>, Fault>
+) -> Result<Verdict<'a>, SerialFault>
     ensures { SerialRan input.now (W.sink writer.old) (W.sink writer.new) result }
 {
     let mut ours: ArrayVec<u8, LONGEST> = ArrayVec::new();
     let verdict = match decide(alloc, input, &mut ours) {
         Ok(decision) => decision.verdict(),
-        Err(shortage) => return Err(Fault::Short(shortage)),
+        Err(shortage) => return Err(SerialFault::Short(shortage)),
     };
     match write_verdict(&verdict, ours.as_slice(), writer) {
         Ok(()) => Ok(verdict),
-        Err(_) => Err(Fault::Write),
+        Err(_) => Err(SerialFault::Write),
     }
 }

@@ -20,6 +20,7 @@ use oe_rows::{Layout, Scale};
 use oe_store::Tables;
 use oe_values::{NoMemory, Number};
 use std::alloc::Global;
+use thiserror::Error;
 
 /// What a file comes to.
 #[derive(Drop)]
@@ -44,11 +45,13 @@ pub enum Decision<'a> {
 }
 
 /// Why nothing was decided.
-#[derive(Clone, Copy, PartialEq, Eq)]
+#[derive(Clone, Copy, Debug, Error)]
 pub enum Shortage {
     /// Memory was refused.
+    #[error("no memory")]
     NoMemory,
     /// A transaction alone has filled the undo ring.
+    #[error("no undo extents")]
     UndoFull,
 }
 

@@ -12,22 +12,24 @@
 //! says on standard error besides is for a person.
 use clap::Error;
 use clap::error::ErrorKind;
-use oe_comparison::{Fault as ComparisonFault, Verdict as ComparisonVerdict, run_comparison};
+use oe_comparison::{ComparisonFault, Verdict as ComparisonVerdict, run_comparison};
 use oe_drive::{Fault as DriveFault, Gate, Ran, run_drive};
 use oe_explain::{Explainer, explain_script, write_forms};
 use oe_files::{Pace, TableFile, open_tables, tell_closed, tell_unread};
-use oe_inspection::{Fault as AuditFault, Verdict as AuditVerdict, run_audit, write_faults};
-use oe_load::{Fault as LoadFault, Shortage as LoadShortage, run_load};
+use oe_inspection::{AuditFault, Verdict as AuditVerdict, run_audit, write_faults};
+use oe_load::{LoadFault, run_load};
 use oe_loading::Sources;
 use oe_numbers::{DriveNumbers, Kinds};
+use oe_ports::faults::SystemFault;
 use oe_ports::standard::{Printed, Standard};
 use oe_reading::{Format, Stop};
 use oe_script::script::run_script;
-use oe_script::session::Fault;
-use oe_serial::{BadLines, Fault as SerialFault, Shortage, Verdict, run_serial, status};
+use oe_script::session::ScriptFault;
+use oe_serial::{BadLines, SerialFault, Verdict, run_serial, status};
 use oe_tasks::{Task, job};
 use oe_values::Terminal;
 use std::env::Env;
+use std::fmt::Display;
 use std::io::{ErrorKind as IoKind, IsTerminal, Read, Stderr};
 use std::process::ExitCode;
 use std::rt::Files;
@@ -76,7 +78,7 @@ fn words<R: Env + AllocGlobal>(rt: &R) -> io::Result<Vec<String>> {
 }
 
 /// Names a fault.
-fn fail<R: Eprint>(rt: &R, fault: &str) -> io::Result<ExitCode> {
+fn fail<R: Eprint, F: Display + Drop>(rt: &R, fault: F) -> io::Result<ExitCode> {
     eprintln!(rt; "fault: {fault}")?;
     Ok(ExitCode::FAILURE)
 }
@@ -84,7 +86,7 @@ fn fail<R: Eprint>(rt: &R, fault: &str) -> io::Result<ExitCode> {
 /// Says why the words of a command line could not be had.
 fn refuse<R: Eprint>(rt: &R, error: io::Error) -> io::Result<ExitCode> {
     if error.kind() == io::ErrorKind::OutOfMemory {
-        return fail(rt, "no memory");
+        return fail(rt, SystemFault::NoMemory);
     }
     eprintln!(rt; "error: the command line is not UTF-8")?;
     Ok(ExitCode::from(2))
@@ -94,7 +96,7 @@ fn refuse<R: Eprint>(rt: &R, error: io::Error) -> io::Result<ExitCode> {
 /// behind the help the forms of lines.
 fn tell<R: Print + Eprint>(rt: &R, error: Error) -> io::Result<ExitCode> {
     if matches!(error.kind(), ErrorKind::OutOfMemory) {
-        return fail(rt, "no memory");
+        return fail(rt, SystemFault::NoMemory);
     }
     let printed = error.print(rt);
     if error.use_stderr() {
@@ -103,7 +105,7 @@ fn tell<R: Print + Eprint>(rt: &R, error: Error) -> io::Result<ExitCode> {
     match printed {
         Ok(()) if matches!(error.kind(), ErrorKind::DisplayHelp) => tell_forms(rt),
         Ok(()) => Ok(ExitCode::SUCCESS),
-        Err(error) => fail(rt, write_fault(error.kind() == io::ErrorKind::BrokenPipe)),
+        Err(error) => fail(rt, SystemFault::of_write(&error)),
     }
 }
 
@@ -112,13 +114,17 @@ fn tell_forms<R: Print + Eprint>(rt: &R) -> io::Result<ExitCode> {
     let mut writer = Printed::new(rt);
     match write_forms(&mut writer) {
         Ok(()) => Ok(ExitCode::SUCCESS),
-        Err(_) => fail(rt, write_fault(writer.is_closed())),
+        Err(_) => fail(rt, writer.fault()),
     }
 }
 
-/// Gives the name of a fault at a write.
-fn write_fault(closed: bool) -> &'static str {
-    if closed { "output closed" } else { "write" }
+/// Gives the fault of a write.
+fn write_fault(closed: bool) -> SystemFault {
+    if closed {
+        SystemFault::OutputClosed
+    } else {
+        SystemFault::Write
+    }
 }
 
 /// Says why a script's file can't be opened.
@@ -147,8 +153,8 @@ fn answer<R: Print + Eprint + AllocGlobal, T: Read + Drop>(
     let mut writer = Printed::new(rt);
     match run_script(rt.alloc(), &mut reader, &mut writer) {
         Ok(()) => Ok(ExitCode::SUCCESS),
-        Err(Fault::Read) => fail(rt, "read"),
-        Err(Fault::Write) => fail(rt, write_fault(writer.is_closed())),
+        Err(ScriptFault::Write) => fail(rt, writer.fault()),
+        Err(fault) => fail(rt, fault),
     }
 }
 
@@ -175,26 +181,18 @@ fn explain<R: Print + Eprint + AllocGlobal, T: Read + Drop>(
     let mut explainer = Explainer::new(Printed::new(errors));
     match explain_script(rt.alloc(), &mut reader, &mut writer, &mut explainer) {
         Ok(()) => Ok(ExitCode::SUCCESS),
-        Err(Fault::Read) => fail(rt, "read"),
-        Err(Fault::Write) => fail(rt, write_fault(writer.is_closed())),
+        Err(ScriptFault::Write) => fail(rt, writer.fault()),
+        Err(fault) => fail(rt, fault),
     }
 }
 
 /// Says why a file of commits can't be read.
 fn tell_no_commits<R: Eprint>(rt: &R, name: &str, error: &io::Error) -> io::Result<ExitCode> {
     if error.kind() == IoKind::OutOfMemory {
-        return fail(rt, "no memory");
+        return fail(rt, SystemFault::NoMemory);
     }
     eprintln!(rt; "error: {name} can't be read: {error}")?;
     Ok(ExitCode::FAILURE)
-}
-
-/// Names what was wanting for a file of commits.
-fn shortage_name(shortage: Shortage) -> &'static str {
-    match shortage {
-        Shortage::NoMemory => "no memory",
-        Shortage::UndoFull => "no undo extents",
-    }
 }
 
 /// Tells whether commits are serial, on standard output.
@@ -202,8 +200,8 @@ fn decide<R: Print + Eprint + AllocGlobal>(rt: &R, input: &[u8]) -> io::Result<E
     let mut writer = Printed::new(rt);
     match run_serial(rt.alloc(), input, &mut writer) {
         Ok(verdict) => tell_replies(rt, &verdict),
-        Err(SerialFault::Short(shortage)) => fail(rt, shortage_name(shortage)),
-        Err(SerialFault::Write) => fail(rt, write_fault(writer.is_closed())),
+        Err(SerialFault::Write) => fail(rt, writer.fault()),
+        Err(fault) => fail(rt, fault),
     }
 }
 
@@ -236,11 +234,8 @@ fn answer_load<R: Print + Eprint + AllocGlobal>(
     let mut writer = Printed::new(rt);
     match run_load(rt.alloc(), numbers, kinds, is_flat, &mut writer) {
         Ok(()) => Ok(ExitCode::SUCCESS),
-        Err(LoadFault::Short(LoadShortage::NoMemory)) => fail(rt, "no memory"),
-        Err(LoadFault::Short(LoadShortage::UndoFull)) => fail(rt, "no undo extents"),
-        Err(LoadFault::Short(LoadShortage::Refused(_))) => fail(rt, "a request is refused"),
-        Err(LoadFault::Short(LoadShortage::NoEnd)) => fail(rt, "the load has no end"),
-        Err(LoadFault::Write) => fail(rt, write_fault(writer.is_closed())),
+        Err(LoadFault::Write) => fail(rt, writer.fault()),
+        Err(fault) => fail(rt, fault),
     }
 }
 
@@ -272,7 +267,9 @@ fn tell_files<R: Eprint, F>(
     match tell_closed(rt, sources) {
         Ok(true) => Ok(None),
         Ok(false) => Ok(Some(ExitCode::from(2))),
-        Err(error) if error.kind() == IoKind::OutOfMemory => Ok(Some(fail(rt, "no memory")?)),
+        Err(error) if error.kind() == IoKind::OutOfMemory => {
+            fail(rt, SystemFault::NoMemory).map(Some)
+        }
         Err(error) => Err(error),
     }
 }
@@ -284,7 +281,7 @@ fn tell_stop<R: Eprint, F>(
     stop: Stop,
 ) -> io::Result<ExitCode> {
     match stop {
-        Stop::NoMemory => fail(rt, "no memory"),
+        Stop::NoMemory => fail(rt, stop),
         Stop::Read(table) => {
             tell_unread(rt, sources, table)?;
             Ok(ExitCode::from(2))
@@ -317,9 +314,9 @@ fn compare<R: Clock + Print + Eprint + AllocGlobal, F: Read + Drop>(
     let mut writer = Printed::new(rt);
     match run_comparison(rt.alloc(), input, sources, &mut writer) {
         Ok(verdict) => tell_comparison(rt, errors, &verdict),
-        Err(ComparisonFault::Short(shortage)) => fail(rt, shortage_name(shortage)),
         Err(ComparisonFault::Stopped(stop)) => tell_stop(rt, sources, stop),
-        Err(ComparisonFault::Write) => fail(rt, write_fault(writer.is_closed())),
+        Err(ComparisonFault::Write) => fail(rt, writer.fault()),
+        Err(fault) => fail(rt, fault),
     }
 }
 
@@ -375,7 +372,7 @@ fn audit<R: Clock + Print + Eprint + AllocGlobal, F: Read + Drop>(
             Ok(ExitCode::from(oe_inspection::status(&verdict)))
         }
         Err(AuditFault::Stopped(stop)) => tell_stop(rt, sources, stop),
-        Err(AuditFault::Write) => fail(rt, write_fault(writer.is_closed())),
+        Err(AuditFault::Write) => fail(rt, writer.fault()),
     }
 }
 

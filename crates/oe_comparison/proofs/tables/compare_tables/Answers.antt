@@ -1,7 +1,7 @@
 use Rattle.std.proofs.Common.{◌≡◌, refl, sym, subst, ◌∙◌}
 use Rattle.std.proofs.lemmas.Result.{on_ok_weaker}
 use Rattle.oe_reading.specs.Fault as fault
-use Rattle.oe_reading.specs.declared.faults.Fault.{Fault}
+use Rattle.oe_reading.specs.declared.faults.TableFault.{TableFault}
 use Rattle.oe_loading.specs.Loading.{nine_of}
 use Rattle.oe_store.specs.Places.{rows}
 use Rattle.oe_comparison.specs.Texts.{Told}
@@ -21,7 +21,7 @@ returns g c =
     let by_deeds = c.compare_deeds.ensures.others in
     let by_goods = c.compare_goods.ensures.others in
     let homes = subst
-    (λ (f : fault.Told Fault). HomesCompared first second r f c.compare_homes.new.faults c.args.report.now
+    (λ (f : fault.Told TableFault). HomesCompared first second r f c.compare_homes.new.faults c.args.report.now
     c.compare_homes.new.report) c.requires.faults c.in_default.ensures.compared in
     on_ok_weaker c.compare_goods.result
     (λ goods. record {

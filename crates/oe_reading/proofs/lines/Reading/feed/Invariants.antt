@@ -1,5 +1,5 @@
 use Rattle.std.proofs.Common.{◌≡◌, ℕ, ◌≤◌, List, ◌++◌, length}
-use Rattle.oe_reading.specs.declared.faults.Fault.{Fault}
+use Rattle.oe_reading.specs.declared.faults.TableFault.{TableFault}
 use Rattle.oe_reading.specs.Fault.{Told}
 use Rattle.oe_reading.specs.Reading.{Standing}
 use Rattle.oe_reading.proofs.lines.Reading.feed.Given as goal
@@ -9,7 +9,7 @@ abbrev pub invariant-loop-n : goal.invariant-loop-n
 invariant-loop-n g l = record {
   short : length l.rest ≤ length l.piece;
   taken : (front : List ℕ) × (front ++ l.rest ≡ l.piece)
-      × ((start : Told Fault) (input : List ℕ) →
+      × ((start : Told TableFault) (input : List ℕ) →
       Standing l.fn.format g.R.RowLine.spells g.R.RowLine.own_table start input l.initial.self l.initial.faults →
       Standing l.fn.format g.R.RowLine.spells g.R.RowLine.own_table start (input ++ front) l.self l.faults);
 }
