@@ -1,16 +1,32 @@
 //! What terminals did, for a person to read. No contract speaks of it, and no count goes past the
 //! greatest number.
 
-/// How many errands were done, transactions given up (and for want of extents), answers `Busy`,
-/// queries read and deliveries submitted.
+/// Why a terminal lets go of a transaction.
+#[derive(Clone, Copy)]
+pub enum Cause {
+    /// Its begin was refused, so that nothing was begun.
+    Refused,
+    /// It was answered `Busy` as often as a terminal bears.
+    Busy,
+    /// It was answered `UndoFull`: all extents are in use.
+    Full,
+    /// It was answered `NoMemory`.
+    NoMemory,
+}
+
+/// How many errands were done, queries read and deliveries left in the queue; how often a
+/// transaction was answered `Busy`, its last time too; how many begins were refused, and how many
+/// transactions were given up, by cause.
 #[derive(Clone, Copy)]
 pub struct Deeds {
     pub errands: u64,
-    pub given_up: u64,
-    pub full: u64,
-    pub busy: u64,
     pub reads: u64,
     pub deliveries: u64,
+    pub busy: u64,
+    pub refused: u64,
+    pub given_up_busy: u64,
+    pub given_up_full: u64,
+    pub given_up_no_memory: u64,
 }
 
 impl Deeds {
@@ -18,21 +34,46 @@ impl Deeds {
     pub fn none() -> Deeds {
         Deeds {
             errands: 0,
-            given_up: 0,
-            full: 0,
-            busy: 0,
             reads: 0,
             deliveries: 0,
+            busy: 0,
+            refused: 0,
+            given_up_busy: 0,
+            given_up_full: 0,
+            given_up_no_memory: 0,
         }
+    }
+
+    /// Counts a transaction that a terminal lets go.
+    pub fn note(&mut self, cause: Cause) {
+        match cause {
+            Cause::Refused => self.refused = self.refused.saturating_add(1),
+            Cause::Busy => self.given_up_busy = self.given_up_busy.saturating_add(1),
+            Cause::Full => self.given_up_full = self.given_up_full.saturating_add(1),
+            Cause::NoMemory => {
+                self.given_up_no_memory = self.given_up_no_memory.saturating_add(1);
+            }
+        }
+    }
+
+    /// Tells how many transactions were begun and given up, of all causes.
+    pub fn given_up(&self) -> u64 {
+        self.given_up_busy
+            .saturating_add(self.given_up_full)
+            .saturating_add(self.given_up_no_memory)
     }
 
     /// Adds what another did.
     pub fn add(&mut self, other: &Deeds) {
         self.errands = self.errands.saturating_add(other.errands);
-        self.given_up = self.given_up.saturating_add(other.given_up);
-        self.full = self.full.saturating_add(other.full);
-        self.busy = self.busy.saturating_add(other.busy);
         self.reads = self.reads.saturating_add(other.reads);
         self.deliveries = self.deliveries.saturating_add(other.deliveries);
+        self.busy = self.busy.saturating_add(other.busy);
+        self.refused = self.refused.saturating_add(other.refused);
+        self.given_up_busy = self.given_up_busy.saturating_add(other.given_up_busy);
+        self.given_up_full = self.given_up_full.saturating_add(other.given_up_full);
+        self.given_up_no_memory = self
+            .given_up_no_memory
+            .saturating_add(other.given_up_no_memory);
     }
 }

@@ -52,6 +52,7 @@ pub fn drive<J: Naming + Send + Sync, H: Threads + Wait + Sync, G: Gate + Sync>(
         d.counted.begun ≡ d.counted.committed + d.counted.rolled_back) }
     ensures quiet { IfOk result (λ d. open_count (world_of d.core) ≡ 0) }
     ensures newest { IfOk result (λ d. newest system (world_of d.core) ≡ d.counted.committed) }
+    ensures layout { IfOk result (λ d. (world_of d.core).layout ≡ J.names.layout) }
 {
     let count = plans.len();
     let terminals = Number::new(count as u32).unwrap();
@@ -99,6 +100,7 @@ fn drive_all<J: Naming + Send + Sync, H: Threads + Wait + Sync, G: Gate + Sync>(
         d.counted.begun ≡ d.counted.committed + d.counted.rolled_back) }
     ensures quiet { IfOk result (λ d. open_count (world_of d.core) ≡ 0) }
     ensures newest { IfOk result (λ d. newest system (world_of d.core) ≡ d.counted.committed) }
+    ensures layout { IfOk result (λ d. (world_of d.core).layout ≡ J.names.layout) }
 {
     let count = plans.len();
     let (senders, taker) = ends;

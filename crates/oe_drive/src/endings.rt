@@ -1,10 +1,15 @@
 //! What a drive left: its verdict, and whether a rewind to moment 0 gives the population back.
-ghost use Rattle.std.specs.Prelude.{IfOk};
+ghost use Rattle.std.specs.Prelude.{◌≡◌, IfOk, None};
+ghost use Rattle.oe_theory.specs.World.{tables};
+ghost use Rattle.oe_model.specs.System.{system};
+ghost use Rattle.oe_hall.specs.Turns.{open_count};
+ghost use Rattle.oe_report.specs.Verdicts.{first_failing};
 ghost use Rattle.oe_core.specs.Core.{world_of};
 ghost use Rattle.oe_store.specs.Places.{rows};
 ghost use Rattle.oe_drive.specs.Runs.{IsRewound, IsEnding};
 
 use oe_core::Core;
+use oe_model::conditions_hold;
 use oe_population::populate;
 use oe_report::{are_same, first_failing};
 use oe_requests::{Condition, Step};
@@ -30,12 +35,25 @@ fn rewound(core: Core) -> Tables
     core.close()
 }
 
+// Finds the first of conditions 1 to 4 that fails in a core in which nothing is open: none does.
+fn failing_in(core: &Core) -> Option<Condition>
+    requires { open_count (world_of core.now) ≡ 0 }
+    ensures first { result ≡ first_failing (tables system (world_of core.now)) }
+    ensures none { result ≡ None }
+{
+    core.is_reached();
+    let _open = core.open_count();
+    conditions_hold();
+    first_failing(core.tables())
+}
+
 /// Audits the core, rewinds it to moment 0, and compares it with a new population of the scale.
 /// Memory for that is the only refusal.
 pub(crate) fn ended(alloc: Global, scale: Scale, core: Core) -> Result<Ending, NoMemory>
+    requires { open_count (world_of core) ≡ 0 }
     ensures { IfOk result (λ e. IsEnding scale (world_of core) e) }
 {
-    let failing = first_failing(core.tables());
+    let failing = failing_in(&core);
     let Ok(fresh) = populate(alloc, scale) else {
         core.discard();
         return Err(NoMemory);

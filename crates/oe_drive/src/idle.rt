@@ -8,7 +8,7 @@ ghost use Rattle.oe_moments.specs.Pins.{is_pinned};
 ghost use Rattle.oe_hall.specs.Counts.{untold, told_rolled_back};
 ghost use Rattle.oe_hall.specs.Desks.{TheDesk, with_told};
 
-use crate::deeds::Deeds;
+use crate::deeds::{Cause, Deeds};
 use crate::gates::{Calls, Gate};
 use oe_hall::{Desk, Front, Naming, Open, Turn};
 use oe_requests::{Query, Refusal, Request};
@@ -18,7 +18,7 @@ use std::sync::Wait;
 use std::thread;
 
 /// How often a transaction is answered `Busy` before it is given up.
-const MOST_BUSY: u32 = 100;
+pub const MOST_BUSY: u32 = 100;
 
 /// A desk whose transactions have ended, and that has no pin out.
 #[derive(Drop)]
@@ -103,11 +103,12 @@ fn is_busy(refusal: &Refusal) -> bool {
     matches!(refusal, Refusal::Busy(_, _))
 }
 
-// Notes why a transaction is given up.
-fn note(refusal: &Refusal, deeds: &mut Deeds) {
-    deeds.given_up = deeds.given_up.saturating_add(1);
-    if matches!(refusal, Refusal::UndoFull) {
-        deeds.full = deeds.full.saturating_add(1);
+// Tells why a transaction is given up that an advance left open. Memory is the cause that is left.
+fn cause_of(refusal: &Refusal) -> Cause {
+    match refusal {
+        Refusal::Busy(_, _) => Cause::Busy,
+        Refusal::UndoFull => Cause::Full,
+        _ => Cause::NoMemory,
     }
 }
 
@@ -129,8 +130,8 @@ fn carry_one_out<J: Naming, W: Wait, G: Gate>(
     calls.after();
     let work = match begun {
         Ok(work) => work,
-        Err(refusal) => {
-            note(&refusal, deeds);
+        Err(_refusal) => {
+            deeds.note(Cause::Refused);
             return None;
         }
     };
@@ -160,13 +161,14 @@ fn advance_to_end<J: Naming, W: Wait, G: Gate>(
         match turn {
             Turn::More(next) => work = next,
             Turn::Kept(next, refusal) => {
-                if left <= 1 || !is_busy(&refusal) {
-                    note(&refusal, deeds);
+                let busy = is_busy(&refusal);
+                deeds.busy = deeds.busy.saturating_add(u64::from(busy));
+                if left <= 1 || !busy {
+                    deeds.note(cause_of(&refusal));
                     give_up(rt, front, desk, next, calls);
                     return None;
                 }
                 left -= 1;
-                deeds.busy = deeds.busy.saturating_add(1);
                 work = next;
                 thread::yield_now();
             }

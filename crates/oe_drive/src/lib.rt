@@ -13,12 +13,15 @@ pub mod gates;
 pub mod idle;
 pub mod openings;
 pub mod planning;
+pub mod room;
 pub mod runs;
 pub mod stations;
 
-pub use deeds::Deeds;
+pub use deeds::{Cause, Deeds};
 pub use driving::{Driven, drive};
 pub use gates::{Ajar, Gate};
+pub use idle::MOST_BUSY;
 pub use planning::plans;
-pub use runs::{Fault, Ran, run_drive};
+pub use room::{Overfull, may_overfill};
+pub use runs::{DriveFault, Ran, run_drive};
 pub use stations::Plan;

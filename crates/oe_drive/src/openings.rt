@@ -1,8 +1,10 @@
 //! A new shop, and a drive in it.
 ghost use Rattle.std.specs.Prelude.{◌≡◌, ◌≢◌, ◌+◌, ◌≤◌, ℕ, None, Some, IfOk, vec_len};
 ghost use Rattle.oe_core.specs.Core.{world_of};
+ghost use Rattle.oe_theory.specs.World.{newest};
+ghost use Rattle.oe_model.specs.System.{system};
 ghost use Rattle.oe_hall.specs.Desks.{seat_for};
-ghost use Rattle.oe_drive.specs.Runs.{IsLeft};
+ghost use Rattle.oe_hall.specs.Turns.{open_count};
 
 use crate::driving::{Driven, drive};
 use crate::gates::Gate;
@@ -11,7 +13,6 @@ use oe_hall::{Naming, Seats, Shop};
 use oe_model::populations::population_is_one;
 use oe_numbers::DriveNumbers;
 use oe_population::populate;
-use oe_rows::Layout;
 use oe_values::NoMemory;
 use std::alloc::Global;
 use std::sync::Wait;
@@ -34,7 +35,7 @@ fn opened<J: Naming>(
     let Ok(tables) = populate(alloc, numbers.scale) else {
         return Err(NoMemory);
     };
-    Shop::open(alloc, tables, numbers.extents, Layout::WholeRows, seats)
+    Shop::open(alloc, tables, numbers.extents, seats)
 }
 
 /// Runs the plans in a shop on a new population. `NoMemory` where memory or a thread is refused.
@@ -50,7 +51,9 @@ pub(crate) fn driven<J: Naming + Send + Sync, H: Threads + Wait + Sync, G: Gate 
     requires names { seats.names ≡ J.names }
     ensures ended { IfOk result (λ d.
         d.counted.begun ≡ d.counted.committed + d.counted.rolled_back) }
-    ensures left { IfOk result (λ d. IsLeft (world_of d.core) d.counted.committed) }
+    ensures quiet { IfOk result (λ d. open_count (world_of d.core) ≡ 0) }
+    ensures newest { IfOk result (λ d. newest system (world_of d.core) ≡ d.counted.committed) }
+    ensures layout { IfOk result (λ d. (world_of d.core).layout ≡ seats.names.layout) }
 {
     let shop = opened::<J>(alloc, numbers, seats)?;
     drive(rt, alloc, gate, shop, plans)

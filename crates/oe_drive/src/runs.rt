@@ -15,19 +15,23 @@ use oe_numbers::DriveNumbers;
 use oe_ports::output::flush;
 use oe_ports::ports::Outlet;
 use oe_report::{report, status};
+use oe_rows::Layout;
 use oe_texts::Pending;
 use oe_values::NoMemory;
 use std::alloc::Global;
 use std::marker::Brand;
 use std::sync::Wait;
 use std::thread::Threads;
+use thiserror::Error;
 
 /// Why a drive ends without its lines.
-#[derive(Clone, Copy, PartialEq, Eq)]
-pub enum Fault {
+#[derive(Clone, Copy, PartialEq, Eq, Debug, Error)]
+pub enum DriveFault {
     /// Memory or a thread was refused. Nothing was written.
+    #[error("no memory")]
     NoMemory,
     /// A write failed. A beginning of the lines was written.
+    #[error("write")]
     Write,
 }
 
@@ -42,7 +46,8 @@ pub struct Ran {
 /// The name of the one shop of a drive.
 const SHOP: u32 = 0;
 
-// Runs the plans in a shop of its own, which is named here.
+// Runs the plans in a shop of its own, which is named here. Its undo records keep changed columns:
+// so more transactions have room.
 fn driven_here<H: Threads + Wait + Sync, G: Gate + Sync>(
     rt: &H,
     alloc: Global,
@@ -55,7 +60,7 @@ fn driven_here<H: Threads + Wait + Sync, G: Gate + Sync>(
         d.counted.begun ≡ d.counted.committed + d.counted.rolled_back) }
     ensures left { IfOk result (λ d. IsLeft (world_of d.core) d.counted.committed) }
 {
-    let Ok(seats) = Seats::new(alloc, SHOP) else {
+    let Ok(seats) = Seats::new(alloc, SHOP, Layout::ChangedColumns) else {
         return Err(NoMemory);
     };
     driven::<Brand, H, G>(rt, alloc, gate, numbers, plans, seats)
@@ -72,18 +77,18 @@ pub fn run_drive<H: Threads + Wait + Sync, G: Gate + Sync, W: Outlet>(
     gate: &G,
     numbers: &DriveNumbers,
     writer: &mut W,
-) -> Result<Ran, Fault>
+) -> Result<Ran, DriveFault>
     ensures lines { DriveRan numbers.now.scale (W.sink writer.old) (W.sink writer.new) result }
     ensures ended { IfOk result (λ r.
         r.counted.begun ≡ r.counted.committed + r.counted.rolled_back) }
 {
     let _terminals = numbers.terminals.get();
     let Ok(plans) = plans(alloc, numbers) else {
-        return Err(Fault::NoMemory);
+        return Err(DriveFault::NoMemory);
     };
     let driven = match driven_here(rt, alloc, gate, numbers, plans) {
         Ok(driven) => driven,
-        Err(_) => return Err(Fault::NoMemory),
+        Err(_) => return Err(DriveFault::NoMemory),
     };
     let Driven {
         core,
@@ -91,12 +96,12 @@ pub fn run_drive<H: Threads + Wait + Sync, G: Gate + Sync, W: Outlet>(
         deeds,
     } = driven;
     let Ok(ending) = ended(alloc, numbers.scale, core) else {
-        return Err(Fault::NoMemory);
+        return Err(DriveFault::NoMemory);
     };
     let mut out = Pending::new();
     report(&mut out, ending.failing, ending.is_restored);
     match flush(&mut out, writer) {
-        Err(_) => Err(Fault::Write),
+        Err(_) => Err(DriveFault::Write),
         Ok(()) => Ok(Ran {
             status: status(ending.failing, ending.is_restored),
             counted,

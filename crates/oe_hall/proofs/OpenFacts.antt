@@ -26,3 +26,6 @@ newest_opened w r e l is =
 
 pub open_count_opened : (w : World system) (r : Rows) (e : ℕ) (l : Layout) → w ≡ opened system r e l → open_count w ≡ 0
 open_count_opened w r e l is = ap open_count is ∙ none_open terminal_limit
+
+pub layout_opened : (w : World system) (r : Rows) (e : ℕ) (l : Layout) → w ≡ opened system r e l → w.layout ≡ l
+layout_opened w r e l is = ap (λ (v : World system). v.layout) is

@@ -18,7 +18,7 @@ use Rattle.oe_requests.specs.declared.refusals.Refusal.TheVariants as refusal
 use Rattle.oe_requests.specs.declared.steps.Step.TheVariants as step
 use Rattle.oe_requests.specs.declared.requests.Request.{Request}
 use Rattle.oe_requests.specs.declared.requests.Query.{Query}
-use Rattle.oe_hall.specs.Turns.{keeps, HasSame, HasBegun, HasCommitted, HasEnded, HasPurged}
+use Rattle.oe_hall.specs.Turns.{keeps, open_count, HasSame, HasBegun, HasCommitted, HasEnded, HasPurged}
 
 -- what a step may be answered
 abbrev OfAdvance : Answer system → Type 0
@@ -108,38 +108,70 @@ fits w _ _ _ (not_quiet m n e) = tt
 fits w _ _ _ (lacks_memory_at_begin t q b) = tt
 fits w _ _ _ (lacks_memory t o e h) = tt
 
+-- a step keeps the layout of undo records
+layout_stays : (w v : World system) (i : Step system) (a : Answer system) → Next system w i a v
+    → v.layout ≡ w.layout
+layout_stays w _ _ _ (begins t q b) = refl
+layout_stays w _ _ _ (goes_on t o c p e g r room) = refl
+layout_stays w _ _ _ (commits t o y e g r) = refl
+layout_stays w _ _ _ (saves t o e) = refl
+layout_stays w _ _ _ (goes_back t o e) = refl
+layout_stays w _ _ _ (rolls_back t o e) = refl
+layout_stays w _ _ _ (reads m q f a b c d) = refl
+layout_stays w _ _ _ (audits m c a b) = refl
+layout_stays w _ _ _ (purges m l h) = refl
+layout_stays w _ _ _ (rewinds m q l h) = refl
+layout_stays w _ _ _ (stops t o x e r) = refl
+layout_stays w _ _ _ (fails t o x e g r) = refl
+layout_stays w _ _ _ (is_busy t o n m u a b c) = refl
+layout_stays w _ _ _ (is_full t o c p a b d e) = refl
+layout_stays w _ _ _ (is_rejected t q e h) = refl
+layout_stays w _ _ _ (is_open t q o a b) = refl
+layout_stays w _ _ _ (number_is_rejected t q e a b c) = refl
+layout_stays w _ _ _ (query_is_rejected m q e a) = refl
+layout_stays w _ _ _ (misses m q e a b c d) = refl
+layout_stays w _ _ _ (not_open i t e h) = refl
+layout_stays w _ _ _ (too_old i m e p h) = refl
+layout_stays w _ _ _ (future i m e p h) = refl
+layout_stays w _ _ _ (not_quiet m n e) = refl
+layout_stays w _ _ _ (lacks_memory_at_begin t q b) = refl
+layout_stays w _ _ _ (lacks_memory t o e h) = refl
+
 -- a begin, an advance that goes on, a commit, a rollback, and a refusal that ended its transaction
 pub after_begin : (w v : World system) (t : ℕ) (q : system.Request) → IsReached system w
     → Next system w (Begin t q) Begun v → HasBegun w v
 after_begin w v t q r n = let s = steps_are_counted system laws w v (Begin t q) Begun r n in
-    (s.newest, s.open_count, s.horizon)
+    (s.newest, s.open_count, s.horizon, layout_stays w v _ _ n)
 
 pub after_more : (w v : World system) (t : ℕ) → IsReached system w → Next system w (Advance t) More v → HasSame w v
 after_more w v t r n = let s = steps_are_counted system laws w v (Advance t) More r n in
-    (s.newest, s.open_count, s.horizon)
+    (s.newest, s.open_count, s.horizon, layout_stays w v _ _ n)
 
 pub after_commit : (w v : World system) (t m : ℕ) (y : system.Reply) → IsReached system w
     → Next system w (Advance t) (Committed m y) v → HasCommitted w v
 after_commit w v t m y r n = let s = steps_are_counted system laws w v (Advance t) (Committed m y) r n in
-    (s.newest.0, sym s.open_count, s.horizon)
+    (s.newest.0, sym s.open_count, s.horizon, layout_stays w v _ _ n)
 
 pub after_rollback : (w v : World system) (t : ℕ) → IsReached system w → Next system w (Rollback t) Rolled_back v
     → HasEnded w v
 after_rollback w v t r n = let s = steps_are_counted system laws w v (Rollback t) Rolled_back r n in
-    (s.newest, sym s.open_count, s.horizon)
+    (s.newest, sym s.open_count, s.horizon, layout_stays w v _ _ n)
 
 after_abort : (w v : World system) (t : ℕ) (e : system.Refusal) → IsReached system w
     → Next system w (Advance t) (Aborted e) v → HasEnded w v
 after_abort w v t e r n = let s = steps_are_counted system laws w v (Advance t) (Aborted e) r n in
-    (s.newest, sym s.open_count, s.horizon)
+    (s.newest, sym s.open_count, s.horizon, layout_stays w v _ _ n)
 
 -- an answer that counts nothing
 abbrev IsIdle : Answer system → Type 0
-IsIdle a = (w v : World system) → Is_counted system w a v → HasSame w v
+IsIdle a = (w v : World system) → Is_counted system w a v → (newest system v ≡ newest system w)
+    × (open_count v ≡ open_count w) × (horizon system v ≡ horizon system w)
 
 idle : (a : Answer system) → IsIdle a → (w v : World system) (i : Step system) → IsReached system w
     → Next system w i a v → HasSame w v
-idle a f w v i r n = f w v (steps_are_counted system laws w v i a r n)
+idle a f w v i r n =
+    let s = f w v (steps_are_counted system laws w v i a r n) in
+    (s.0, s.1, s.2, layout_stays w v i a n)
 
 -- a refusal that leaves the transaction open, or found none
 pub after_kept : (w v : World system) (t : ℕ) (e : Refusal) → IsReached system w → keeps e ≡ true
@@ -226,7 +258,7 @@ pub after_purge : (w v : World system) (m k : ℕ) → IsReached system w → Ne
 after_purge w v m k r n =
     let s = steps_are_counted system laws w v (Purge m) (Purged k) r n in
     let same : k ≡ m = fits w _ _ v n in
-    (s.newest, s.open_count, s.horizon.0 ∙ same)
+    (s.newest, s.open_count, s.horizon.0 ∙ same, layout_stays w v _ _ n)
 
 -- of a moment that is kept it is not refused
 pub purge_is_not_refused : (w v : World system) (m : ℕ) (e : Refusal) → horizon system w ≤ m → m ≤ newest system w

@@ -39,26 +39,27 @@ world h = world_of h.core
 abbrev pub open_count : World system → ℕ
 open_count w = count_open system w.active terminal_limit
 
--- WHAT A STEP MOVES: NEWEST MOMENT, OPEN TRANSACTIONS, HORIZON
+-- WHAT A STEP MOVES: NEWEST MOMENT, OPEN TRANSACTIONS, HORIZON; THE LAYOUT OF UNDO RECORDS STAYS
 
 abbrev pub HasSame : World system → World system → Type 0
 HasSame w v = (newest system v ≡ newest system w) × (open_count v ≡ open_count w)
-    × (horizon system v ≡ horizon system w)
+    × (horizon system v ≡ horizon system w) × (v.layout ≡ w.layout)
 
 abbrev pub HasBegun : World system → World system → Type 0
 HasBegun w v = (newest system v ≡ newest system w) × (open_count v ≡ suc (open_count w))
-    × (horizon system v ≡ horizon system w)
+    × (horizon system v ≡ horizon system w) × (v.layout ≡ w.layout)
 
 abbrev pub HasCommitted : World system → World system → Type 0
 HasCommitted w v = (newest system v ≡ suc (newest system w)) × (suc (open_count v) ≡ open_count w)
-    × (horizon system v ≡ horizon system w)
+    × (horizon system v ≡ horizon system w) × (v.layout ≡ w.layout)
 
 abbrev pub HasEnded : World system → World system → Type 0
 HasEnded w v = (newest system v ≡ newest system w) × (suc (open_count v) ≡ open_count w)
-    × (horizon system v ≡ horizon system w)
+    × (horizon system v ≡ horizon system w) × (v.layout ≡ w.layout)
 
 abbrev pub HasPurged : ℕ → World system → World system → Type 0
 HasPurged m w v = (newest system v ≡ newest system w) × (open_count v ≡ open_count w) × (horizon system v ≡ m)
+    × (v.layout ≡ w.layout)
 
 abbrev pub HasMoved : Ended → World system → World system → Type 0
 HasMoved ended.More w v = HasSame w v

@@ -1,5 +1,6 @@
 //! The core's calls, each one step of the machine, with what the step counts: the newest moment,
-//! the open transactions, and the horizon. A refusal is the step's own answer.
+//! the open transactions, and the horizon. Undo records keep their layout. A refusal is the step's
+//! own answer.
 ghost use Rattle.std.specs.Prelude.{◌≡◌, ℕ, ◌≤◌, Option, true, false};
 ghost use Rattle.oe_theory.specs.World.{newest, horizon};
 ghost use Rattle.oe_model.specs.System.{system};

@@ -1,8 +1,9 @@
 //! The locked value: a core, what was told in all, and the keeper of the pins.
 //!
 //! By its invariant the newest moment counts the commits, what was begun is what was committed, was
-//! rolled back and is open, and the keeper's horizon is the world's. Each call is one step of the
-//! machine, or none, as its clause says. Nothing here takes memory of its own.
+//! rolled back and is open, the keeper's horizon is the world's, and undo records have the layout
+//! that the shop's names say. Each call is one step of the machine, or none, as its clause says.
+//! Nothing here takes memory of its own.
 ghost use Rattle.std.specs.Prelude.{◌≡◌, ◌<◌, ◌^◌, min};
 ghost use Rattle.std.specs.Arc.{arc_value};
 ghost use Rattle.oe_theory.specs.World.{newest, horizon};
@@ -59,7 +60,8 @@ impl<J: Naming> Model for Hall<J> {
     ghost invariant = { λ h. (h.begun ≡ h.books.begun) × (h.rolled_back ≡ h.books.rolled_back)
         × AreCounts h.books (world_of h.core) × (h.keeper.words ≡ arc_value h.moments)
         × (h.keeper.notes.horizon ≡ horizon system (world_of h.core))
-        × AreOfDesks (arc_value h.moments) 64 × (arc_value h.moments ≡ J.names.words) };
+        × AreOfDesks (arc_value h.moments) 64 × (arc_value h.moments ≡ J.names.words)
+        × ((world_of h.core).layout ≡ J.names.layout) };
 }
 
 impl<J: Naming> Hall<J> {
@@ -77,6 +79,7 @@ impl<J: Naming> Hall<J> {
         requires keeper { keeper ≡ record { words = arc_value moments; notes = at_start } }
         requires words { AreOfDesks (arc_value moments) 64 }
         requires naming { arc_value moments ≡ J.names.words }
+        requires layout { (world_of core).layout ≡ J.names.layout }
         ensures { result ≡ record {
           core = core;
           counts = none;
@@ -220,6 +223,7 @@ impl<J: Naming> Hall<J> {
     pub(crate) fn into_core(self) -> Core
         ensures hall { IsHall self }
         ensures core { result ≡ self.core }
+        ensures layout { (world_of result).layout ≡ J.names.layout }
     {
         let Hall {
             core,

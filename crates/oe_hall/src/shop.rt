@@ -14,7 +14,7 @@ ghost use Rattle.oe_model.specs.Conditions.{IsPopulation};
 ghost use Rattle.oe_model.specs.System.{system};
 ghost use Rattle.oe_store.specs.Places.{rows};
 ghost use Rattle.oe_core.specs.Core.{world_of};
-ghost use Rattle.oe_moments.specs.Rule.{saw, with_pin, at_start, pin_word};
+ghost use Rattle.oe_moments.specs.Rule.{saw, turn, with_pin, at_start, pin_word};
 ghost use Rattle.oe_moments.specs.Pins.{AreOfDesks, with_notes, is_pinned, Holds};
 ghost use Rattle.oe_moments.specs.declared.notes.PinState.TheVariants.{Free};
 ghost use Rattle.oe_hall.specs.Counts.{untold, tally, with_one_more, AreTotals};
@@ -70,7 +70,8 @@ impl<J: Naming> Model for Front<J> {
         × (arc_value f.moments ≡ J.names.words) };
 }
 
-/// The words of a shop, the keeper's seat, a seat for each terminal, and its blank ledgers.
+/// The words of a shop, the keeper's seat, a seat for each terminal, its blank ledgers, and the
+/// layout of its undo records.
 #[derive(Drop)]
 pub struct Seats {
     moments: Arc<Moments>,
@@ -78,6 +79,7 @@ pub struct Seats {
     keeper: KeeperSeat,
     desks: Vec<Option<DeskSeat>>,
     blanks: Blanks,
+    layout: Layout,
     shop: u32,
 }
 
@@ -90,6 +92,7 @@ impl Model for Seats {
         begun = s.blanks.begun.name;
         committed = s.blanks.committed.name;
         rolled_back = s.blanks.rolled_back.name;
+        layout = s.layout;
       };
       shop = s.shop;
     } };
@@ -220,10 +223,10 @@ fn take_seat(seats: &mut Vec<Option<DeskSeat>>, slot: usize) -> Option<DeskSeat>
 }
 
 impl Seats {
-    /// Makes the words and the ledgers of a shop of that name, and deals all seats. Memory is the
-    /// only refusal.
-    pub fn new(alloc: Global, shop: u32) -> Result<Seats, AllocError>
-        ensures { IfOk result (λ s. s.shop ≡ shop) }
+    /// Makes the words and the ledgers of a shop of that name and layout, and deals all seats.
+    /// Memory is the only refusal.
+    pub fn new(alloc: Global, shop: u32, layout: Layout) -> Result<Seats, AllocError>
+        ensures { IfOk result (λ s. (s.shop ≡ shop) × (s.names.layout ≡ layout)) }
     {
         let desks = Number::new(64).unwrap();
         let (moments, mut dealer) = Moments::open(alloc, shop, desks)?;
@@ -238,18 +241,26 @@ impl Seats {
             keeper,
             desks,
             blanks: Blanks::new(),
+            layout,
             shop,
         })
+    }
+
+    // Gives the layout of the shop's undo records.
+    fn layout(&self) -> Layout
+        ensures { result ≡ self.now.names.layout }
+    {
+        self.layout
     }
 }
 
 impl<J: Naming> Shop<J> {
-    /// Opens a shop on a population. Memory is the only refusal; seats have theirs.
+    /// Opens a shop on a population, with that number of undo extents. Memory is the only refusal;
+    /// seats have theirs.
     pub fn open(
         alloc: Global,
         tables: Tables,
         extents: ExtentCount,
-        layout: Layout,
         seats: Seats,
     ) -> Result<Shop<J>, NoMemory>
         requires population { IsPopulation (rows tables) }
@@ -257,6 +268,7 @@ impl<J: Naming> Shop<J> {
         ensures new { IfOk result (λ s. (s.name ≡ seats.shop) × (s.given ≡ 0)) }
         ensures free { IfOk result (λ s. (t : ℕ) → seat_for s t ≢ Some None) }
     {
+        let layout = seats.layout();
         let core = Core::open(alloc, tables, extents, layout)?;
         Ok(Shop::over(core, seats))
     }
@@ -267,6 +279,7 @@ impl<J: Naming> Shop<J> {
         requires quiet { open_count (world_of core) ≡ 0 }
         requires horizon { horizon system (world_of core) ≡ 0 }
         requires names { seats.names ≡ J.names }
+        requires layout { (world_of core).layout ≡ J.names.layout }
         ensures new { (result.name ≡ seats.shop) × (result.given ≡ 0) }
         ensures free { (t : ℕ) → seat_for result t ≢ Some None }
     {
@@ -276,6 +289,7 @@ impl<J: Naming> Shop<J> {
             keeper,
             desks,
             blanks,
+            layout: _,
             shop,
         } = seats;
         let (books, rest) = open_books::<J>(blanks);
@@ -348,6 +362,7 @@ impl<J: Naming> Shop<J> {
         ensures ended { IfOk result (λ r. r.1.begun ≡ r.1.committed + r.1.rolled_back) }
         ensures quiet { IfOk result (λ r. open_count (world_of r.0) ≡ 0) }
         ensures newest { IfOk result (λ r. newest system (world_of r.0) ≡ r.1.committed) }
+        ensures layout { IfOk result (λ r. (world_of r.0).layout ≡ J.names.layout) }
         ensures back { IfErr result (λ e. (e.shop ≡ self) × (e.desks.items ≡ desks.items)) }
         ensures open { IfErr result (λ e. (1 ≤ e.open) × AreOpen desks.items e.open) }
     {
@@ -592,11 +607,13 @@ impl<J: Naming> Desk<J> {
         self.seat.is_pinned()
     }
 
-    /// Pins the newest moment. `TooOld` with the keeper's claim, where that is above it.
+    /// Pins the newest moment, which it loads. `TooOld` with the keeper's claim, where that is above
+    /// it.
     pub fn pin(&mut self, front: &Front<J>) -> Result<Pin, TooOld>
         requires { is_pinned self.old.seat.notes.pin ≡ false }
         ensures desk { self.new ≡
             with_seat (with_notes self.new.seat.notes self.old.seat) self.old }
+        ensures looked { self.new.seat.notes.turned ≡ turn self.old.seat.notes.turned }
         ensures rises { self.old.seat.notes.seen ≤ self.new.seat.notes.seen }
         ensures ok { IfOk result (λ p. Holds self.new.seat p
             × (p.moment ≡ self.new.seat.notes.seen)) }

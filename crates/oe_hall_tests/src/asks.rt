@@ -4,12 +4,13 @@ use oe_requests::{
     CustomerChoice, DeliveriesRequest, DeliveryRequest, LevelQuery, NewOrderRequest,
     PaymentRequest, Query, Request, RequestLine, RequestLines, StatusQuery,
 };
-use oe_rows::{DistrictKey, WarehouseKey};
+use oe_rows::{DistrictKey, Layout, WarehouseKey};
 use oe_values::{Number, Stamp};
 use std::process::Abort;
 
 /// Where a script takes place, in a population of two warehouses: whose district, whose customer,
-/// from which warehouse an order is supplied, and how many of each item.
+/// from which warehouse an order is supplied, how many of each item, and in which layout undo
+/// records are kept.
 #[derive(Clone, Copy)]
 pub(crate) struct Place {
     pub(crate) warehouse: u32,
@@ -17,6 +18,7 @@ pub(crate) struct Place {
     pub(crate) customer: u32,
     pub(crate) supply: u32,
     pub(crate) quantity: u32,
+    pub(crate) layout: Layout,
 }
 
 /// A request at a place.

@@ -1,15 +1,10 @@
 //! Drives of two terminals: one waits at the gate until the other was answered.
-ghost use Rattle.std.specs.Prelude.{◌≡◌};
 
-use crate::asks::{Ask, request};
-use crate::scripts::PLACES;
-use crate::shows::{opened, seats};
-use oe_drive::{Driven, Gate, Plan, drive};
-use oe_hall::{Naming, Seats};
-use oe_requests::Errand;
+use crate::asks::Ask;
+use crate::drives::driven_at;
+use oe_drive::Gate;
 use oe_values::Terminal;
 use std::alloc::Global;
-use std::marker::Brand;
 use std::process::Abort;
 use std::sync::Wait;
 use std::sync::atomic::{AtomicBool, Ordering};
@@ -46,45 +41,6 @@ impl Gate for HeldGate {
     }
 }
 
-// Makes a plan of one payment.
-fn plan(rt: &impl Abort, alloc: Global, ask: Ask) -> Plan {
-    let mut errands = Vec::new(alloc);
-    let payment = request(rt, &PLACES[0], ask);
-    if errands.push(Errand::Begin(payment)).is_err() {
-        panic!(rt; "no memory");
-    }
-    Plan { errands }
-}
-
-// Drives terminals 1 and 2, and counts the payments that they committed.
-fn driven<J: Naming + Send + Sync, H: Threads + Wait + Abort + Sync>(
-    rt: &H,
-    alloc: Global,
-    gate: &HeldGate,
-    seats: Seats,
-) -> u64
-    requires names { seats.names ≡ J.names }
-{
-    let shop = opened::<J>(rt, alloc, seats, 4_096);
-    let Ok(mut plans) = Vec::with_capacity(alloc, 2) else {
-        panic!(rt; "no memory")
-    };
-    plans.push_reserved(plan(rt, alloc, Ask::Payment(0)));
-    plans.push_reserved(plan(rt, alloc, Ask::PaymentAway));
-    match drive(rt, alloc, gate, shop, plans) {
-        Ok(driven) => {
-            let Driven {
-                core,
-                counted,
-                deeds: _,
-            } = driven;
-            core.discard();
-            counted.committed
-        }
-        Err(_) => panic!(rt; "no memory"),
-    }
-}
-
 // Drives both terminals, and tells whether both committed, the held one behind the other.
 fn is_driven<H: Threads + Wait + Abort + Sync>(
     rt: &H,
@@ -98,9 +54,9 @@ fn is_driven<H: Threads + Wait + Abort + Sync>(
         is_answered: AtomicBool::new(false),
         has_waited: AtomicBool::new(false),
     };
-    let seats = seats(rt, alloc, 7);
-    let made = driven::<Brand, H>(rt, alloc, &gate, seats);
-    made == 2 && gate.has_waited.load(Ordering::SeqCst)
+    let asks = [Ask::Payment(0), Ask::PaymentAway];
+    let (counted, _deeds) = driven_at(rt, alloc, &gate, 4_096, &asks);
+    counted.committed == 2 && gate.has_waited.load(Ordering::SeqCst)
 }
 
 #[test]

@@ -1,6 +1,6 @@
 //! The tests of hall, shop and desks, and of a drive: that their calls come back with the core's
-//! answers, that what is left under the lock is what the call left, and that two desks overlap.
-//! What a clause says is not tested again.
+//! answers, that what is left under the lock is what the call left, that two desks overlap, and
+//! when a terminal gives up. What a clause says is not tested again.
 //!
 //! Most tests are lists of moves (`scripts`), which one player (`plays`) carries out by the desks
 //! of a shop and by a core.
@@ -11,9 +11,11 @@ mod asks;
 #[cfg(test)]
 mod desks;
 #[cfg(test)]
-mod dumps;
+mod drives;
 #[cfg(test)]
 mod gates;
+#[cfg(test)]
+mod give_ups;
 #[cfg(test)]
 mod moves;
 #[cfg(test)]
@@ -26,3 +28,5 @@ mod readers;
 mod scripts;
 #[cfg(test)]
 mod shows;
+#[cfg(test)]
+mod tables;

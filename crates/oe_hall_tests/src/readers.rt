@@ -163,6 +163,6 @@ fn day<J: Naming + Send + Sync, H: Threads + Wait + Abort + Sync>(
 
 #[test]
 fn purger_beside_readers(rt: HostRuntime) {
-    let seats = seats(&rt, rt.alloc(), 7);
+    let seats = seats(&rt, rt.alloc(), 7, PLACES[0].layout);
     assert!(rt; day::<Brand, HostRuntime>(&rt, rt.alloc(), seats) == (200, 11));
 }

@@ -4,8 +4,10 @@
 use crate::asks::{Ask, Look, Place};
 use crate::moves::{Act, Move, Told};
 use crate::shows::Show;
+use oe_rows::Layout;
 
-/// Where the scripts are, and another place, whose orders are supplied from elsewhere.
+/// Where the scripts are, and another place, whose orders are supplied from elsewhere, and whose undo
+/// records have the other layout.
 pub(crate) const PLACES: [Place; 2] = [
     Place {
         warehouse: 1,
@@ -13,6 +15,7 @@ pub(crate) const PLACES: [Place; 2] = [
         customer: 1,
         supply: 1,
         quantity: 1,
+        layout: Layout::WholeRows,
     },
     Place {
         warehouse: 2,
@@ -20,6 +23,7 @@ pub(crate) const PLACES: [Place; 2] = [
         customer: 4,
         supply: 1,
         quantity: 8,
+        layout: Layout::ChangedColumns,
     },
 ];
 
@@ -47,9 +51,9 @@ const TEN_DELIVERIES: [Move; 8] = [
     Move(0, 0, Act::Purge(1), Told::Moment(1)),
 ];
 
-/// An order of an unused item is rolled back. Another commits, a third of its district is open, and
-/// the customer of the second is read before and after it.
-const ORDERS: [Move; 19] = [
+/// An order of an unused item is rolled back. Another commits, a third of its district is open, with
+/// its ORDER row there, and the customer of both is read at the moments before and after the second.
+const ORDERS: [Move; 20] = [
     Move(0, 0, Act::Pin, Told::Moment(0)),
     Move(2, 2, Act::Begin(Ask::Unused), Told::Done),
     Move(2, 2, Act::CarryOut, Told::RolledBack(12)),
@@ -58,6 +62,7 @@ const ORDERS: [Move; 19] = [
     Move(2, 2, Act::Tell(1), Told::Done),
     Move(1, 1, Act::Newest, Told::Moment(1)),
     Move(1, 1, Act::Begin(Ask::Order(0)), Told::Done),
+    Move(1, 1, Act::Advance, Told::More),
     Move(1, 1, Act::Advance, Told::More),
     Move(1, 1, Act::Advance, Told::More),
     Move(1, 1, Act::Advance, Told::More),
@@ -90,8 +95,9 @@ const FULL_RING: [Move; 14] = [
     Move(2, 2, Act::End, Told::Done),
 ];
 
-/// A payment holds up another in its warehouse, and both commit.
-const PAYMENTS: [Move; 9] = [
+/// A payment holds up another in its warehouse, and both commit. A desk that told no moment, and
+/// loaded none before, pins the newest.
+const PAYMENTS: [Move; 12] = [
     Move(2, 2, Act::Begin(Ask::Payment(0)), Told::Done),
     Move(2, 2, Act::Advance, Told::More),
     Move(1, 1, Act::Begin(Ask::Payment(2)), Told::Done),
@@ -100,6 +106,9 @@ const PAYMENTS: [Move; 9] = [
     Move(2, 2, Act::Tell(1), Told::Done),
     Move(1, 1, Act::CarryOut, Told::Moment(2)),
     Move(1, 1, Act::Tell(2), Told::Done),
+    Move(0, 0, Act::Pin, Told::Moment(2)),
+    Move(0, 0, Act::Read(Look::Status), Told::Done),
+    Move(0, 0, Act::Unpin, Told::Done),
     Move(0, 0, Act::Purge(2), Told::Moment(2)),
 ];
 

@@ -5,10 +5,10 @@ ghost use Rattle.oe_model.specs.Conditions.{IsPopulation};
 ghost use Rattle.oe_store.specs.Places.{rows};
 
 use crate::asks::Place;
-use crate::dumps::is_same;
 use crate::moves::{Hands, Move};
 use crate::plays::play;
 use crate::scripts;
+use crate::tables::is_same;
 use oe_core::Core;
 use oe_hall::{Counted, Desk, Naming, NotQuiet, Seats, Shop};
 use oe_model::populations::population_is_one;
@@ -58,9 +58,9 @@ fn populated(rt: &impl Abort, alloc: Global) -> Tables
 }
 
 // Opens a core on that population.
-fn core_on(rt: &impl Abort, alloc: Global, extents: u32) -> Core {
+fn core_on(rt: &impl Abort, alloc: Global, extents: u32, layout: Layout) -> Core {
     let extents = Number::new(extents).expect(rt, "extents");
-    match Core::open(alloc, populated(rt, alloc), extents, Layout::WholeRows) {
+    match Core::open(alloc, populated(rt, alloc), extents, layout) {
         Ok(core) => core,
         Err(_) => panic!(rt; "no memory"),
     }
@@ -78,21 +78,15 @@ pub(crate) fn opened<J: Naming>(
     ensures free { (t : ℕ) → seat_for result t ≢ Some None }
 {
     let extents = Number::new(extents).expect(rt, "extents");
-    match Shop::open(
-        alloc,
-        populated(rt, alloc),
-        extents,
-        Layout::WholeRows,
-        seats,
-    ) {
+    match Shop::open(alloc, populated(rt, alloc), extents, seats) {
         Ok(shop) => shop,
         Err(_) => panic!(rt; "no memory"),
     }
 }
 
-/// Makes the words and seats of a shop of that name.
-pub(crate) fn seats(rt: &impl Abort, alloc: Global, shop: u32) -> Seats {
-    match Seats::new(alloc, shop) {
+/// Makes the words and seats of a shop of that name, whose undo records have that layout.
+pub(crate) fn seats(rt: &impl Abort, alloc: Global, shop: u32, layout: Layout) -> Seats {
+    match Seats::new(alloc, shop, layout) {
         Ok(seats) => seats,
         Err(_) => panic!(rt; "no memory"),
     }
@@ -189,7 +183,7 @@ fn played<J: Naming, H: Wait + Abort>(
     requires names { seats.names ≡ J.names }
 {
     let (shop, mut desks) = seated::<J>(rt, alloc, seats, show.extents, show.terminals);
-    let mut core = core_on(rt, alloc, show.extents);
+    let mut core = core_on(rt, alloc, show.extents, at.layout);
     play(
         rt,
         shop.front(),
@@ -221,7 +215,7 @@ pub(crate) fn shown<H: Wait + Abort>(
     at: &Place,
     hands: &mut Hands,
 ) {
-    let seats = seats(rt, alloc, name);
+    let seats = seats(rt, alloc, name, at.layout);
     played::<Brand, H>(rt, alloc, seats, show, at, hands);
 }
 
@@ -238,7 +232,7 @@ fn two_shops<J: Naming, H: Wait + Abort>(
     requires names { seats.names ≡ J.names }
 {
     let (shop, mut desks) = seated::<J>(rt, alloc, seats, show.extents, show.terminals);
-    let mut core = core_on(rt, alloc, show.extents);
+    let mut core = core_on(rt, alloc, show.extents, at.layout);
     let mut hands = Hands::empty();
     play(
         rt,
@@ -288,8 +282,8 @@ fn what_is_another_desks_comes_back(rt: HostRuntime) {
 
 #[test]
 fn what_is_another_shops_comes_back(rt: HostRuntime) {
-    let seats = seats(&rt, rt.alloc(), 7);
     let at = &scripts::PLACES[0];
+    let seats = seats(&rt, rt.alloc(), 7, at.layout);
     two_shops::<Brand, HostRuntime>(&rt, rt.alloc(), seats, &scripts::HOME, &scripts::AWAY, at);
 }
 

@@ -13,7 +13,7 @@
 use clap::Error;
 use clap::error::ErrorKind;
 use oe_comparison::{ComparisonFault, Verdict as ComparisonVerdict, run_comparison};
-use oe_drive::{Fault as DriveFault, Gate, Ran, run_drive};
+use oe_drive::{Deeds, DriveFault, Gate, MOST_BUSY, Ran, may_overfill, run_drive};
 use oe_explain::{Explainer, explain_script, write_forms};
 use oe_files::{Pace, TableFile, open_tables, tell_closed, tell_unread};
 use oe_inspection::{AuditFault, Verdict as AuditVerdict, run_audit, write_faults};
@@ -115,15 +115,6 @@ fn tell_forms<R: Print + Eprint>(rt: &R) -> io::Result<ExitCode> {
     match write_forms(&mut writer) {
         Ok(()) => Ok(ExitCode::SUCCESS),
         Err(_) => fail(rt, writer.fault()),
-    }
-}
-
-/// Gives the fault of a write.
-fn write_fault(closed: bool) -> SystemFault {
-    if closed {
-        SystemFault::OutputClosed
-    } else {
-        SystemFault::Write
     }
 }
 
@@ -441,15 +432,32 @@ fn answer_drive<R: Threads + Wait + Clock + Print + Eprint + AllocGlobal + Sync>
         done: AtomicU64::new(0),
         second_told: AtomicU64::new(0),
     };
+    let _warned = tell_room(rt, numbers);
     let mut writer = Printed::new(rt);
     match run_drive(rt, rt.alloc(), &progress, numbers, &mut writer) {
         Ok(ran) => {
-            tell_drive(rt, numbers, &ran, begun.elapsed(rt)?)?;
+            if let Ok(took) = begun.elapsed(rt) {
+                let _told = tell_drive(rt, numbers, &ran, took);
+            }
             Ok(ExitCode::from(ran.status))
         }
-        Err(DriveFault::NoMemory) => fail(rt, "no memory"),
-        Err(DriveFault::Write) => fail(rt, write_fault(writer.is_closed())),
+        Err(DriveFault::Write) => fail(rt, writer.fault()),
+        Err(fault) => fail(rt, fault),
     }
+}
+
+/// Says before a drive that its transactions may have no room in its extents.
+fn tell_room<R: Eprint>(rt: &R, numbers: &DriveNumbers) -> io::Result<()> {
+    let Some(found) = may_overfill(numbers) else {
+        return Ok(());
+    };
+    let extents = numbers.extents.get();
+    eprintln!(rt;
+        "{extents} extents keep some {} transaction{}, and {} are asked",
+        found.kept,
+        ending(found.kept),
+        found.asked
+    )
 }
 
 /// Gives the ending of a word that `count` stands before.
@@ -471,19 +479,35 @@ fn tell_drive<R: Eprint>(
     let counted = &ran.counted;
     let deeds = &ran.deeds;
     eprintln!(rt;
-        "{terminals} terminal{}, {requests} request{} in {seconds}.{hundredths:02} s: {} committed, {} rolled back, {} given up; {} times busy, {} reads, {} deliveries",
+        "{terminals} terminal{}, {requests} request{} in {seconds}.{hundredths:02} s: {} committed, {} rolled back, {} of them given up; {} times busy, {} reads, {} deliveries",
         ending(terminals),
         ending(requests),
         counted.committed,
         counted.rolled_back,
-        deeds.given_up,
+        deeds.given_up(),
         deeds.busy,
         deeds.reads,
         deeds.deliveries
     )?;
-    if deeds.full > 0 {
-        let extents = numbers.extents.get();
-        eprintln!(rt; "{} given up: all {extents} extents are in use", deeds.full)?;
+    tell_causes(rt, numbers.extents.get(), deeds)
+}
+
+/// Tells a person why terminals let go of transactions.
+fn tell_causes<R: Eprint>(rt: &R, extents: u32, deeds: &Deeds) -> io::Result<()> {
+    if deeds.given_up_full > 0 {
+        eprintln!(rt;
+            "{} given up: all {extents} extents are in use",
+            deeds.given_up_full
+        )?;
+    }
+    if deeds.given_up_busy > 0 {
+        eprintln!(rt; "{} given up: busy {MOST_BUSY} times", deeds.given_up_busy)?;
+    }
+    if deeds.given_up_no_memory > 0 {
+        eprintln!(rt; "{} given up: no memory", deeds.given_up_no_memory)?;
+    }
+    if deeds.refused > 0 {
+        eprintln!(rt; "{} refused at their begin", deeds.refused)?;
     }
     Ok(())
 }

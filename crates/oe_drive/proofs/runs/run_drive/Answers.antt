@@ -10,6 +10,8 @@ returns-in-Err-flush-clause-lines g c =
     let waited = c.report.ensures ∙ ap (λ (x : List ℕ). x ++ report_of e.failing e.is_restored) c.new-out.ensures in (
       world_of c.in-Ok-driven_here.driven.core,
       e,
+      c.in-Ok-driven_here.driven.counted.committed,
+      c.in-Ok-driven_here.ensures.left,
       c.in-Ok-ended.ensures,
       front_sent _ _ _ _ waited
           c.in-Err-flush.ensures.stream,
