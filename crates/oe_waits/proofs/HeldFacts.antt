@@ -1,7 +1,7 @@
 -- The names that a terminal holds, shown one after another from the least on.
-use Rattle.std.proofs.Common.{◌≡◌, ℕ, suc, ◌+◌, ◌≤◌, Bool, true, false, cond, List, [], ◌∷◌, ◌++◌, length, take}
+use Rattle.std.proofs.Common.{◌≡◌, ℕ, zero, suc, ◌+◌, ◌≤◌, Bool, true, false, cond, List, [], ◌∷◌, ◌++◌, length, take}
 use Rattle.std.proofs.Common.{get_or, Option, None, Some, refl, sym, ap, ◌∙◌, subst, inl, inr, arith}
-use Rattle.std.specs.Prelude.{◌⊎◌, ◌<◌, ◌&&◌, ◌||◌, not, is_some}
+use Rattle.std.specs.Prelude.{◌⊎◌, ◌<◌, ◌&&◌, ◌||◌, not}
 use Rattle.std.specs.Option.{MatchOption}
 use Rattle.std.specs.List.{filter, flat_map}
 use Rattle.std.proofs.lemmas.Bool.{cases_Bool, or_cases, true≢false}
@@ -12,10 +12,9 @@ use Rattle.oe_rows.specs.declared.locks.Name.{Name}
 use Rattle.oe_rows.specs.declared.locks.Name.TheVariants.{Warehouse, District, Customer, Order, Queue, Stock, Names}
 use Rattle.oe_locks.specs.Held.{is_name}
 use Rattle.oe_locks.specs.Listed.{stands}
-use Rattle.oe_locks.proofs.NameFacts.{name_true}
+use Rattle.oe_locks.proofs.NameFacts.{name_true, name_refl}
 use Rattle.oe_theory.specs.World.{World}
 use Rattle.oe_model.specs.System.{system}
-use Rattle.oe_core.specs.Asks.{held_by}
 use Rattle.oe_ports.specs.Ports.{Sink, Sent, Cut}
 use Rattle.oe_ports.proofs.Streaming.{sent_then, sent_as, sent_waits, sent_cut, cut_as, cut_more}
 use Rattle.oe_waits.specs.Waits.{last_terminal}
@@ -34,6 +33,17 @@ IsBest f xs None = (q : Name) → stands xs q ≡ true → f q ≡ false
 IsBest f xs (Some b) =
     (f b ≡ true) × ((q : Name) → stands xs q ≡ true → f q ≡ true → is_before (place q) (place b) ≡ false)
 
+by_rest : (a b : Bool) → b ≡ true → (a || b) ≡ true
+by_rest true b e = refl
+by_rest false b e = e
+
+-- what lies at a place of a list stands on it
+stands_at : (xs : List Name) (i : ℕ) (x : Name) → x ≡ get_or xs i x → i < length xs → stands xs x ≡ true
+stands_at [] i x is within = absurd (omega (arith, within))
+stands_at (y ∷ ys) zero x is within = ap (λ b. b || stands ys x) (ap (is_name x) (sym is) ∙ name_refl x)
+stands_at (y ∷ ys) (suc i) x is within =
+    by_rest (is_name x y) (stands ys x) (stands_at ys i x is (omega (arith, within)))
+
 stands_one_more : (xs : List Name) (x q : Name) → stands (xs ++ x ∷ []) q ≡ true → (stands xs q ≡ true) ⊎ (q ≡ x)
 stands_one_more [] x q e = elim (or_cases (is_name q x) false e) [
   | inl h ↦ inr (name_true q x h)
@@ -49,10 +59,6 @@ stands_one_more (y ∷ ys) x q e = go (or_cases (is_name q y) (stands (ys ++ x �
       | inl l ↦ inl (by_rest (is_name q y) (stands ys q) l)
       | inr r ↦ inr r
     ]
-      where
-        by_rest : (a b : Bool) → b ≡ true → (a || b) ≡ true
-        by_rest true b e = refl
-        by_rest false b e = e
 
 module _ (f : Name → Bool) (xs : List Name) (x : Name) where
   not_here : (q : Name) → f x ≡ false → q ≡ x → f q ≡ false
@@ -118,13 +124,25 @@ best_all f xs n (Some b) long h none = (h.0, λ q t. by_list q t (cases_Bool (st
     by_list q t (inl m) = h.1 q (ap (λ ys. stands ys q) (take_all n xs long) ∙ m) t
     by_list q t (inr m) = absurd (true≢false (sym t ∙ none q m))
 
--- a name that is not held is not left
-pub not_left : (w : World system) (t : ℕ) (p : List ℕ) (q : Name) → held_by w t q ≡ None → is_left w t p q ≡ false
-not_left w t p q e = ap (λ o. is_before p (place q) && is_some o) e ∙ never (is_before p (place q))
-  where
-    never : (a : Bool) → (a && false) ≡ false
-    never true = refl
-    never false = refl
+-- of the names that a terminal holds those behind the place are left
+module _ (w : World system) (t : ℕ) (p : List ℕ) (xs : List Name)
+    (listed : (q : Name) → stands xs q ≡ holds w t q) where
+  pub left_listed : (i : ℕ) (x : Name) → x ≡ get_or xs i x → i < length xs → is_before p (place x) ≡ is_left w t p x
+  left_listed i x is within =
+      sym (ap (λ b. is_before p (place x) && b) (sym (listed x) ∙ stands_at xs i x is within)
+      ∙ and_true (is_before p (place x)))
+    where
+      and_true : (a : Bool) → (a && true) ≡ a
+      and_true true = refl
+      and_true false = refl
+
+  -- and no other name
+  pub not_left : (q : Name) → stands xs q ≡ false → is_left w t p q ≡ false
+  not_left q e = ap (λ b. is_before p (place q) && b) (sym (listed q) ∙ e) ∙ never (is_before p (place q))
+    where
+      never : (a : Bool) → (a && false) ≡ false
+      never true = refl
+      never false = refl
 
 -- the names that are shown so far
 
@@ -265,13 +283,13 @@ stands_on (x ∷ xs) q e = elim (or_cases (is_name q x) (stands xs q) e) [
 ]
 
 pub few_held : (w : World system) (t : ℕ) (xs : List Name)
-    → ((q : Name) → stands xs q ≡ false → held_by w t q ≡ None) → length (held_names w t) ≤ length xs
+    → ((q : Name) → stands xs q ≡ holds w t q) → length (held_names w t) ≤ length xs
 few_held w t xs listed = no_longer (held_names w t) xs (sorted_filter (holds w t) all_names all_sorted)
     (λ q m. by_list q (of_filter (holds w t) all_names q m).1 (cases_Bool (stands xs q)))
   where
     by_list : (q : Name) → holds w t q ≡ true → (stands xs q ≡ true) ⊎ (stands xs q ≡ false) → Stands q xs
     by_list q h (inl m) = stands_on xs q m
-    by_list q h (inr m) = absurd (true≢false (sym h ∙ ap is_some (listed q m)))
+    by_list q h (inr m) = absurd (true≢false (sym h ∙ (sym (listed q) ∙ m)))
 
 pub one_shown : (w : World system) (t : ℕ) (p : List ℕ) (n : Name) → IsInRanges n → IsLeast (is_left w t p) n
     → shown_names w t (place n) ≡ shown_names w t p ++ n ∷ []

@@ -1,8 +1,9 @@
 //! The answer to `locks`, a line at a time: which names the terminals hold, in which modes, and how
 //! many there are.
 //!
-//! The names of a terminal are on a list in no order. Its least name that is not yet shown is found
-//! by a look at the whole list, so that no memory is wanted.
+//! The names of a terminal are on a list in the order in which it took them, which no model knows.
+//! Its least name that is not yet shown is found by a look at the whole list, so that no memory is
+//! wanted.
 ghost use Rattle.std.specs.Prelude.{◌≡◌, ◌≤◌, ◌<◌, ◌+◌, ◌^◌, ◌++◌, ℕ, false, length, option_map, IfOk};
 ghost use Rattle.std.specs.Option.{MatchOption};
 ghost use Rattle.arrayvec.specs.ArrayVec.{array_vec_len};
@@ -87,16 +88,6 @@ fn is_before(one: &Place, other: &Place) -> bool
     one.as_slice().cmp(other.as_slice()).is_lt()
 }
 
-/// Tells whether a terminal holds a name, and the name is behind a place.
-fn is_left(core: &Core, holder: Terminal, behind: &Place, name: &Name) -> bool
-    ensures { result ≡ is_left (world_of core.now) holder behind.now.items name.now }
-{
-    if !is_before(behind, &place(name)) {
-        return false;
-    }
-    core.held(holder, name).is_some()
-}
-
 /// Gives the lesser of the least name so far and of one more, where that one counts.
 fn lesser<'a>(least: Option<&'a Name>, name: &'a Name, is_left: bool) -> Option<&'a Name>
     ensures { option_map (λ n. n.now) result
@@ -126,7 +117,7 @@ fn next_held<'a>(core: &'a Core, holder: Terminal, behind: &Place) -> Option<&'a
     let names = core.names(holder);
     let mut least = None;
     for name in names {
-        least = lesser(least, name, is_left(core, holder, behind, name));
+        least = lesser(least, name, is_before(behind, &place(name)));
     }
     least
 }

@@ -6,5 +6,5 @@ use Rattle.oe_waits.proofs.holdings.names_are_few.Goals as goal
 pub returns : goal.returns
 returns c =
     let few = few_held (world_of c.args.core.now) c.args.holder c.names-count.result.now
-    c.names-count.ensures in
+    c.names-count.ensures.held in
     omega (arith, few)

@@ -7,5 +7,5 @@ use Rattle.oe_waits.proofs.holdings.next_held.Given as goal
 -- the least of the names so far that are left, or none of them is
 abbrev pub invariant-loop-name : goal.invariant-loop-name
 invariant-loop-name l =
-    IsBest (is_left (world_of l.core) l.holder l.behind.items) (take l.name-index l.names)
+    IsBest (is_left (world_of l.core) l.fn.holder l.behind.items) (take l.name-index l.names)
     (option_map (λ n. n.now) l.least)
