@@ -40,11 +40,6 @@ impl<'a, P: Print> Printed<'a, P> {
     pub fn fault(&self) -> SystemFault {
         self.fault
     }
-
-    /// Tells whether a write failed because nobody reads any more.
-    pub fn is_closed(&self) -> bool {
-        matches!(self.fault, SystemFault::OutputClosed)
-    }
 }
 
 impl<'a, P: Print> Outlet for Printed<'a, P> {
