@@ -103,19 +103,17 @@ newest_of (suc k) p a h =
       };
     }
 
--- after one string more, which was written behind the others, where bytes may have been appended
-pub IsPacked-push : (count fill : ℕ) (bytes longer s new : List ℕ) (end : ℕ) → IsPacked count fill bytes
-    → take (length bytes) longer ≡ bytes → length longer ≤ 4096 → IsFramed s → Writes longer fill s new end
+-- after one string more, which was written behind the others
+pub IsPacked-push : (count fill : ℕ) (bytes s new : List ℕ) (end : ℕ) → IsPacked count fill bytes → IsFramed s
+    → Writes bytes fill s new end
     → IsPacked (suc count) end new × (cut (suc count) (take end new) ≡ s ∷ cut count (take fill bytes))
-IsPacked-push count fill bytes longer s new end h kept small framed w =
-    let same : take fill longer ≡ take fill bytes = sym (take-take fill (length bytes) longer h.small)
-    ∙ ap (take fill) kept in
-    let front : take end new ≡ take fill bytes ++ s = w.front ∙ ap (λ (l : List ℕ). l ++ s) same in
+IsPacked-push count fill bytes s new end h framed w =
+    let front : take end new ≡ take fill bytes ++ s = w.front in
     let filled : length (take fill bytes) ≡ fill = omega (arith, length-take fill bytes, h.small) in (
       record {
         small =
             omega (arith, ap length front, length-append (take fill bytes) s, filled, w.end_is, length-take end new);
-        size = omega (arith, w.same_length, small);
+        size = w.same_length ∙ h.size;
         strings = subst (λ (l : List ℕ). AreStrings (suc count) l) (sym front)
             (AreStrings-push count (take fill bytes) s framed h.strings);
       },

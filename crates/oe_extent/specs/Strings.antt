@@ -31,10 +31,10 @@ pub record AreStrings (count : ℕ) (bytes : List ℕ) : Type 0 where
   pub whole : joined (cut count bytes) ≡ bytes
   pub counted : FRAME_BYTES * count ≤ length bytes
 
--- the bytes of an extent that were ever asked for, whose front is full of strings
+-- the bytes of an extent, whose front is full of strings
 pub record IsPacked (count fill : ℕ) (bytes : List ℕ) : Type 0 where
   pub small : fill ≤ length bytes
-  pub size : length bytes ≤ EXTENT_BYTES
+  pub size : length bytes ≡ EXTENT_BYTES
   pub strings : AreStrings count (take fill bytes)
 
 -- s is one of these strings, and the older ones before it have `offset` bytes

@@ -126,16 +126,15 @@ impl ExtentList {
         }
     }
 
-    /// Appends a string of that size to the newest extent.
+    /// Appends a string to the newest extent.
     #[inline(always)]
-    pub(crate) fn push<S: Written>(&mut self, string: &S, size: usize)
+    pub(crate) fn push<S: Written>(&mut self, string: &S)
         requires framed { IsFramed (S.image string.now) }
-        requires size { size ≡ length (S.image string.now) }
         requires rest { length (S.image string.now) ≤ rest_of self.old }
         ensures { self.new ≡ with_string (S.image string.now) self.old }
     {
         match &mut self.newest {
-            Some(extent) => extent.strings.push(string, size),
+            Some(extent) => extent.strings.push(string),
             None => unreachable!(),
         }
     }
@@ -151,24 +150,17 @@ impl ExtentList {
         self.newest = Some(extent);
     }
 
-    /// Appends a string of that size to another extent, which becomes the newest.
+    /// Appends a string to another extent, which becomes the newest.
     #[inline(never)]
     #[tactic(auto, unfolding(crate::specs::Strings::joined))]
-    pub(crate) fn push_new<S: Written>(
-        &mut self,
-        number: usize,
-        extent: Box<Extent>,
-        string: &S,
-        size: usize,
-    )
+    pub(crate) fn push_new<S: Written>(&mut self, number: usize, extent: Box<Extent>, string: &S)
         requires fresh { IsEmptyExtent number extent.value }
         requires framed { IsFramed (S.image string.now) }
-        requires size { size ≡ length (S.image string.now) }
         requires small { length (S.image string.now) ≤ EXTENT_BYTES }
         ensures { self.new ≡ first_string number (S.image string.now) ∷ self.old }
     {
         self.add(number, extent);
-        self.push(string, size);
+        self.push(string);
     }
 
     /// Gives the string at that address, where it stands.

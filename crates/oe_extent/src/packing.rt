@@ -1,7 +1,7 @@
 //! The bytes of one extent, packed with strings from byte 0 on. By its invariant they are exactly
 //! the images of its strings, and no string leaves the extent; a string that does not fit is
 //! refused.
-ghost use Rattle.std.specs.Prelude.{◌≡◌, ◌<◌, ◌≤◌, ◌+◌, [], ◌∷◌, length, drop, take, vec_capacity, IfOk};
+ghost use Rattle.std.specs.Prelude.{◌≡◌, ◌<◌, ◌≤◌, ◌+◌, [], ◌∷◌, length, drop, IfOk};
 ghost use Rattle.oe_extent.specs.declared.sizes.TheConstants.{EXTENT_BYTES, LENGTH_BYTES};
 ghost use Rattle.oe_extent.specs.Images.{Writes};
 ghost use Rattle.oe_extent.specs.Strings.{last_length, joined, IsFramed, HasOffset, IsStringFrom};
@@ -19,16 +19,12 @@ const LINE: usize = 64;
 /// How many lines of an extent are touched: about as many as a payment fills.
 const TOUCHED_LINES: usize = 12;
 
-/// How many bytes an extent is lengthened by, beyond what a string asks for: a few records.
-const PIECE: usize = 1_024;
-
 /// Byte strings packed from byte 0 of an extent on, which clauses see as their list, the newest
 /// first. Each string is framed: its length stands in its first two bytes and in its last two. No
 /// call but `new` takes memory.
 #[derive(Drop)]
 pub(crate) struct PackedStrings {
-    // They have room for an extent from the start, and are as many as strings have asked for since,
-    // so that nothing is written where no string was.
+    // As many as an extent has, from the start.
     bytes: Vec<u8>,
     // How many bytes from the front on the strings fill, and how many strings these are.
     fill: usize,
@@ -36,16 +32,14 @@ pub(crate) struct PackedStrings {
 }
 
 impl Model for PackedStrings {
-    ghost use Rattle.std.specs.Prelude.{ℕ, List, ◌≤◌, take, vec_capacity};
-    ghost use Rattle.oe_extent.specs.declared.sizes.TheConstants.{EXTENT_BYTES};
+    ghost use Rattle.std.specs.Prelude.{ℕ, List, take};
     ghost use Rattle.oe_extent.specs.Strings.{cut, IsPacked};
 
     ghost Value = { List (List ℕ) };
 
     ghost view = { λ p. cut p.count (take p.fill p.bytes.items) };
 
-    ghost invariant = { λ p.
-        IsPacked p.count p.fill p.bytes.items × (EXTENT_BYTES ≤ vec_capacity p.bytes) };
+    ghost invariant = { λ p. IsPacked p.count p.fill p.bytes.items };
 }
 
 /// Gives the number in the last two of some bytes.
@@ -58,49 +52,11 @@ pub(crate) fn last_size(bytes: &[u8]) -> usize
     BigEndian::read_u16(&bytes[bytes.len() - LENGTH_BYTES..]) as usize
 }
 
-/// Lengthens an extent's bytes to `end` at least, by zeros.
-#[inline(never)]
-fn lengthen(bytes: &mut Vec<u8>, end: usize)
-    requires longer { length bytes.old.items ≤ end }
-    requires within { end ≤ EXTENT_BYTES }
-    requires room { EXTENT_BYTES ≤ vec_capacity bytes.old }
-    ensures kept { take (length bytes.old.items) bytes.new.items ≡ bytes.old.items }
-    ensures long { end ≤ length bytes.new.items }
-    ensures small { length bytes.new.items ≤ EXTENT_BYTES }
-    ensures room { EXTENT_BYTES ≤ vec_capacity bytes.new }
-{
-    let size = if end < EXTENT_BYTES - PIECE {
-        end + PIECE
-    } else {
-        EXTENT_BYTES
-    };
-    if bytes.resize(size, 0).is_err() {
-        unreachable!();
-    }
-}
-
-/// Sees to it that an extent's bytes are `end` at least.
-#[inline(always)]
-fn reach(bytes: &mut Vec<u8>, end: usize)
-    requires within { end ≤ EXTENT_BYTES }
-    requires small { length bytes.old.items ≤ EXTENT_BYTES }
-    requires room { EXTENT_BYTES ≤ vec_capacity bytes.old }
-    ensures kept { take (length bytes.old.items) bytes.new.items ≡ bytes.old.items }
-    ensures long { end ≤ length bytes.new.items }
-    ensures small { length bytes.new.items ≤ EXTENT_BYTES }
-    ensures room { EXTENT_BYTES ≤ vec_capacity bytes.new }
-{
-    if bytes.len() < end {
-        lengthen(bytes, end);
-    }
-}
-
 /// Writes a string from offset `start` on, and answers the offset behind it.
 #[inline(always)]
 fn write_at<S: Written>(bytes: &mut Vec<u8>, start: usize, string: &S) -> usize
     requires { start + length (S.image string.now) ≤ length bytes.old.items }
-    ensures written { Writes bytes.old.items start (S.image string.now) bytes.new.items result }
-    ensures room { vec_capacity bytes.new ≡ vec_capacity bytes.old }
+    ensures { Writes bytes.old.items start (S.image string.now) bytes.new.items result }
 {
     string.write(bytes, start)
 }
@@ -110,8 +66,10 @@ impl PackedStrings {
     pub(crate) fn new(alloc: Global) -> Result<Self, AllocError>
         ensures { IfOk result (λ p. p ≡ []) }
     {
+        let mut bytes = Vec::with_capacity(alloc, EXTENT_BYTES)?;
+        bytes.resize(EXTENT_BYTES, 0)?;
         Ok(PackedStrings {
-            bytes: Vec::with_capacity(alloc, EXTENT_BYTES)?,
+            bytes,
             fill: 0,
             count: 0,
         })
@@ -124,12 +82,9 @@ impl PackedStrings {
     /// where the lines were read first, strings are written without waiting.
     #[inline(always)]
     pub(crate) fn touch(&self) -> u8 {
-        let bytes = self.bytes.as_slice();
         let mut joined = 0;
-        if bytes.len() >= LINE * TOUCHED_LINES {
-            for line in 0..TOUCHED_LINES {
-                joined ^= bytes[LINE * line];
-            }
+        for line in 0..TOUCHED_LINES {
+            joined ^= self.bytes[LINE * line];
         }
         joined
     }
@@ -159,15 +114,13 @@ impl PackedStrings {
         self.count
     }
 
-    /// Appends a string of that size, which is written where it is to stand.
+    /// Appends a string, which is written where it is to stand.
     #[inline(always)]
-    pub(crate) fn push<S: Written>(&mut self, string: &S, size: usize)
+    pub(crate) fn push<S: Written>(&mut self, string: &S)
         requires framed { IsFramed (S.image string.now) }
-        requires size { size ≡ length (S.image string.now) }
         requires room { length (joined self.old) + length (S.image string.now) ≤ EXTENT_BYTES }
         ensures { self.new ≡ S.image string.now ∷ self.old }
     {
-        reach(&mut self.bytes, self.fill + size);
         self.fill = write_at(&mut self.bytes, self.fill, string);
         self.count += 1;
     }

@@ -139,13 +139,13 @@ impl Ring {
         let size = string.size();
         if size <= self.active[slot].rest() {
             let address = self.active[slot].end();
-            self.active[slot].push(string, size);
+            self.active[slot].push(string);
             return Ok(address);
         }
         let Some((number, extent)) = self.pool.take() else {
             return Err(Full);
         };
-        self.active[slot].push_new(number, extent, string, size);
+        self.active[slot].push_new(number, extent, string);
         Ok(Address {
             extent: number,
             offset: 0,

@@ -8,27 +8,27 @@ pub slice_bounds-read_u16-count : goal.slice_bounds-read_u16-count
 slice_bounds-read_u16-count c =
     let a = amid c.self.inside.count c.self.inside.fill c.self.inside.bytes.items c.requires.begins.newer
     c.requires.string c.requires.begins.older
-    c.args.offset c.self.invariant.0 (c.self.view_is ∙ c.requires.begins.parts) c.requires.begins.behind in
-    omega (arith, a.within, c.self.invariant.0.size)
+    c.args.offset c.self.invariant (c.self.view_is ∙ c.requires.begins.parts) c.requires.begins.behind in
+    omega (arith, a.within, c.self.invariant.size)
 
 pub slice_bounds-read_u16-start : goal.slice_bounds-read_u16-start
 slice_bounds-read_u16-start c =
     let a = amid c.self.inside.count c.self.inside.fill c.self.inside.bytes.items c.requires.begins.newer
     c.requires.string c.requires.begins.older
-    c.args.offset c.self.invariant.0 (c.self.view_is ∙ c.requires.begins.parts) c.requires.begins.behind in
-    omega (arith, a.within, c.self.invariant.0.size)
+    c.args.offset c.self.invariant (c.self.view_is ∙ c.requires.begins.parts) c.requires.begins.behind in
+    omega (arith, a.within, c.self.invariant.size)
 
 pub read_u16-size-requires : goal.read_u16-size-requires
 read_u16-size-requires c =
     let a = amid c.self.inside.count c.self.inside.fill c.self.inside.bytes.items c.requires.begins.newer
     c.requires.string c.requires.begins.older
-    c.args.offset c.self.invariant.0 (c.self.view_is ∙ c.requires.begins.parts) c.requires.begins.behind in
+    c.args.offset c.self.invariant (c.self.view_is ∙ c.requires.begins.parts) c.requires.begins.behind in
     let rest = drop c.args.offset c.self.inside.bytes.items in
     omega (
       arith,
       a.within,
       a.framed.long,
-      c.self.invariant.0.size,
+      c.self.invariant.size,
       length-take (4096 - c.args.offset) rest,
       length-drop
           c.args.offset c.self.inside.bytes.items,
@@ -38,15 +38,15 @@ pub slice_bounds-result-end : goal.slice_bounds-result-end
 slice_bounds-result-end c =
     let a = amid c.self.inside.count c.self.inside.fill c.self.inside.bytes.items c.requires.begins.newer
     c.requires.string c.requires.begins.older
-    c.args.offset c.self.invariant.0 (c.self.view_is ∙ c.requires.begins.parts) c.requires.begins.behind in
+    c.args.offset c.self.invariant (c.self.view_is ∙ c.requires.begins.parts) c.requires.begins.behind in
     let size = size_amid c.self.inside.bytes.items c.requires.string c.args.offset c.read_u16-size.result a
     (rw (← c.deref.ensures.value) c.read_u16-size.ensures) in
-    omega (arith, a.within, c.self.invariant.0.size, size)
+    omega (arith, a.within, c.self.invariant.size, size)
 
 pub returns : goal.returns
 returns c s b =
     let a = amid c.self.inside.count c.self.inside.fill c.self.inside.bytes.items b.newer s b.older c.args.offset
-    c.self.invariant.0
+    c.self.invariant
     (c.self.view_is ∙ b.parts) b.behind in
     let size = size_amid c.self.inside.bytes.items s c.args.offset c.read_u16-size.result a
     (rw (← c.deref.ensures.value) c.read_u16-size.ensures) in

@@ -5,10 +5,7 @@ use Rattle.oe_extent.specs.Strings.{cut}
 use Rattle.oe_extent.proofs.packing.PackedStrings.clear.Goals as goal
 
 pub invariant_of-self : goal.invariant_of-self
-invariant_of-self c = (
-  record { small = omega arith; size = c.self.invariant.0.size; strings = AreStrings-none },
-  c.self.invariant.1,
-)
+invariant_of-self c = record { small = omega arith; size = c.self.invariant.size; strings = AreStrings-none }
 
 pub returns : goal.returns
 unfolding cut

@@ -6,29 +6,29 @@ use Rattle.oe_extent.proofs.packing.PackedStrings.pop.Goals as goal
 pub last_size-requires : goal.last_size-requires
 last_size-requires c =
     rw c.deref.ensures.value
-    (long_enough c.self.inside.count c.self.inside.fill c.self.inside.bytes.items c.self.invariant.0
+    (long_enough c.self.inside.count c.self.inside.fill c.self.inside.bytes.items c.self.invariant
     (rw c.self.view_is c.requires))
 
 pub overflow_sub-self : goal.overflow_sub-self
 overflow_sub-self c =
     let p = popped c.self.inside.count c.self.inside.fill c.self.inside.bytes.items c.last_size.result
-    c.self.invariant.0 (rw c.self.view_is c.requires) (rw (← c.deref.ensures.value) c.last_size.ensures) in
+    c.self.invariant (rw c.self.view_is c.requires) (rw (← c.deref.ensures.value) c.last_size.ensures) in
     p.fits
 
 pub overflow_sub-self-2 : goal.overflow_sub-self-2
 overflow_sub-self-2 c =
     let p = popped c.self.inside.count c.self.inside.fill c.self.inside.bytes.items c.last_size.result
-    c.self.invariant.0 (rw c.self.view_is c.requires) (rw (← c.deref.ensures.value) c.last_size.ensures) in
+    c.self.invariant (rw c.self.view_is c.requires) (rw (← c.deref.ensures.value) c.last_size.ensures) in
     omega (arith, p.some)
 
 pub invariant_of-self : goal.invariant_of-self
 invariant_of-self c =
     let p = popped c.self.inside.count c.self.inside.fill c.self.inside.bytes.items c.last_size.result
-    c.self.invariant.0 (rw c.self.view_is c.requires) (rw (← c.deref.ensures.value) c.last_size.ensures) in
-    (p.is_packed, c.self.invariant.1)
+    c.self.invariant (rw c.self.view_is c.requires) (rw (← c.deref.ensures.value) c.last_size.ensures) in
+    p.is_packed
 
 pub returns : goal.returns
 returns c =
     let p = popped c.self.inside.count c.self.inside.fill c.self.inside.bytes.items c.last_size.result
-    c.self.invariant.0 (rw c.self.view_is c.requires) (rw (← c.deref.ensures.value) c.last_size.ensures) in
+    c.self.invariant (rw c.self.view_is c.requires) (rw (← c.deref.ensures.value) c.last_size.ensures) in
     rw (← c.self.view_is) (sym (ap (drop 1) p.cuts))
