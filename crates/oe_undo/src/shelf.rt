@@ -2,7 +2,7 @@
 //!
 //! By the invariant there is room in memory for as many as there are. Those behind the last that
 //! was met are empty, and stand in no memory yet. Only `reach` takes memory, and may be refused it.
-ghost use Rattle.std.specs.Prelude.{◌≡◌, ◌<◌, ◌≤◌, ◌+◌, [], length, slice_get, vec_capacity, OnOk, OnErr};
+ghost use Rattle.std.specs.Prelude.{◌≡◌, ◌<◌, ◌≤◌, ◌+◌, ◌++◌, [], ◌∷◌, None, length, slice_get, vec_capacity, OnOk, OnErr};
 ghost use Rattle.std.specs.Borrow.{sem};
 ghost use Rattle.std.specs.Option.{option_copied_mut};
 ghost use Rattle.oe_undo.specs.Shelf.{spread, content_in};
@@ -45,6 +45,18 @@ fn extend<T: Copy>(met: &mut Vec<Option<T>>, number: usize)
     };
 }
 
+// Puts an empty place behind the others, for which there is room.
+#[inline(always)]
+fn append<T: Copy>(met: &mut Vec<Option<T>>)
+    requires room { length met.old.items < vec_capacity met.old }
+    ensures items { met.new.items ≡ met.old.items ++ None ∷ [] }
+    ensures capacity { vec_capacity met.old ≤ vec_capacity met.new }
+{
+    let Ok(()) = met.push(None) else {
+        unreachable!()
+    };
+}
+
 // For how many more places memory is taken with the first ones, so that those that follow soon want
 // no more, and none is moved.
 fn spare(count: usize, number: usize) -> usize
@@ -60,9 +72,33 @@ fn meet<T: Copy>(met: &mut Vec<Option<T>>, number: usize)
     ensures items { met.new.items ≡ spread (number + 1) met.old.items }
     ensures capacity { vec_capacity met.old ≤ vec_capacity met.new }
 {
-    if met.len() <= number {
+    if met.len() == number {
+        return append(met);
+    }
+    if met.len() < number {
         extend(met, number);
     }
+}
+
+// Sees to it that there is room for the place of that number, behind as many as there are;
+// `NoMemory` where memory for it was refused.
+#[inline(always)]
+fn make_room<T>(met: &mut Vec<Option<T>>, count: usize, number: usize) -> Result<(), NoMemory>
+    requires met { length met.old.items ≤ count }
+    requires behind { count ≤ number }
+    requires small { number < 4_294_967_296 }
+    ensures items { met.new.items ≡ met.old.items }
+    ensures room { OnOk result (number < vec_capacity met.new) }
+    ensures capacity { vec_capacity met.old ≤ vec_capacity met.new }
+{
+    if number < met.capacity() {
+        return Ok(());
+    }
+    let more = number + 1 - met.len() + spare(count, number);
+    if let Err(_refused) = met.reserve(more) {
+        return Err(NoMemory);
+    }
+    Ok(())
 }
 
 impl<T> PlaceShelf<T> {
@@ -119,9 +155,8 @@ impl<T> PlaceShelf<T> {
         if number < self.count {
             return Ok(());
         }
-        let more = number + 1 - self.met.len() + spare(self.count, number);
-        if let Err(_refused) = self.met.reserve(more) {
-            return Err(NoMemory);
+        if let Err(refused) = make_room(&mut self.met, self.count, number) {
+            return Err(refused);
         }
         self.count = number + 1;
         Ok(())
