@@ -1,6 +1,9 @@
 -- What a stage of a payment makes of an engine, by the model.
-use Rattle.std.specs.Prelude.{◌≡◌, Bool, true, false, Some}
-use Rattle.oe_theory.specs.Machine.{Go}
+use Rattle.std.specs.Prelude.{◌≡◌, Bool, true, false, Option, None, Some}
+use Rattle.oe_theory.specs.Machine.{Go, Take, Fail, Exclusive}
+use Rattle.oe_rows.specs.declared.keys.Key.{Key}
+use Rattle.oe_rows.specs.declared.locks.Name.{Name}
+use Rattle.oe_requests.specs.declared.refusals.Column.{Column}
 use Rattle.oe_requests.specs.declared.requests.Request.TheVariants as request
 use Rattle.oe_requests.specs.declared.requests.PaymentRequest.{PaymentRequest}
 use Rattle.oe_requests.specs.declared.refusals.Refusal.{Refusal}
@@ -25,6 +28,17 @@ is_failure _ = false
 -- why the stage at this position is refused
 abbrev pub IsRefusedHere : PaymentRequest → Handle → EngineState → PaymentPosition → Refusal → Type 0
 IsRefusedHere q x s p e = IsRefused s x (request.Payment q) (InPayment q p) e
+
+-- the stage that asks for this lock alone and fails for a cause is refused so
+abbrev pub FailsAt : Handle → EngineState → Name → Refusal → Refusal → Type 0
+FailsAt x s n cause e = (q : PaymentRequest) (p : PaymentPosition)
+    → ask_here s x (request.Payment q) (InPayment q p) ≡ Take n Exclusive
+    → act_here s x (request.Payment q) (InPayment q p) ≡ Fail cause → IsRefusedHere q x s p e
+
+-- a column of the row would leave its range, or there is no row
+abbrev pub failed_by : Key → Option Column → Refusal
+failed_by k (Some c) = Overflow c
+failed_by k None = NoSuchRow k
 
 -- the stage at this position is done, and the payment goes on at another; or it is refused, and the engine stands for
 -- what it did

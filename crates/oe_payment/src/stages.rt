@@ -1,19 +1,22 @@
 //! The stages of a payment (clause 2.5.2.2): each takes its lock and writes, and keeps what the
 //! payment reads there.
 ghost use Rattle.std.specs.Prelude.{◌≡◌, suc, true, List, ℕ};
-ghost use Rattle.oe_theory.specs.Machine.{Take, Fail, Exclusive};
+ghost use Rattle.oe_rows.specs.declared.keys.Key.TheVariants as row_key;
+ghost use Rattle.oe_rows.specs.declared.locks.Name.TheVariants as name_of;
 ghost use Rattle.oe_requests.specs.declared.requests.Request.{Request};
+ghost use Rattle.oe_requests.specs.declared.refusals.Refusal.TheVariants.{Overflow};
 ghost use Rattle.oe_model.specs.Changes.{Change};
 ghost use Rattle.oe_model.specs.Locks.{governs};
 ghost use Rattle.oe_model.specs.Payment.{behind_district, history_data, paid_reply};
 ghost use Rattle.oe_model.specs.Positions.{PaymentPosition, PaymentWarehouse, PaymentDistrict, PaymentNames, PaymentCustomer, PaymentHistory, PaymentEnd, InPayment};
+ghost use Rattle.oe_change.specs.declared.writes.Write.TheVariants as write_of;
 ghost use Rattle.oe_change.specs.Writes.{key_written};
 ghost use Rattle.oe_engine.specs.View.{view_of, IsOpen};
 ghost use Rattle.oe_engine.specs.Covered.{IsOwn};
 ghost use Rattle.oe_engine.specs.Writes.{HoldsBeside};
-ghost use Rattle.oe_engine.specs.Programs.{ask_here, act_here, Progresses};
+ghost use Rattle.oe_engine.specs.Programs.{Progresses};
 ghost use Rattle.oe_payment.specs.Program.{position_in, stage_behind, number_given};
-ghost use Rattle.oe_payment.specs.Stages.{is_failure, IsRefusedHere, Does, stage_after, IsStage};
+ghost use Rattle.oe_payment.specs.Stages.{is_failure, failed_by, FailsAt, Does, stage_after, IsStage};
 
 use crate::positions::{Position, Stage};
 use oe_engine::kinds::inserts::InsertHistory;
@@ -24,8 +27,8 @@ use oe_formulas::payments::{
     account_after, bad_credit_entry, district_ytd_after, history_data, history_key, history_row,
     warehouse_ytd_after,
 };
-use oe_requests::{CustomerChoice, PaymentReply, PaymentRequest, Refusal};
-use oe_rows::{Account, Credit, Customer, Key, Mode, Name};
+use oe_requests::{Column, CustomerChoice, PaymentReply, PaymentRequest, Refusal};
+use oe_rows::{Account, Credit, Customer, CustomerKey, DistrictKey, Key, Mode, Name, WarehouseKey};
 use oe_values::{CustomerNumber, ShortText, Text};
 
 // Why a stage fails: for its own reason, or since another holds the name that it asks for.
@@ -33,10 +36,7 @@ use oe_values::{CustomerNumber, ShortText, Text};
 fn failure(engine: &Engine, tx: &Tx, name: Name, refusal: &Refusal) -> Refusal
     requires open { IsOpen engine.now tx.now }
     requires failure { is_failure refusal.now ≡ true }
-    ensures { (q : PaymentRequest) (p : PaymentPosition)
-        → ask_here engine.now tx.now (Request.Payment q) (InPayment q p) ≡ Take name Exclusive
-        → act_here engine.now tx.now (Request.Payment q) (InPayment q p) ≡ Fail refusal.now
-        → IsRefusedHere q tx.now engine.now p result }
+    ensures { FailsAt tx.now engine.now name refusal.now result }
 {
     let lock = Lock {
         name,
@@ -46,6 +46,45 @@ fn failure(engine: &Engine, tx: &Tx, name: Name, refusal: &Refusal) -> Refusal
         Ok(()) => *refusal,
         Err(busy) => busy,
     }
+}
+
+// Why the stage of the warehouse fails: that column would leave its range, or, where none is given,
+// there is no such row. It stands apart, as do the two after it, so that a stage which is done has
+// no room to clear for names and refusals.
+#[inline(never)]
+fn warehouse_fails(engine: &Engine, tx: &Tx, key: &WarehouseKey, column: Option<Column>) -> Refusal
+    requires { IsOpen engine.now tx.now }
+    ensures { FailsAt tx.now engine.now (name_of.Warehouse key.now)
+        (failed_by (row_key.Warehouse key.now) column) result }
+{
+    let cause = match column {
+        Some(column) => Refusal::Overflow(column),
+        None => Refusal::NoSuchRow(Key::Warehouse(*key)),
+    };
+    failure(engine, tx, Name::Warehouse(*key), &cause)
+}
+
+// The same of the district's stage.
+#[inline(never)]
+fn district_fails(engine: &Engine, tx: &Tx, key: &DistrictKey, column: Option<Column>) -> Refusal
+    requires { IsOpen engine.now tx.now }
+    ensures { FailsAt tx.now engine.now (name_of.District key.now)
+        (failed_by (row_key.District key.now) column) result }
+{
+    let cause = match column {
+        Some(column) => Refusal::Overflow(column),
+        None => Refusal::NoSuchRow(Key::District(*key)),
+    };
+    failure(engine, tx, Name::District(*key), &cause)
+}
+
+// The same of the customer's stage, where there is a row.
+#[inline(never)]
+fn customer_fails(engine: &Engine, tx: &Tx, key: &CustomerKey, column: Column) -> Refusal
+    requires { IsOpen engine.now tx.now }
+    ensures { FailsAt tx.now engine.now (name_of.Customer key.now) (Overflow column) result }
+{
+    failure(engine, tx, Name::Customer(*key), &Refusal::Overflow(column))
 }
 
 // Writes a row, after which the payment comes to the next stage.
@@ -92,14 +131,12 @@ fn pay_warehouse(
 {
     let key = &request.district.warehouse_key();
     let Some(row) = engine.tables().warehouse(*key) else {
-        let absent = Refusal::NoSuchRow(Key::Warehouse(*key));
-        return Progress::Refused(failure(engine, tx, Name::Warehouse(*key), &absent));
+        return Progress::Refused(warehouse_fails(engine, tx, key, None));
     };
     let ytd = match warehouse_ytd_after(row, request) {
         Ok(ytd) => ytd,
         Err(column) => {
-            let overflow = Refusal::Overflow(column);
-            return Progress::Refused(failure(engine, tx, Name::Warehouse(*key), &overflow));
+            return Progress::Refused(warehouse_fails(engine, tx, key, Some(column)));
         }
     };
     *warehouse = row.name.copied();
@@ -150,14 +187,12 @@ fn pay_district(
 {
     let key = &request.district;
     let Some(row) = engine.tables().district(*key) else {
-        let absent = Refusal::NoSuchRow(Key::District(*key));
-        return Progress::Refused(failure(engine, tx, Name::District(*key), &absent));
+        return Progress::Refused(district_fails(engine, tx, key, None));
     };
     let ytd = match district_ytd_after(row, request) {
         Ok(ytd) => ytd,
         Err(column) => {
-            let overflow = Refusal::Overflow(column);
-            return Progress::Refused(failure(engine, tx, Name::District(*key), &overflow));
+            return Progress::Refused(district_fails(engine, tx, key, Some(column)));
         }
     };
     *district = row.name.copied();
@@ -214,6 +249,31 @@ fn keep_reply(reply: &mut PaymentReply, number: CustomerNumber, row: &Customer, 
     reply.balance = account.balance;
 }
 
+// Writes the account of a customer of bad credit, and the entry in front of C_DATA. It stands apart
+// as one customer in ten has bad credit.
+#[inline(never)]
+fn pay_bad_credit(
+    key: &CustomerKey,
+    account: &Account,
+    entry: &Text<0, 90>,
+    stage: &mut Stage,
+    engine: &mut Engine,
+    tx: &Tx,
+) -> Progress
+    requires open { IsOpen engine.old tx.now }
+    ensures does { (q : PaymentRequest) (p p' : PaymentPosition) (c : Change)
+        → IsStage q tx.now engine.old p (write_of.BadCredit key.now account.now entry.now) c p'
+        → Does q tx.now engine.old p result engine.new p' }
+    ensures stage { stage.new ≡ stage_after Stage.History result stage.old }
+{
+    let write = BadCredit {
+        customer: *key,
+        account: *account,
+        entry: entry.copied(),
+    };
+    go(engine, tx, &write, stage, Stage::History)
+}
+
 // C_BALANCE falls and C_YTD_PAYMENT rises by the amount, C_PAYMENT_CNT rises by 1, and a bad
 // credit's C_DATA begins with the payment. The customer is looked up before its name is taken, so
 // that `NoCustomer` comes before `Busy`.
@@ -240,10 +300,7 @@ fn pay_customer(
     };
     let account = match account_after(row, request) {
         Ok(account) => account,
-        Err(column) => {
-            let overflow = Refusal::Overflow(column);
-            return Progress::Refused(failure(engine, tx, Name::Customer(*key), &overflow));
-        }
+        Err(column) => return Progress::Refused(customer_fails(engine, tx, key, column)),
     };
     keep_reply(reply, number, row, &account);
     match row.credit {
@@ -256,12 +313,7 @@ fn pay_customer(
         }
         Credit::Bad => {
             let entry = bad_credit_entry(number, request);
-            let write = BadCredit {
-                customer: *key,
-                account,
-                entry,
-            };
-            go(engine, tx, &write, stage, Stage::History)
+            pay_bad_credit(key, &account, &entry, stage, engine, tx)
         }
     }
 }

@@ -37,7 +37,7 @@ returns-in-Err-clause-does c = λ w d.
     let s = c.args.engine.now in
     let n = c.args.reply.now.customer in
     let row = there (goal.at.returns-in-Err-clause-does c).In-Some in (
-      c.failure.ensures q (PaymentCustomer w d n)
+      c.customer_fails.ensures q (PaymentCustomer w d n)
           (rw c.customer.ensures (customer_asks q c.args.tx.now s w d n c.in-Some.row.now row))
           (customer_fails q c.args.tx.now s w d n c.in-Some.row.now row c.in-Err.column (c.in-Err.ensures n)),
       refl,
@@ -63,7 +63,7 @@ returns-in-Bad-clause-does c = λ w d.
     let n = c.args.reply.now.customer in
     let k = customer_in q.customer_district n in
     let row = there (goal.at.returns-in-Bad-clause-does c).In-Some in
-    c.go-in-Bad.ensures.does q (PaymentCustomer w d n) (PaymentHistory (history_data w d) c.keep_reply.new.reply)
+    c.pay_bad_credit.ensures.does q (PaymentCustomer w d n) (PaymentHistory (history_data w d) c.keep_reply.new.reply)
     (UpdateCustomer k (paid_with n q c.in-Some.row.now c.in-Ok.account))
     (rw (c.customer.ensures, c.keep_reply.ensures)
     (bad_stage q c.args.tx.now s w d n c.in-Some.row.now row c.in-Ok.account (c.in-Ok.ensures n)
