@@ -14,7 +14,7 @@ use Rattle.oe_rows.specs.declared.locks.Mode.{Mode}
 use Rattle.oe_rows.specs.contracts.locks.NamePartialEq.TheImpl.{ghosts}
 use Rattle.oe_locks.specs.Held.{is_name}
 use Rattle.oe_locks.specs.Listed.{stands, AreOnce, taken_names, given_back_names}
-use Rattle.oe_locks.specs.Marks.{mark, has_mark, AreMarked, Changes}
+use Rattle.oe_locks.specs.Marks.{Changes}
 use Rattle.oe_locks.proofs.NameFacts.{eq_is_name, name_sym, same_true}
 
 abbrev Entries : Type 0
@@ -118,49 +118,3 @@ found-changes es n m found q = go (ghosts.eq n q) refl
     go : (b : Bool) → ghosts.eq n q ≡ b → lookup (ghosts.eq q) es ≡ cond b (Some m) (lookup (ghosts.eq q) es)
     go true s = ap (λ k. lookup (ghosts.eq k) es) (sym (same_true n q s)) ∙ found
     go false s = refl
-
--- marks
-
--- a name with its mark in the set has changed
-pub marked-changed : (marks : ℕ) (old new : Entries) (n : Name) (o : Option Mode) → Changes old new n o
-    → has_mark marks (mark n) ≡ true → AreMarked marks old → AreMarked marks new
-marked-changed marks old new n o is has all q none = is q ∙ go (ghosts.eq n q) refl
-  where
-    go : (b : Bool) → ghosts.eq n q ≡ b → cond b o (lookup (ghosts.eq q) old) ≡ None
-    go true s = absurd (false≢true (sym none ∙ (ap (λ k. has_mark marks (mark k)) (sym (same_true n q s)) ∙ has)))
-    go false s = all q none
-
--- a name with its mark in the set was inserted, or nothing has changed
-pub marked-inserted : {T E : Type 0} (r : Result T E) (marks : ℕ) (old new : Entries) (n : Name) (o : Option Mode)
-    → OnOk r (Changes old new n o) → OnErr r (new ≡ old) → has_mark marks (mark n) ≡ true → AreMarked marks old
-    → AreMarked marks new
-marked-inserted (Ok x) marks old new n o is err has all = marked-changed marks old new n o is has all
-marked-inserted (Err e) marks old new n o is err has all = subst (AreMarked marks) (sym err) all
-
--- a name has left
-pub marked-left : (marks : ℕ) (old new : Entries) (n : Name) → Changes old new n None → AreMarked marks old
-    → AreMarked marks new
-marked-left marks old new n is all q none = is q ∙ go (ghosts.eq n q)
-  where
-    go : (b : Bool) → cond b None (lookup (ghosts.eq q) old) ≡ None
-    go true = refl
-    go false = all q none
-
--- modes have changed, and no name
-pub marked-names : (marks : ℕ) (old new : Entries) → keys_of new ≡ keys_of old → AreMarked marks old
-    → AreMarked marks new
-marked-names marks old new same all q none =
-    none_is (lookup (ghosts.eq q) new)
-    (sym (stands-found new q) ∙ (ap (λ l. stands l q) same ∙ (stands-found old q ∙ ap (λ o. is_some o) (all q none))))
-
--- a mark more
-module _ (marks more k : ℕ) (is : (j : ℕ) → has_mark more j ≡ (if j == k then true else has_mark marks j)) where
-  pub marked-with : (es : Entries) → AreMarked marks es → AreMarked more es
-  marked-with es all q none = all q (go (mark q == k) (sym (is (mark q)) ∙ none))
-    where
-      go : (b : Bool) → (if b then true else has_mark marks (mark q)) ≡ false → has_mark marks (mark q) ≡ false
-      go true h = absurd (false≢true (sym h))
-      go false h = h
-
-  pub marked-own : (n : Name) → k ≡ mark n → has_mark more (mark n) ≡ true
-  marked-own n e = is (mark n) ∙ cond-true (mark n == k) true (has_mark marks (mark n)) (eq-eqb (mark n) k (sym e))

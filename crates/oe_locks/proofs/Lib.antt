@@ -1,4 +1,5 @@
 pub mod EntryFacts
 pub mod HeldFacts
 pub mod NameFacts
+pub mod NotedFacts
 pub mod SetFacts

@@ -1,6 +1,7 @@
--- Bits of a set of terminals, and of a set of marks.
-use Rattle.std.proofs.Common.{◌≡◌, ◌≢◌, ℕ, suc, zero, ◌+◌, ◌*◌, ◌/◌, ◌%◌, ◌^◌, ◌<◌, ◌≤◌, min, ◌==◌, inl, inr, Bool}
-use Rattle.std.proofs.Common.{true, false, if◌then◌else◌, Option, None, Some, IsSome, ◌↔◌, refl, sym, ap, ◌∙◌, arith}
+-- Bits of a set of terminals.
+use Rattle.std.proofs.Common.{◌≡◌, ◌≢◌, ℕ, suc, zero, ◌+◌, ◌*◌, ◌/◌, ◌%◌, ◌^◌, ◌<◌, ◌≤◌, min, ◌==◌, ◌&&◌, inl, inr}
+use Rattle.std.proofs.Common.{Bool, true, false, if◌then◌else◌, Option, None, Some, IsSome, ◌↔◌, refl}
+use Rattle.std.proofs.Common.{sym, ap, ◌∙◌, arith}
 use Rattle.std.proofs.Common.{bit_and, bit_or, w64}
 use Rattle.std.specs.Prelude.{IfSome, MatchOption}
 use Rattle.std.specs.Int.{bit_at, bit_not, trailing_zeros}
@@ -56,17 +57,21 @@ module _ (n k t : ℕ) (within : k < 64) (slot : k + 1 ≡ t) where
     ]
   ]
 
--- a mark more
-module _ (n m : ℕ) (within : m < 64) where
-  pub mark-with : (k : ℕ) → (bit_at (bit_or n (1 * 2 ^ m % 2 ^ 64)) k == 1)
-      ≡ (if k == m then true else (bit_at n k == 1))
-  mark-with k = elim (cases_eq k m) [
-    | inl s ↦ ap (λ j. bit_at (bit_or n (1 * 2 ^ m % 2 ^ 64)) j == 1) s
-        ∙ (ap (λ z. z == 1) (bit_at_set_same w64 n m within)
-        ∙ sym (cond-true (k == m) true (bit_at n k == 1) (eq-eqb k m s)))
-    | inr ne ↦ ap (λ z. z == 1) (bit_at_set_other w64 n m within k ne)
-        ∙ sym (cond-false (k == m) true (bit_at n k == 1) (ne_eqb k m ne))
-  ]
+-- the terminals that are in both sets
+pub has-both : (a b u : ℕ) → has (bit_and a b) u ≡ (has a u && has b u)
+has-both a b zero = refl
+has-both a b (suc i) =
+    ap (λ z. z == 1) (bit_at_and a b i)
+    ∙ least (bit_at a i) (bit_at b i) (omega arith) (omega arith)
+  where
+    least : (x y : ℕ) → x < 2 → y < 2 → (min x y == 1) ≡ ((x == 1) && (y == 1))
+    least zero zero l m = refl
+    least zero (suc zero) l m = refl
+    least zero (suc (suc y)) l m = absurd (omega (arith, m))
+    least (suc zero) zero l m = refl
+    least (suc zero) (suc zero) l m = refl
+    least (suc zero) (suc (suc y)) l m = absurd (omega (arith, m))
+    least (suc (suc x)) y l m = absurd (omega (arith, l))
 
 abbrev one_if : Bool → ℕ
 one_if true = 1

@@ -1,11 +1,12 @@
--- Marks of names: numbers below 64, so that a set of them is a word of bits.
-use Rattle.std.specs.Prelude.{◌≡◌, ℕ, ◌+◌, ◌%◌, ◌==◌, Bool, false, List, Option, None, cond}
-use Rattle.std.specs.Int.{bit_at}
+-- Marks of names, and who may hold a name with a mark.
+use Rattle.std.specs.Prelude.{◌≡◌, ℕ, ◌+◌, ◌%◌, Bool, false, List, get_or, Option, None, cond}
 use Rattle.std.specs.Map.{lookup}
 use Rattle.oe_rows.specs.declared.locks.Name.{Name}
 use Rattle.oe_rows.specs.declared.locks.Name.TheVariants.{Warehouse, District, Customer, Order, Queue, Stock, Names}
 use Rattle.oe_rows.specs.declared.locks.Mode.{Mode}
 use Rattle.oe_rows.specs.contracts.locks.NamePartialEq.TheImpl.{ghosts}
+use Rattle.oe_locks.specs.Held.{Holdings, held}
+use Rattle.oe_locks.specs.Terminals.{has}
 
 -- a number by which names of one transaction mostly differ
 abbrev pub number_of_name : Name → ℕ
@@ -21,13 +22,13 @@ number_of_name (Names k x) = 48 + k.district + k.warehouse
 unfoldable pub mark : Name → ℕ
 mark n = number_of_name n % 64
 
--- the mark is in the set
-abbrev pub has_mark : ℕ → ℕ → Bool
-has_mark marks k = bit_at marks k == 1
+-- the terminal is in the set of the mark
+abbrev pub may_hold : List ℕ → ℕ → ℕ → Bool
+may_hold sets k t = has (get_or sets k 0) t
 
--- the mark of each name that is held is in the set
-abbrev pub AreMarked : ℕ → List (Name × Mode) → Type 0
-AreMarked marks es = (q : Name) → has_mark marks (mark q) ≡ false → lookup (ghosts.eq q) es ≡ None
+-- a terminal that is not in the set of a name's mark does not hold the name
+abbrev pub AreNoted : List ℕ → Holdings → Type 0
+AreNoted sets locks = (t : ℕ) (q : Name) → may_hold sets (mark q) t ≡ false → held locks t q ≡ None
 
 -- a name has another mode, or none, and every other name the mode that it had
 abbrev pub Changes : List (Name × Mode) → List (Name × Mode) → Name → Option Mode → Type 0

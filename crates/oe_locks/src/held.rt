@@ -1,14 +1,13 @@
 //! What one terminal holds: names, each in a mode, in the order in which they were taken.
-ghost use Rattle.std.specs.Prelude.{◌≡◌, ◌<◌, [], Some, None, IsSome, IfSome, IfNone, IfOk, OnOk, OnErr, not, false};
+ghost use Rattle.std.specs.Prelude.{◌≡◌, [], Some, None, IsSome, IfSome, IfNone, IfOk, OnOk, OnErr, not};
 ghost use Rattle.std.specs.Map.{lookup, keys_of};
 ghost use Rattle.oe_rows.specs.declared.locks.Name.{Name};
 ghost use Rattle.oe_rows.specs.contracts.locks.NamePartialEq.TheImpl.{ghosts};
 ghost use Rattle.oe_locks.specs.Held.{risen, go_together};
 ghost use Rattle.oe_locks.specs.Listed.{taken_names, given_back_names, AreOnce};
-ghost use Rattle.oe_locks.specs.Marks.{mark as mark_of_name, Changes};
+ghost use Rattle.oe_locks.specs.Marks.{Changes};
 
 use crate::hashes::NameHashes;
-use crate::marks::{Marks, mark_of};
 use indexmap::IndexMap;
 use oe_rows::{Mode, Name};
 use std::alloc::{AllocError, Global};
@@ -18,22 +17,16 @@ use std::marker::Model;
 #[derive(Drop)]
 pub(crate) struct Held {
     names: IndexMap<Name, Mode, NameHashes>,
-    // The marks of these names, and perhaps more. A name whose mark is not among them is not held,
-    // so that a look for most other names is spared.
-    marks: Marks,
 }
 
 impl Model for Held {
     ghost use Rattle.std.specs.Prelude.{List};
     ghost use Rattle.oe_rows.specs.declared.locks.Name.{Name};
     ghost use Rattle.oe_rows.specs.declared.locks.Mode.{Mode};
-    ghost use Rattle.oe_locks.specs.Marks.{AreMarked};
 
     ghost Value = { List (Name × Mode) };
 
     ghost view = { λ h. h.names.entries };
-
-    ghost invariant = { λ h. AreMarked h.marks h.names.entries };
 }
 
 // Whether a mode in which a name is held is in the way of a mode that is asked for.
@@ -66,7 +59,6 @@ impl Held {
     {
         Held {
             names: IndexMap::with_hasher(alloc, NameHashes {}),
-            marks: Marks::none(),
         }
     }
 
@@ -76,16 +68,6 @@ impl Held {
         ensures { result ≡ lookup (ghosts.eq name.now) self.now }
     {
         Some(*self.names.get(name)?)
-    }
-
-    /// Tells whether a name with that mark may be held.
-    #[inline(always)]
-    pub(crate) fn may_have(&self, mark: u32) -> bool
-        requires { mark < 64 }
-        ensures { result ≡ false → (q : Name) → mark_of_name q ≡ mark
-            → lookup (ghosts.eq q) self.now ≡ None }
-    {
-        self.marks.has(mark)
     }
 
     /// Tells whether a name is held in a mode that conflicts.
@@ -133,7 +115,6 @@ impl Held {
         if let Some(was) = self.stays(&name, mode) {
             return Ok(Some(was));
         }
-        self.marks = self.marks.with(mark_of(&name));
         match self.names.insert(name, mode) {
             Ok(was) => Ok(was),
             Err(_) => Err(AllocError),
@@ -178,6 +159,5 @@ impl Held {
         ensures { self.new ≡ [] }
     {
         self.names.truncate(0);
-        self.marks = Marks::none();
     }
 }

@@ -4,8 +4,8 @@
 //!
 //! Each terminal has a map from the names that it holds to their modes, in the order in which it
 //! took them, and nothing else says who holds what. Memory is wanted only for a name that a
-//! terminal does not hold yet. Who is in the way is looked for in the maps of those others whose
-//! marks have the name's.
+//! terminal does not hold yet. Who is in the way is looked for in the maps of those others that
+//! hold something and may hold a name with this one's mark.
 #![tactic(auto)]
 
 ghost use Rattle.std.specs.Prelude.{◌≡◌, ◌≢◌, [], ℕ, MatchOption, OnOk, OnErr, IfOk, IfErr, IsSome, Some, None, true};
@@ -20,7 +20,7 @@ mod marks;
 mod sets;
 
 use held::Held;
-use marks::mark_of;
+use marks::{Holders, mark_of};
 use oe_requests::Refusal;
 use oe_rows::{Mode, Name};
 use oe_values::{PerTerminal, TERMINALS, Terminal};
@@ -35,16 +35,20 @@ pub struct Locks {
     held: PerTerminal<Held>,
     // The terminals that may hold a name. No other one does.
     busy: TerminalSet,
+    // By mark, the terminals that may hold a name with that mark. No other one does. Those that
+    // held names while nobody else did are left in.
+    holders: Holders,
 }
 
 impl Model for Locks {
     ghost use Rattle.oe_locks.specs.Held.{Holdings, AreBusy};
+    ghost use Rattle.oe_locks.specs.Marks.{AreNoted};
 
     ghost Value = { Holdings };
 
     ghost view = { λ s. s.held };
 
-    ghost invariant = { λ s. AreBusy s.busy s.held };
+    ghost invariant = { λ s. AreBusy s.busy s.held × AreNoted s.holders s.held };
 }
 
 impl Locks {
@@ -59,6 +63,7 @@ impl Locks {
         Ok(Locks {
             held: PerTerminal::of(held),
             busy: TerminalSet::empty(),
+            holders: Holders::new(alloc)?,
         })
     }
 
@@ -83,12 +88,10 @@ impl Locks {
             ((u : ℕ) → has others u ≡ true → go_together mode (held self.now u name.now) ≡ true)
             (IsFirstAmong self.now others name.now mode) }
     {
-        let mark = mark_of(name);
         let mut left = others;
         while let Some(other) = left.least() {
             left = left.without(other);
-            let held = self.held.at(other);
-            if held.may_have(mark) && held.conflicts(name, mode) {
+            if self.held.at(other).conflicts(name, mode) {
                 return Some(other);
             }
         }
@@ -105,7 +108,8 @@ impl Locks {
     {
         let others = self.busy.without(terminal);
         others.least()?;
-        self.least_in_the_way(name, others, mode)
+        let asked = others.both(self.holders.of(mark_of(name)));
+        self.least_in_the_way(name, asked, mode)
     }
 
     /// Lends the names that the terminal holds, in the order in which it took them.
@@ -146,6 +150,7 @@ impl Locks {
             return Err(Refusal::Busy(name, holder));
         }
         self.busy = self.busy.with(terminal);
+        self.holders.note(mark_of(&name), terminal);
         let Ok(was) = self.held.at_mut(terminal).take(name, mode) else {
             return Err(Refusal::NoMemory);
         };
@@ -175,5 +180,17 @@ impl Locks {
     {
         self.held.at_mut(terminal).clear();
         self.busy = self.busy.without(terminal);
+        self.forget(terminal);
+    }
+
+    // Takes a terminal that holds nothing out of the sets, unless nobody holds anything.
+    #[inline(always)]
+    fn forget(&mut self, terminal: Terminal)
+        requires { HoldsNothing self.old terminal }
+        ensures { self.new ≡ self.old }
+    {
+        if self.busy.least().is_some() {
+            self.holders.forget(terminal);
+        }
     }
 }

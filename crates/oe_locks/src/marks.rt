@@ -1,28 +1,34 @@
-//! Marks of names. Each name has one of 64, by a number of its key. A name whose mark is not among
-//! the marks of some names is none of these.
-ghost use Rattle.std.specs.Prelude.{◌≡◌, ◌<◌, ◌==◌, ℕ, true, false, if◌then◌else◌};
-ghost use Rattle.oe_locks.specs.Marks.{mark, has_mark};
+//! Who may hold a name. Each name has one of 64 marks, by a number of its key, and for each mark a
+//! set has the terminals that may hold a name with that mark. So most names ask no other terminal.
+//!
+//! By the invariant there is a set for each mark. Only `new` takes memory, and may be refused it.
+ghost use Rattle.std.specs.Prelude.{◌≡◌, ◌<◌, ◌==◌, ◌&&◌, ℕ, true, false, IfOk, if◌then◌else◌};
+ghost use Rattle.oe_locks.specs.Marks.{mark, may_hold};
+ghost use Rattle.oe_locks.specs.Terminals.{has};
 
+use crate::sets::TerminalSet;
 use oe_rows::Name;
+use oe_values::Terminal;
+use std::alloc::{AllocError, Global};
 use std::marker::Model;
 
 /// How many marks there are.
 const MARKS: u32 = 64;
 
-/// A set of marks, a bit for each.
-#[derive(Clone, Copy)]
-pub(crate) struct Marks {
-    bits: u64,
+/// By mark, the terminals that may hold a name with that mark.
+#[derive(Drop)]
+pub(crate) struct Holders {
+    sets: Vec<TerminalSet>,
 }
 
-impl Model for Marks {
-    ghost use Rattle.std.specs.Prelude.{ℕ};
+impl Model for Holders {
+    ghost use Rattle.std.specs.Prelude.{◌≡◌, ℕ, List, length};
 
-    ghost Value = { ℕ };
+    ghost Value = { List ℕ };
 
-    ghost view = { λ s. s.bits };
+    ghost view = { λ h. h.sets.items };
 
-    ghost inverse = { λ n. record { bits = n } };
+    ghost invariant = { λ h. length h.sets.items ≡ 64 };
 }
 
 /// Gives a name's mark, which is below 64, by a number of its key.
@@ -44,32 +50,44 @@ pub(crate) fn mark_of(name: &Name) -> u32
     number % MARKS
 }
 
-impl Marks {
-    /// Gives the set of no mark.
-    #[inline(always)]
-    pub(crate) fn none() -> Marks
-        ensures { (k : ℕ) → has_mark result k ≡ false }
+impl Holders {
+    /// Makes the sets, without a terminal. Memory is the only error.
+    pub(crate) fn new(alloc: Global) -> Result<Self, AllocError>
+        ensures { IfOk result (λ h. (k u : ℕ) → may_hold h k u ≡ false) }
     {
-        Marks { bits: 0 }
+        Ok(Holders {
+            sets: vec![in alloc; TerminalSet::empty(); MARKS as usize]?,
+        })
     }
 
-    /// Tells whether the mark is in the set.
+    /// Gives the terminals that may hold a name with that mark.
     #[inline(always)]
-    pub(crate) fn has(&self, mark: u32) -> bool
+    pub(crate) fn of(&self, mark: u32) -> TerminalSet
         requires { mark < 64 }
-        ensures { result ≡ has_mark self.now mark }
+        ensures { (u : ℕ) → has result u ≡ may_hold self.now mark u }
     {
-        self.bits >> mark & 1 == 1
+        self.sets[mark as usize]
     }
 
-    /// Gives the set with the mark.
+    /// Notes that the terminal may hold a name with that mark.
     #[inline(always)]
-    pub(crate) fn with(&self, mark: u32) -> Marks
+    pub(crate) fn note(&mut self, mark: u32, terminal: Terminal)
         requires { mark < 64 }
-        ensures { (k : ℕ) → has_mark result k ≡ (if k == mark then true else has_mark self.now k) }
+        ensures { (k u : ℕ) → may_hold self.new k u
+            ≡ (if (k == mark) && (u == terminal) then true else may_hold self.old k u) }
     {
-        Marks {
-            bits: self.bits | 1 << mark,
+        let place = mark as usize;
+        self.sets[place] = self.sets[place].with(terminal);
+    }
+
+    /// Takes the terminal out of all sets.
+    #[inline(never)]
+    pub(crate) fn forget(&mut self, terminal: Terminal)
+        ensures { (k u : ℕ) → may_hold self.new k u
+            ≡ (if u == terminal then false else may_hold self.old k u) }
+    {
+        for place in 0..self.sets.len() {
+            self.sets[place] = self.sets[place].without(terminal);
         }
     }
 }

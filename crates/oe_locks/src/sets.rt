@@ -1,5 +1,5 @@
 //! Sets of terminals, a bit for each, so that they are copied and take no memory.
-ghost use Rattle.std.specs.Prelude.{◌≡◌, ◌==◌, ℕ, true, false, MatchOption, if◌then◌else◌};
+ghost use Rattle.std.specs.Prelude.{◌≡◌, ◌==◌, ◌&&◌, ℕ, true, false, MatchOption, if◌then◌else◌};
 ghost use Rattle.oe_locks.specs.Terminals.{has, IsLeast};
 
 use oe_values::Terminal;
@@ -55,6 +55,16 @@ impl TerminalSet {
     {
         TerminalSet {
             bits: self.bits & !(1 << (terminal.get() - 1)),
+        }
+    }
+
+    /// Gives the terminals that are in both sets.
+    #[inline(always)]
+    pub fn both(&self, other: TerminalSet) -> TerminalSet
+        ensures { (u : ℕ) → has result u ≡ (has self.now u && has other u) }
+    {
+        TerminalSet {
+            bits: self.bits & other.bits,
         }
     }
 

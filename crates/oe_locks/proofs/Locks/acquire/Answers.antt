@@ -1,5 +1,5 @@
 use Rattle.std.proofs.Common.{◌<◌, length, arith, sym, ◌∙◌}
-use Rattle.oe_locks.proofs.HeldFacts.{takes, keeps-set, held-at}
+use Rattle.oe_locks.proofs.HeldFacts.{takes, keeps-set, held-at, busy-with, noted-taken}
 use Rattle.oe_locks.proofs.Locks.acquire.Goals as goal
 
 pub returns-in_default-take-clause-cause : goal.returns-in_default-take-clause-cause
@@ -10,6 +10,18 @@ returns-in_default-take-clause-cause c =
       rw (← c.self.view_is)
           (held-at c.self.inside.held c.args.terminal c.at_mut.result.now room c.at_mut.ensures.value c.args.name
           ∙ c.in_default-take.ensures.absent),
+    )
+
+pub invariant_of-self-2 : goal.invariant_of-self-2
+invariant_of-self-2 c =
+    let room : c.args.terminal < length c.self.inside.held =
+    omega (arith, c.at_mut.ensures.size, c.at_mut.ensures.high) in (
+      busy-with c.self.inside.held c.args.terminal c.take.new.self room c.self.inside.busy c.with-self-inside.result
+          c.self.invariant.0 c.with-self-inside.ensures,
+      noted-taken c.self.inside.held c.args.terminal c.take.new.self room c.self.inside.holders c.note.new.self
+          c.self.invariant.1 c.at_mut.result.now
+          (held-at c.self.inside.held c.args.terminal c.at_mut.result.now room c.at_mut.ensures.value) c.args.name
+          c.mark_of.result c.mark_of.ensures.value c.note.ensures c.take.result _ c.take.ensures.own c.take.ensures.err,
     )
 
 pub returns-clause-before : goal.returns-clause-before

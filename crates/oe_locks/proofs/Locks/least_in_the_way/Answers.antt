@@ -1,17 +1,15 @@
-use Rattle.std.proofs.Common.{◌≡◌, ◌<◌, length, arith, true, refl, sym, ap, ◌∙◌}
+use Rattle.std.proofs.Common.{◌≡◌, ◌<◌, length, arith, true, ap, ◌∙◌}
 use Rattle.oe_locks.specs.Held.{held, go_together}
 use Rattle.oe_locks.proofs.HeldFacts.{held-at, within-rest, free-rest, not_false, not_true}
 use Rattle.oe_locks.proofs.SetFacts.{size-less}
-use Rattle.oe_locks.proofs.Locks.least_in_the_way.Goals.{else-may_have-via-then-may_have+else-conflicts}
-use Rattle.oe_locks.proofs.Locks.least_in_the_way.Goals.{else-may_have-via-else-may_have, After-may_have}
 use Rattle.oe_locks.proofs.Locks.least_in_the_way.Goals as goal
 
 pub returns-then-conflicts : goal.returns-then-conflicts
 returns-then-conflicts c =
     let room : c.in-Some.other < length c.self.inside.held =
-    omega (arith, c.at-held.ensures.size, c.at-held.ensures.high) in
+    omega (arith, c.at.ensures.size, c.at.ensures.high) in
     let at =
-    held-at c.self.inside.held c.in-Some.other c.at-held.result.now room c.at-held.ensures.value c.args.name.now in
+    held-at c.self.inside.held c.in-Some.other c.at.result.now room c.at.ensures.value c.args.name.now in
     rw (← c.self.view_is) (record {
       other = c.loop-other.invariant.within c.in-Some.other c.in-Some.ensures.in_set;
       conflicts = ap (go_together c.args.mode) at ∙ not_true _ (c.if-conflicts.ensures);
@@ -21,16 +19,11 @@ returns-then-conflicts c =
 pub loop-other-preserved : goal.loop-other-preserved
 loop-other-preserved c =
     let room : c.in-Some.other < length c.self.inside.held =
-    omega (arith, c.at-held.ensures.size, c.at-held.ensures.high) in
+    omega (arith, c.at.ensures.size, c.at.ensures.high) in
     let at =
-    held-at c.self.inside.held c.in-Some.other c.at-held.result.now room c.at-held.ensures.value c.args.name.now in
+    held-at c.self.inside.held c.in-Some.other c.at.result.now room c.at.ensures.value c.args.name.now in
     let free : go_together c.args.mode (held c.self.inside.held c.in-Some.other c.args.name.now) ≡ true =
-    elim c.else-may_have.branch [
-      | else-may_have-via-then-may_have+else-conflicts w ↦
-          ap (go_together c.args.mode) at ∙ not_false _ w.if-conflicts.ensures
-      | else-may_have-via-else-may_have w ↦ ap (go_together c.args.mode)
-          (at ∙ w.if-may_have.ensures refl c.args.name.now (sym c.mark_of-mark.ensures.value))
-    ] in
+    ap (go_together c.args.mode) at ∙ not_false _ c.if-conflicts.ensures in
     record {
       within = within-rest c.self.inside.held c.args.others c.loop-other.left c.without-left.result c.in-Some.other
           c.args.name.now c.args.mode c.without-left.ensures c.loop-other.invariant.within;
@@ -40,4 +33,4 @@ loop-other-preserved c =
 
 pub loop-other-smaller : goal.loop-other-smaller
 loop-other-smaller c = size-less c.loop-other.left c.without-left.result c.in-Some.other c.without-left.ensures 64
-    c.at-held.ensures.low c.at-held.ensures.high c.in-Some.ensures.in_set
+    c.at.ensures.low c.at.ensures.high c.in-Some.ensures.in_set
