@@ -280,7 +280,7 @@ def main():
     requests = {}
     for line in lines:
         number, *words = line.split(" ")
-        if words[0] in TRANSACTIONS:  # a file of commits has no queries
+        if words[0] in TRANSACTIONS:  # queries are left out
             requests.setdefault(int(number), []).append(words)
     sessions = [Session(args, t) for t in sorted(requests)]
     done, failed = [], []

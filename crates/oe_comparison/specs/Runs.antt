@@ -1,4 +1,4 @@
--- What a file of commits and nine files of tables come to.
+-- What a file of replies and nine files of tables come to.
 use Rattle.std.specs.Prelude.{◌≡◌, ◌≢◌, ℕ, ◌<◌, ◌⊎◌, Option, Result, Ok, Err, List, []}
 use Rattle.oe_model.specs.Rows.{Rows}
 use Rattle.oe_model.specs.System.{system}

@@ -1,4 +1,4 @@
-//! A file of commits and nine files of tables: the verdict on the replies, and where these are
+//! A file of replies and nine files of tables: the verdict on the replies, and where these are
 //! serial, what differs between the files and the tables that the transactions leave.
 ghost use Rattle.std.specs.Prelude.{◌≡◌, ◌≤◌, [], length, OnOk};
 ghost use Rattle.oe_ports.specs.Ports.{Streams};
@@ -21,10 +21,10 @@ use oe_texts::{LONGEST, Pending};
 use std::alloc::Global;
 use thiserror::Error;
 
-/// What a file of commits and nine files of tables come to.
+/// What a file of replies and nine files of tables come to.
 #[derive(Drop)]
 pub enum Verdict<'a> {
-    /// The replies are not serial, or lines of the file of commits have no form. No table was
+    /// The replies are not serial, or lines of the file of replies have no form. No table was
     /// compared.
     Replies(Replies<'a>),
     /// The replies are serial, and all tables are the same.

@@ -1,22 +1,23 @@
 -- Of a transaction that runs alone, in any machine: its beginning, its stages and its end.
-use Rattle.std.proofs.Common.{◌≡◌, ℕ, suc, Option, None, Some, refl, sym, ap, subst, ◌∙◌, inl, inr}
+use Rattle.std.proofs.Common.{◌≡◌, ℕ, suc, Option, None, Some, refl, sym, ap, subst, ◌∙◌, inl, inr, arith}
 use Rattle.std.specs.Prelude.{◌≢◌, ◌⊎◌}
 use Rattle.std.proofs.lemmas.Bool.{cases_eq}
-use Rattle.oe_theory.specs.Machine.{Machine, Tx}
-use Rattle.oe_theory.specs.World.{World, Open, set, bump, tx_of, latest, counts_now, tables}
+use Rattle.oe_theory.specs.Machine.{Machine, Tx, Outcome, Here, Missing}
+use Rattle.oe_theory.specs.World.{World, Open, set, bump, tx_of, at, newest, latest, counts_now, tables}
 use Rattle.oe_theory.specs.Laws.{Laws}
-use Rattle.oe_theory.specs.Next.{Next, Step, Answer, Begin, Advance, Purge}
-use Rattle.oe_theory.specs.Next.{Begun, More, Committed, Aborted, Rejected, Undo_full, No_memory}
+use Rattle.oe_theory.specs.Next.{Next, Step, Answer, Begin, Advance, Purge, Read}
+use Rattle.oe_theory.specs.Next.{Begun, More, Committed, Aborted, Rejected, Replied, Undo_full, No_memory}
 use Rattle.oe_theory.specs.Next.{IsQuiet, begun, moved, put_active, committed, begins, goes_on, commits}
-use Rattle.oe_theory.specs.Next.{purges, stops, fails, is_busy, is_full}
+use Rattle.oe_theory.specs.Next.{purges, stops, fails, is_busy, is_full, reads, misses, query_is_rejected}
 use Rattle.oe_theory.specs.Next.{is_rejected, is_open, number_is_rejected, not_open, too_old}
 use Rattle.oe_theory.specs.Next.{future, lacks_memory_at_begin, lacks_memory}
 use Rattle.oe_theory.specs.Theorems.{IsReached, Is_whole, Is_none, Is_refused}
 use Rattle.oe_theory.proofs.Sets.{set_same, set_other, some_inj, some_none}
 use Rattle.oe_theory.proofs.Steps.{purged_latest, purged_counts}
-use Rattle.oe_theory.proofs.Past.{quiet_tables}
+use Rattle.oe_theory.proofs.Past.{quiet_tables, latest_at}
 use Rattle.oe_theory.proofs.Theorems.{commit_is_whole, abort_has_no_effect, abort_is_its_own}
-use Rattle.oe_serial.specs.InOrder.{Between, next_of, Commits, Stops, RollsBack, Refuses, between, HasOpen}
+use Rattle.oe_serial.specs.InOrder.{Between, next_of, Commits, Stops, RollsBack, Refuses, Finds, Misses, between}
+use Rattle.oe_serial.specs.InOrder.{HasOpen}
 
 module _ (M : Machine) (L : Laws M) where
   open M use {Map, Request, Reply, Refusal}
@@ -145,6 +146,85 @@ module _ (M : Machine) (L : Laws M) where
         stops = subst (λ (x : Tx Request). Stops M x b.rows e) (is_next b t q w h own.was own.is_open)
             (subst (λ (r : Map). Stops M (tx_of M t own.was) r e) rows stops);
       }
+
+  -- WHAT A REFUSAL LEAVES
+
+  -- nothing is open, and commits have left the same
+  pub record Leaves (b : Between M) (v : World M) : Type 0 where
+    pub same : between M v ≡ b
+    pub quiet : IsQuiet M v
+
+  aborted_by : (b : Between M) (t : ℕ) (q : Request) (w : World M) (i : Step M) (a : Answer M) (v : World M)
+      (e : Refusal) → HasOpen M b t q w → Next M w i a v → i ≡ Advance t → a ≡ Aborted e → Leaves b v
+  aborted_by b t q w _ _ _ e h (stops u o x f r) i a =
+      let same : u ≡ t = cc in
+      let k : HasOpen M b u q w = subst (λ (z : ℕ). HasOpen M b z q w) (sym same) h in
+      record { same = k.same; quiet = quiet_without b u q w k }
+  aborted_by b t q w _ _ _ e h (fails u o x f g r) i a =
+      let same : u ≡ t = cc in
+      let k : HasOpen M b u q w = subst (λ (z : ℕ). HasOpen M b z q w) (sym same) h in
+      record { same = k.same; quiet = quiet_without b u q w k }
+  aborted_by b t q w _ _ _ e h n i a = cc
+
+  pub aborted_leaves : (b : Between M) (t : ℕ) (q : Request) (w v : World M) (e : Refusal) → HasOpen M b t q w
+      → Next M w (Advance t) (Aborted e) v → Leaves b v
+  aborted_leaves b t q w v e h n = aborted_by b t q w _ _ v e h n refl refl
+
+  rejected_by : (w : World M) (i : Step M) (a : Answer M) (v : World M) (t : ℕ) (q : Request) (e : Refusal)
+      → Next M w i a v → i ≡ Begin t q → a ≡ Rejected e → v ≡ w
+  rejected_by w _ _ _ t q e (is_rejected u r x h) i a = refl
+  rejected_by w _ _ _ t q e (number_is_rejected u r x h none g) i a = refl
+  rejected_by w _ _ _ t q e n i a = cc
+
+  pub rejected_stays : (w v : World M) (t : ℕ) (q : Request) (e : Refusal) → Next M w (Begin t q) (Rejected e) v
+      → v ≡ w
+  rejected_stays w v t q e n = rejected_by w _ _ v t q e n refl refl
+
+  -- WHAT A QUERY OF THE NEWEST MOMENT IS ANSWERED WHERE NOTHING IS OPEN
+
+  abbrev pub OfRead : Map → M.Query → Answer M → Type 0
+  OfRead r q (Replied f) = Finds M r q f
+  OfRead r q (Rejected e) = Misses M r q e
+  OfRead r q a = ⊥
+
+  known_here : (w : World M) (q : M.Query) (o : Option Refusal) → IsQuiet M w
+      → M.query_rejection q (tables M w) ≡ o → M.query_rejection q (latest M w) ≡ o
+  known_here w q o quiet e = subst (λ (z : Map). M.query_rejection q z ≡ o) (quiet_tables M L w quiet) e
+
+  found_here : (w : World M) (q : M.Query) (m : ℕ) (o : Outcome M.Found Refusal) → m ≡ newest M w
+      → M.find q (at M w m) ≡ o → M.find q (latest M w) ≡ o
+  found_here w q m o is e =
+      ap (M.find q) (latest_at M L w) ∙ (ap (λ (n : ℕ). M.find q (at M w n)) (sym is) ∙ e)
+
+  of_read_by : (w : World M) (i : Step M) (a : Answer M) (v : World M) (m : ℕ) (q : M.Query) → IsQuiet M w
+      → Next M w i a v → i ≡ Read m q → m ≡ newest M w → OfRead (latest M w) q a
+  of_read_by w _ _ _ m q quiet (reads k r f none l u h) i is =
+      let same_m : k ≡ m = cc in
+      let same_q : r ≡ q = cc in
+      subst (λ (z : M.Query). Finds M (latest M w) z f) same_q
+      (known_here w r None quiet none, found_here w r k (Here f) (same_m ∙ is) h)
+  of_read_by w _ _ _ m q quiet (query_is_rejected k r e h) i is =
+      let same_q : r ≡ q = cc in
+      subst (λ (z : M.Query). Misses M (latest M w) z e) same_q (inl (known_here w r (Some e) quiet h))
+  of_read_by w _ _ _ m q quiet (misses k r e none l u h) i is =
+      let same_m : k ≡ m = cc in
+      let same_q : r ≡ q = cc in
+      subst (λ (z : M.Query). Misses M (latest M w) z e) same_q
+      (inr (known_here w r None quiet none, found_here w r k (Missing e) (same_m ∙ is) h))
+  of_read_by w _ _ _ m q quiet (not_open (Read k r) t e none) i is = let no : ⊥ = cc in no
+  of_read_by w _ _ _ m q quiet (too_old (Read k r) n e p l) i is =
+      let same : k ≡ m = cc in
+      let named : k ≡ n = some_inj _ _ e in
+      omega (arith, l, is, same, named)
+  of_read_by w _ _ _ m q quiet (future (Read k r) n e p l) i is =
+      let same : k ≡ m = cc in
+      let named : k ≡ n = some_inj _ _ e in
+      omega (arith, l, is, same, named)
+  of_read_by w _ _ _ m q quiet n i is = cc
+
+  pub of_read : (w v : World M) (m : ℕ) (q : M.Query) (a : Answer M) → IsQuiet M w → Next M w (Read m q) a v
+      → m ≡ newest M w → OfRead (latest M w) q a
+  of_read w v m q a quiet n is = of_read_by w _ a v m q quiet n refl is
 
   -- WHAT AN ADVANCE IS ANSWERED WHERE ITS TRANSACTION IS ALONE
 

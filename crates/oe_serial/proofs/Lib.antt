@@ -1,5 +1,6 @@
 -- The proofs of this crate.
 mod LineFacts
+mod QueryFacts
 mod ToldFacts
 mod BadFacts
 mod AloneFacts

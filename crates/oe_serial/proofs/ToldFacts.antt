@@ -1,33 +1,27 @@
--- A line tells of a commit where its words ask for one.
-use Rattle.std.proofs.Common.{◌≡◌, ℕ, ◌≤◌, Bool, true, false, List, ◌++◌, Option, Some, None, length, codes, ap}
+-- A line tells of a reply where its words ask for something.
+use Rattle.std.proofs.Common.{◌≡◌, ℕ, ◌≤◌, Bool, true, false, List, Option, Some, None, length, ap}
 use Rattle.std.proofs.Common.{subst, ◌∙◌, not}
 use Rattle.std.specs.Prelude.{MatchOption, IsTrue, is_some}
 use Rattle.oe_rows.specs.declared.scales.Scale.{Scale}
-use Rattle.oe_requests.specs.declared.requests.Request.{Request}
-use Rattle.oe_lines.specs.Grammar.{Says}
-use Rattle.oe_lines.specs.declared.commands.Command.TheVariants as command
 use Rattle.oe_serial.specs.declared.lines.Asked.{Asked}
-use Rattle.oe_serial.specs.Files.{Parts, IsTold, Opens}
+use Rattle.oe_serial.specs.Files.{Parts, Asks, IsTold, Opens}
 use Rattle.oe_serial.proofs.LineFacts.{parts_once}
 
 -- words that ask for nothing, or what they ask for
 abbrev pub AreRead : List ℕ → Option Asked → Type 0
-AreRead words r = MatchOption r ((t : ℕ) (q : Request) → Says (codes "begin " ++ words) (command.Begin t q) → ⊥)
-    (λ a. Says (codes "begin " ++ words) (command.Begin a.terminal a.request))
+AreRead words r = MatchOption r ((a : Asked) → Asks words a → ⊥) (Asks words)
 
--- a line whose words ask for nothing tells of no commit
-pub untold : (line words text : List ℕ) → Parts line words text
-    → ((t : ℕ) (q : Request) → Says (codes "begin " ++ words) (command.Begin t q) → ⊥) → IsTold line → ⊥
-untold line words text p none (t, q, other, tells) =
-    none t q (subst (λ (w : List ℕ). Says (codes "begin " ++ w) (command.Begin t q))
-    (parts_once line tells.words words other text tells.parts p).0 tells.asks)
+-- a line whose words ask for nothing tells of no reply
+pub untold : (line words text : List ℕ) → Parts line words text → ((a : Asked) → Asks words a → ⊥) → IsTold line → ⊥
+untold line words text p none (a, other, tells) =
+    none a (subst (λ (w : List ℕ). Asks w a) (parts_once line tells.words words other text tells.parts p).0 tells.asks)
 
 pub told_is : (line words text : List ℕ) (r : Option Asked) (b : Bool) → length line ≤ 1_024 → Parts line words text
     → AreRead words r → b ≡ is_some r → (IsTrue b → IsTold line) × (IsTold line → IsTrue b)
 told_is line words text None b short p none is =
     (λ yes. let never : ⊥ = cc in absurd never, λ told. absurd (untold line words text p none told))
 told_is line words text (Some a) b short p asks is = (
-  λ yes. (a.terminal, a.request, text, record { short = short; words = words; parts = p; asks = asks }),
+  λ yes. (a, text, record { short = short; words = words; parts = p; asks = asks }),
   λ told. is,
 )
 

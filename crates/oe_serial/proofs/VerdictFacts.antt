@@ -3,16 +3,11 @@ use Rattle.std.proofs.Common.{◌≡◌, ℕ, List, [], ◌∷◌, ◌++◌, Opt
 use Rattle.std.proofs.Common.{refl}
 use Rattle.std.specs.Prelude.{All, MatchOption}
 use Rattle.std.specs.FinMap.{empty}
-use Rattle.oe_theory.specs.World.{World}
-use Rattle.oe_requests.specs.declared.requests.Request.{Request}
 use Rattle.oe_rows.specs.declared.scales.Scale.{Scale}
 use Rattle.oe_model.specs.Rows.{Rows}
 use Rattle.oe_model.specs.Population.{IsPopulated}
 use Rattle.oe_model.specs.System.{system}
 use Rattle.oe_serial.specs.InOrder.{Between, at_first}
-use Rattle.oe_serial.specs.Worlds.{IsAnswered}
-use Rattle.oe_serial.specs.declared.alone.Outcome.{Outcome}
-use Rattle.oe_serial.specs.declared.alone.Outcome.TheVariants as outcome
 use Rattle.oe_serial.specs.Files.{IsTold, Opens, lines_of, last_of}
 use Rattle.oe_serial.specs.Verdicts.{Agrees, AreSerial, IsVerdict, EndsSo, IsDecided, verdict_of, Leaves, IsDecision}
 use Rattle.oe_serial.specs.declared.verdicts.Decision.{Decision}
@@ -99,15 +94,6 @@ pub verdict_so : (input ours : List ℕ) (d : Decision) (v : Verdict) → v ≡ 
     → IsDecided input v ours
 verdict_so input ours d v same made =
     (made.0, subst (λ (z : Verdict). EndsSo input z ours made.0) (sym same) made.1)
-
--- what is told of an outcome
-pub committed_so : (b : Between system) (t : ℕ) (q : Request) (o : Outcome) (text : List ℕ) (w : World system)
-    → o ≡ outcome.Committed → IsAnswered b t q o text w → IsAnswered b t q outcome.Committed text w
-committed_so b t q o text w is a = subst (λ (z : Outcome). IsAnswered b t q z text w) is a
-
-pub refused_so : (b : Between system) (t : ℕ) (q : Request) (o : Outcome) (text : List ℕ) (w : World system)
-    → o ≡ outcome.Refused → IsAnswered b t q o text w → IsAnswered b t q outcome.Refused text w
-refused_so b t q o text w is a = subst (λ (z : Outcome). IsAnswered b t q z text w) is a
 
 -- what is told of an option
 pub at_some : {A : Type 0} (P : Type 0) (Q : A → Type 0) (o : Option A) (x : A) → o ≡ Some x → MatchOption o P Q → Q x

@@ -1,11 +1,14 @@
 -- Of a transaction that runs alone in the server's machine.
-use Rattle.std.proofs.Common.{◌≡◌, ℕ, Option, None, Result, Ok, Err, IfOk, refl, sym, ap, subst, ◌∙◌, inr}
-use Rattle.oe_theory.specs.World.{World, Open}
+use Rattle.std.proofs.Common.{◌≡◌, ℕ, Option, None, Result, Ok, Err, IfOk, refl, sym, ap, subst, ◌∙◌, inl, inr}
+use Rattle.oe_theory.specs.World.{World, Open, newest, latest}
 use Rattle.oe_theory.specs.Next as theory
-use Rattle.oe_theory.specs.Next.{Next, Begin, Advance, Purge, Answer}
+use Rattle.oe_theory.specs.Next.{Next, Begin, Advance, Purge, Read, Answer}
 use Rattle.oe_theory.specs.Theorems.{opened}
 use Rattle.oe_theory.proofs.Theorems.{opening_is_reached}
+use Rattle.oe_requests.specs.declared.requests.Query.{Query}
 use Rattle.oe_requests.specs.declared.requests.Request.{Request}
+use Rattle.oe_requests.specs.declared.answers.Answer as given
+use Rattle.oe_requests.specs.declared.answers.Answer.TheVariants as answer
 use Rattle.oe_requests.specs.declared.replies.Reply.{Reply}
 use Rattle.oe_requests.specs.declared.refusals.Refusal.{Refusal}
 use Rattle.oe_requests.specs.declared.refusals.Refusal.TheVariants as refusal
@@ -17,14 +20,17 @@ use Rattle.oe_model.specs.Population.{IsScale, IsPopulated}
 use Rattle.oe_model.specs.System.{system}
 use Rattle.oe_model.proofs.PopulationFacts.{population_is_one}
 use Rattle.oe_model.proofs.SystemLaws.{laws, population_is_good}
-use Rattle.oe_core.specs.Steps.{refusal_in, Advances}
+use Rattle.oe_texts.specs.Answer.{answer_text}
+use Rattle.oe_core.specs.Steps.{refusal_in, answer_in, Advances}
 use Rattle.oe_core.specs.declared.advances.Advanced.{Advanced}
 use Rattle.oe_core.specs.declared.advances.Advanced.TheVariants as advanced
 use Rattle.oe_admission.proofs.LiveFacts.{next_live}
-use Rattle.oe_serial.specs.InOrder.{Between, at_first, Refuses, between}
+use Rattle.oe_serial.specs.declared.lines.Asked.TheVariants as asked
+use Rattle.oe_serial.specs.InOrder.{Between, at_first, Refuses, Misses, between}
+use Rattle.oe_serial.specs.Answers.{Answers}
 use Rattle.oe_serial.specs.Worlds.{IsFree, IsAtWork, Ends, shortage_of}
 use Rattle.oe_serial.proofs.AloneFacts.{begun_alone, more_alone, commits_alone, aborts_alone, of_advance, of_begin}
-use Rattle.oe_serial.proofs.AloneFacts.{Stays, purge_stays}
+use Rattle.oe_serial.proofs.AloneFacts.{Stays, purge_stays, Leaves, aborted_leaves, rejected_stays, of_read}
 
 pub begins_work : (w v : World system) (t : ℕ) (q : Request) → IsFree w
     → Next system w (Begin t q) theory.Begun v → IsAtWork (between system w) t q v
@@ -41,44 +47,106 @@ goes_on_at_work b t q w v h n = record {
 }
 
 -- a refusal of its own
+abbrev pub IsRefused : Between system → ℕ → Request → Refusal → World system → Type 0
+IsRefused b t q e v = Refuses system b t q e × (between system v ≡ b) × IsFree v
+
+aborted : (b : Between system) (t : ℕ) (q : Request) (w v : World system) (e : Refusal) → IsAtWork b t q w
+    → Next system w (Advance t) (theory.Aborted e) v → IsRefused b t q e v
+aborted b t q w v e h n =
+    let l : Leaves system laws b v = aborted_leaves system laws b t q w v e h.open_alone n in (
+      inr (inr (aborts_alone system laws b t q w v e h.live.0 h.open_alone n)),
+      l.same,
+      record { live = next_live w (Advance t) (theory.Aborted e) v h.live n; quiet = l.quiet },
+    )
+
 refused : (b : Between system) (t : ℕ) (q : Request) (w v : World system) (e : Refusal) → IsAtWork b t q w
-    → Next system w (Advance t) (refusal_in (step.Advance t) e) v → shortage_of e ≡ None → Refuses system b t q e
-refused b t q w v (refusal.NoSuchRow x) h n s = inr (inr (aborts_alone system laws b t q w v _ h.live.0 h.open_alone n))
-refused b t q w v (refusal.RowExists x) h n s = inr (inr (aborts_alone system laws b t q w v _ h.live.0 h.open_alone n))
-refused b t q w v (refusal.Overflow x) h n s = inr (inr (aborts_alone system laws b t q w v _ h.live.0 h.open_alone n))
-refused b t q w v (refusal.Reference x) h n s = inr (inr (aborts_alone system laws b t q w v _ h.live.0 h.open_alone n))
-refused b t q w v refusal.KeyColumn h n s = inr (inr (aborts_alone system laws b t q w v _ h.live.0 h.open_alone n))
+    → Next system w (Advance t) (refusal_in (step.Advance t) e) v → shortage_of e ≡ None → IsRefused b t q e v
+refused b t q w v (refusal.NoSuchRow x) h n s = aborted b t q w v _ h n
+refused b t q w v (refusal.RowExists x) h n s = aborted b t q w v _ h n
+refused b t q w v (refusal.Overflow x) h n s = aborted b t q w v _ h n
+refused b t q w v (refusal.Reference x) h n s = aborted b t q w v _ h n
+refused b t q w v refusal.KeyColumn h n s = aborted b t q w v _ h n
 refused b t q w v (refusal.Busy x u) h n s = absurd (of_advance system laws b t q w _ _ v h.open_alone n refl)
 refused b t q w v refusal.UndoFull h n s = let not : ⊥ = cc in absurd not
 refused b t q w v refusal.NoMemory h n s = let not : ⊥ = cc in absurd not
 refused b t q w v refusal.NotOpen h n s = absurd (of_advance system laws b t q w _ _ v h.open_alone n refl)
 refused b t q w v refusal.AlreadyOpen h n s = absurd (of_advance system laws b t q w _ _ v h.open_alone n refl)
-refused b t q w v refusal.InvalidItem h n s = inr (inr (aborts_alone system laws b t q w v _ h.live.0 h.open_alone n))
-refused b t q w v refusal.NoCustomer h n s = inr (inr (aborts_alone system laws b t q w v _ h.live.0 h.open_alone n))
+refused b t q w v refusal.InvalidItem h n s = aborted b t q w v _ h n
+refused b t q w v refusal.NoCustomer h n s = aborted b t q w v _ h n
 refused b t q w v (refusal.TooOld m) h n s = absurd (of_advance system laws b t q w _ _ v h.open_alone n refl)
 refused b t q w v (refusal.Future m) h n s = absurd (of_advance system laws b t q w _ _ v h.open_alone n refl)
 refused b t q w v (refusal.NotQuiet m) h n s = absurd (of_advance system laws b t q w _ _ v h.open_alone n refl)
-refused b t q w v (refusal.NotPinned m) h n s = inr (inr (aborts_alone system laws b t q w v _ h.live.0 h.open_alone n))
+refused b t q w v (refusal.NotPinned m) h n s = aborted b t q w v _ h n
+
+rejected : (w v : World system) (t : ℕ) (q : Request) (e : Refusal) → IsFree w
+    → Next system w (Begin t q) (theory.Rejected e) v → IsRefused (between system w) t q e v
+rejected w v t q e f n =
+    let same : v ≡ w = rejected_stays system laws w v t q e n in (
+      of_begin system laws w _ _ v t q f.quiet n refl,
+      ap (λ (z : World system). between system z) same,
+      subst IsFree (sym same) f,
+    )
 
 pub begin_refused : (w v : World system) (t : ℕ) (q : Request) (e : Refusal) → IsFree w
     → Next system w (Begin t q) (refusal_in (step.Begin t q) e) v → shortage_of e ≡ None
-    → Refuses system (between system w) t q e
-begin_refused w v t q (refusal.NoSuchRow x) f n s = of_begin system laws w _ _ v t q f.quiet n refl
-begin_refused w v t q (refusal.RowExists x) f n s = of_begin system laws w _ _ v t q f.quiet n refl
-begin_refused w v t q (refusal.Overflow x) f n s = of_begin system laws w _ _ v t q f.quiet n refl
-begin_refused w v t q (refusal.Reference x) f n s = of_begin system laws w _ _ v t q f.quiet n refl
-begin_refused w v t q refusal.KeyColumn f n s = of_begin system laws w _ _ v t q f.quiet n refl
+    → IsRefused (between system w) t q e v
+begin_refused w v t q (refusal.NoSuchRow x) f n s = rejected w v t q _ f n
+begin_refused w v t q (refusal.RowExists x) f n s = rejected w v t q _ f n
+begin_refused w v t q (refusal.Overflow x) f n s = rejected w v t q _ f n
+begin_refused w v t q (refusal.Reference x) f n s = rejected w v t q _ f n
+begin_refused w v t q refusal.KeyColumn f n s = rejected w v t q _ f n
 begin_refused w v t q (refusal.Busy x u) f n s = absurd (of_begin system laws w _ _ v t q f.quiet n refl)
 begin_refused w v t q refusal.UndoFull f n s = let not : ⊥ = cc in absurd not
 begin_refused w v t q refusal.NoMemory f n s = let not : ⊥ = cc in absurd not
 begin_refused w v t q refusal.NotOpen f n s = absurd (of_begin system laws w _ _ v t q f.quiet n refl)
 begin_refused w v t q refusal.AlreadyOpen f n s = absurd (of_begin system laws w _ _ v t q f.quiet n refl)
-begin_refused w v t q refusal.InvalidItem f n s = of_begin system laws w _ _ v t q f.quiet n refl
-begin_refused w v t q refusal.NoCustomer f n s = of_begin system laws w _ _ v t q f.quiet n refl
+begin_refused w v t q refusal.InvalidItem f n s = rejected w v t q _ f n
+begin_refused w v t q refusal.NoCustomer f n s = rejected w v t q _ f n
 begin_refused w v t q (refusal.TooOld m) f n s = absurd (of_begin system laws w _ _ v t q f.quiet n refl)
 begin_refused w v t q (refusal.Future m) f n s = absurd (of_begin system laws w _ _ v t q f.quiet n refl)
 begin_refused w v t q (refusal.NotQuiet m) f n s = absurd (of_begin system laws w _ _ v t q f.quiet n refl)
-begin_refused w v t q (refusal.NotPinned m) f n s = of_begin system laws w _ _ v t q f.quiet n refl
+begin_refused w v t q (refusal.NotPinned m) f n s = rejected w v t q _ f n
+
+-- WHAT A QUERY IS ANSWERED
+
+abbrev pub IsFound : Between system → Query → given.Answer → Type 0
+IsFound b q x = Answers b (asked.Query q) (answer_text x) b
+
+-- a refusal of a query
+missed : (w v : World system) (m : ℕ) (q : Query) (e : Refusal) → IsFree w
+    → Next system w (Read m q) (refusal_in (step.Read m q) e) v → m ≡ newest system w
+    → Misses system (latest system w) q e
+missed w v m q (refusal.NoSuchRow x) f n is = of_read system laws w v m q _ f.quiet n is
+missed w v m q (refusal.RowExists x) f n is = of_read system laws w v m q _ f.quiet n is
+missed w v m q (refusal.Overflow x) f n is = of_read system laws w v m q _ f.quiet n is
+missed w v m q (refusal.Reference x) f n is = of_read system laws w v m q _ f.quiet n is
+missed w v m q refusal.KeyColumn f n is = of_read system laws w v m q _ f.quiet n is
+missed w v m q (refusal.Busy x u) f n is = absurd (of_read system laws w v m q _ f.quiet n is)
+missed w v m q refusal.UndoFull f n is = absurd (of_read system laws w v m q _ f.quiet n is)
+missed w v m q refusal.NoMemory f n is = absurd (of_read system laws w v m q _ f.quiet n is)
+missed w v m q refusal.NotOpen f n is = absurd (of_read system laws w v m q _ f.quiet n is)
+missed w v m q refusal.AlreadyOpen f n is = absurd (of_read system laws w v m q _ f.quiet n is)
+missed w v m q refusal.InvalidItem f n is = of_read system laws w v m q _ f.quiet n is
+missed w v m q refusal.NoCustomer f n is = of_read system laws w v m q _ f.quiet n is
+missed w v m q (refusal.TooOld k) f n is = absurd (of_read system laws w v m q _ f.quiet n is)
+missed w v m q (refusal.Future k) f n is = absurd (of_read system laws w v m q _ f.quiet n is)
+missed w v m q (refusal.NotQuiet k) f n is = absurd (of_read system laws w v m q _ f.quiet n is)
+missed w v m q (refusal.NotPinned k) f n is = of_read system laws w v m q _ f.quiet n is
+
+pub is_found : (w v : World system) (m : ℕ) (q : Query) (x : given.Answer) → IsFree w
+    → Next system w (Read m q) (answer_in (step.Read m q) x) v → m ≡ newest system w
+    → IsFound (between system w) q x
+is_found w v m q (answer.Replied y) f n is = (inl (y, of_read system laws w v m q _ f.quiet n is, refl), refl)
+is_found w v m q (answer.Refused e) f n is = (inr (e, missed w v m q e f n is, refl), refl)
+is_found w v m q answer.Begun f n is = absurd (of_read system laws w v m q _ f.quiet n is)
+is_found w v m q answer.More f n is = absurd (of_read system laws w v m q _ f.quiet n is)
+is_found w v m q (answer.Committed k y) f n is = absurd (of_read system laws w v m q _ f.quiet n is)
+is_found w v m q answer.Saved f n is = absurd (of_read system laws w v m q _ f.quiet n is)
+is_found w v m q answer.Back f n is = absurd (of_read system laws w v m q _ f.quiet n is)
+is_found w v m q answer.RolledBack f n is = absurd (of_read system laws w v m q _ f.quiet n is)
+is_found w v m q (answer.Purged k) f n is = absurd (of_read system laws w v m q _ f.quiet n is)
+is_found w v m q (answer.Rewound k) f n is = absurd (of_read system laws w v m q _ f.quiet n is)
+is_found w v m q (answer.Audited y) f n is = absurd (of_read system laws w v m q _ f.quiet n is)
 
 -- HOW A RUN ENDS
 

@@ -1,11 +1,16 @@
--- A file that tells of commits: an opening, and a line for each commit.
+-- A file that tells of replies: an opening, and a line for each reply.
 use Rattle.std.specs.Prelude.{◌≡◌, ◌≢◌, ℕ, ◌+◌, ◌≤◌, ◌==◌, ◌⊎◌, All, List, [], ◌∷◌, ◌++◌, length, take}
-use Rattle.std.specs.Prelude.{codes, if◌then◌else◌}
+use Rattle.std.specs.Prelude.{codes, decimal, if◌then◌else◌}
+use Rattle.std.specs.Int.{IsInRange}
+use Rattle.std.specs.List.{join_with_byte}
+use Rattle.oe_values.specs.declared.numbers.TheConstants.{TERMINALS}
 use Rattle.oe_rows.specs.declared.scales.Scale.{Scale}
-use Rattle.oe_requests.specs.declared.requests.Request.{Request}
+use Rattle.oe_requests.specs.declared.requests.Query.{Query}
 use Rattle.oe_lines.specs.declared.commands.RingChoice.{RingChoice}
 use Rattle.oe_lines.specs.declared.commands.Command.TheVariants as command
-use Rattle.oe_lines.specs.Grammar.{Says}
+use Rattle.oe_lines.specs.Grammar.{Says, IsQuery, query_words}
+use Rattle.oe_serial.specs.declared.lines.Asked.{Asked}
+use Rattle.oe_serial.specs.declared.lines.Asked.TheVariants as asked
 use Rattle.oe_serial.specs.declared.lines.BadLines.{BadLines}
 
 -- the byte stands nowhere
@@ -37,17 +42,28 @@ last_of text = last_from [] text
 abbrev pub Parts : List ℕ → List ℕ → List ℕ → Type 0
 Parts line words text = IsParted 61 line (words ++ codes " ") (codes "> " ++ text)
 
--- the line, without its end, tells that terminal t asked for q, in the words behind a script's `begin`, and was
--- answered this text
-pub record Tells (line : List ℕ) (t : ℕ) (q : Request) (text : List ℕ) : Type 0 where
+-- the words ask for this query, behind the number of a terminal
+pub record AsksFor (words : List ℕ) (q : Query) : Type 0 where
+  pub terminal : ℕ
+  pub is_terminal : IsInRange 1 TERMINALS terminal
+  pub is_query : IsQuery q
+  pub spelled : words ≡ join_with_byte 32 (decimal terminal ∷ query_words q)
+
+-- the words ask for that: a transaction in the words behind a script's `begin`, or a query
+abbrev pub Asks : List ℕ → Asked → Type 0
+Asks words (asked.Transaction t q) = Says (codes "begin " ++ words) (command.Begin t q)
+Asks words (asked.Query q) = AsksFor words q
+
+-- the line, without its end, tells what was asked for, and that it was answered this text
+pub record Tells (line : List ℕ) (a : Asked) (text : List ℕ) : Type 0 where
   pub short : length line ≤ 1_024
   pub words : List ℕ
   pub parts : Parts line words text
-  pub asks : Says (codes "begin " ++ words) (command.Begin t q)
+  pub asks : Asks words a
 
--- it tells of some commit
+-- it tells of some reply
 abbrev pub IsTold : List ℕ → Type 0
-IsTold line = (t : ℕ) × (q : Request) × (text : List ℕ) × Tells line t q text
+IsTold line = (a : Asked) × (text : List ℕ) × Tells line a text
 
 -- it opens that scale, with any undo ring
 pub record Opens (line : List ℕ) (s : Scale) : Type 0 where
@@ -62,7 +78,7 @@ abbrev pub Unopened : List ℕ → List ℕ → Type 0
 Unopened line bad =
     ((s : Scale) × Opens line s × (bad ≡ [])) ⊎ (((s : Scale) → Opens line s → ⊥) × (bad ≡ 1 ∷ []))
 
--- of these lines, the first of which is the n-th, those that tell of no commit
+-- of these lines, the first of which is the n-th, those that tell of no reply
 abbrev pub Untold : ℕ → List (List ℕ) → List ℕ → Type 0
 Untold n [] bad = bad ≡ []
 Untold n (line ∷ lines) bad =

@@ -1,11 +1,11 @@
--- Transactions one at a time: each finds the tables and counts that those before it left.
+-- Transactions one at a time: each finds the tables and counts that those before it left; queries between them.
 use Rattle.std.specs.Prelude.{◌≡◌, ◌≢◌, ℕ, suc, ◌⊎◌, Some, None}
-use Rattle.oe_theory.specs.Machine.{Machine, Stop, Fail, Tx}
+use Rattle.oe_theory.specs.Machine.{Machine, Stop, Fail, Tx, Here, Missing}
 use Rattle.oe_theory.specs.World.{World, State, Open, bump, overlay, latest, counts_now}
 use Rattle.oe_theory.specs.Laws.{Alone, IsAsked, all_held}
 
 module _ (M : Machine) where
-  open M use {Map, Request, Reply, Refusal}
+  open M use {Map, Request, Reply, Refusal, Query, Found}
 
   -- between two transactions: the tables, and how many each terminal has committed
   pub record Between : Type 0 where
@@ -51,6 +51,15 @@ module _ (M : Machine) where
       (M.rejection q b.rows ≡ Some e)
       ⊎ ((M.rejection q b.rows ≡ None) × (M.number_rejection (suc (b.counts t)) ≡ Some e))
       ⊎ RollsBack b t q e
+
+  -- in these tables a query finds that
+  abbrev pub Finds : Map → Query → Found → Type 0
+  Finds r q f = (M.query_rejection q r ≡ None) × (M.find q r ≡ Here f)
+
+  -- or is refused: since its warehouse is absent, or since what it asks for is
+  abbrev pub Misses : Map → Query → Refusal → Type 0
+  Misses r q e =
+      (M.query_rejection q r ≡ Some e) ⊎ ((M.query_rejection q r ≡ None) × (M.find q r ≡ Missing e))
 
   -- what commits have left
   abbrev pub between : World M → Between

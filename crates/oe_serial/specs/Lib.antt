@@ -1,5 +1,6 @@
 -- What the clauses of this crate cite.
 pub mod InOrder
 pub mod Files
+pub mod Answers
 pub mod Verdicts
 pub mod Worlds

@@ -1,18 +1,15 @@
--- Whether lines tell of commits as their transactions make them, run one at a time in this order.
-use Rattle.std.specs.Prelude.{◌≡◌, ◌≢◌, ℕ, ◌+◌, ◌≤◌, ◌⊎◌, All, Option, Result, Ok, Err, List, [], ◌∷◌, ◌++◌, length}
+-- Whether lines tell the replies that what they ask for has, one after another in this order.
+use Rattle.std.specs.Prelude.{◌≡◌, ◌≢◌, ℕ, ◌+◌, ◌≤◌, All, Option, Result, Ok, Err, List, [], ◌∷◌, ◌++◌, length}
 use Rattle.std.specs.Prelude.{codes, decimal}
 use Rattle.oe_rows.specs.declared.scales.Scale.{Scale}
-use Rattle.oe_requests.specs.declared.requests.Request.{Request}
-use Rattle.oe_requests.specs.declared.replies.Reply.{Reply}
-use Rattle.oe_requests.specs.declared.refusals.Refusal.{Refusal}
-use Rattle.oe_texts.specs.Reply.{reply_text}
-use Rattle.oe_texts.specs.Refusal.{error_text}
 use Rattle.oe_model.specs.Rows.{Rows}
 use Rattle.oe_model.specs.Population.{IsPopulated}
 use Rattle.oe_model.specs.System.{system}
 use Rattle.oe_ports.specs.Ports.{Sink, Sent, Cut}
 use Rattle.oe_store.specs.Places.{rows}
-use Rattle.oe_serial.specs.InOrder.{Between, at_first, Commits, Refuses}
+use Rattle.oe_serial.specs.InOrder.{Between, at_first}
+use Rattle.oe_serial.specs.declared.lines.Asked.{Asked}
+use Rattle.oe_serial.specs.Answers.{Answers}
 use Rattle.oe_serial.specs.Files.{Tells, IsTold, Opens, lines_of, last_of, AreBad, Shows}
 use Rattle.oe_serial.specs.declared.verdicts.Verdict.{Verdict}
 use Rattle.oe_serial.specs.declared.verdicts.Verdict.TheVariants as verdict
@@ -21,24 +18,19 @@ use Rattle.oe_serial.specs.declared.verdicts.Decision.TheVariants as decision
 use Rattle.oe_serial.specs.declared.reports.SerialFault.{SerialFault}
 use Rattle.oe_serial.specs.declared.reports.SerialFault.TheVariants as fault
 
--- the line's transaction commits, and the text of its reply is the line's
+-- what the line asks for is answered as it tells
 abbrev pub Agrees : Between system → List ℕ → Between system → Type 0
-Agrees b line b' = (t : ℕ) × (q : Request) × (y : Reply) × Tells line t q (reply_text y) × Commits system b t q y b'
+Agrees b line b' = (a : Asked) × (text : List ℕ) × Tells line a text × Answers b a text b'
 
 -- lines agree, one after another
 abbrev pub AreSerial : Between system → List (List ℕ) → Between system → Type 0
 AreSerial b [] b' = b' ≡ b
 AreSerial b (line ∷ lines) b' = (mid : Between system) × Agrees b line mid × AreSerial mid lines b'
 
--- a transaction commits with a reply of another text than `theirs`, or is refused; `ours` is the text that it is
--- answered
-abbrev pub Gives : Between system → ℕ → Request → List ℕ → List ℕ → Type 0
-Gives b t q theirs ours =
-    ((y : Reply) × (b' : Between system) × Commits system b t q y b' × (ours ≡ reply_text y) × (theirs ≢ ours))
-    ⊎ ((e : Refusal) × Refuses system b t q e × (ours ≡ error_text e))
-
+-- it tells `theirs`, and is answered another text, `ours`
 abbrev pub Differs : Between system → List ℕ → List ℕ → List ℕ → Type 0
-Differs b line theirs ours = (t : ℕ) × (q : Request) × Tells line t q theirs × Gives b t q theirs ours
+Differs b line theirs ours =
+    (a : Asked) × (b' : Between system) × Tells line a theirs × Answers b a ours b' × (theirs ≢ ours)
 
 -- the lines before one agree, and that one, of this number, does not; the opening is line 1
 pub record IsFirstOther (b : Between system) (lines : List (List ℕ)) (number : ℕ) (theirs ours : List ℕ) : Type 0 where
@@ -57,7 +49,7 @@ IsVerdict b lines (verdict.Serial n) ours end = AreSerial b lines end × (n ≡ 
 IsVerdict b lines (verdict.Differs number theirs) ours end = IsFirstOther b lines number theirs.now ours
 IsVerdict b lines (verdict.Unreadable bad) ours end = ⊥
 
--- the file opens a scale, each of its other lines tells of a commit, and this is the verdict on them from that scale's
+-- the file opens a scale, each of its other lines tells of a reply, and this is the verdict on them from that scale's
 -- population
 pub record IsOfFile (input : List ℕ) (v : Verdict) (ours : List ℕ) (end : Between system) : Type 0 where
   pub opening : List ℕ

@@ -6,15 +6,13 @@ use Rattle.oe_requests.specs.declared.requests.Request.{Request}
 use Rattle.oe_requests.specs.declared.replies.Reply.{Reply}
 use Rattle.oe_requests.specs.declared.refusals.Refusal.{Refusal}
 use Rattle.oe_requests.specs.declared.refusals.Refusal.TheVariants as refusal
-use Rattle.oe_texts.specs.Reply.{reply_text}
-use Rattle.oe_texts.specs.Refusal.{error_text}
 use Rattle.oe_model.specs.System.{system}
 use Rattle.oe_core.specs.declared.advances.Advanced.{Advanced}
 use Rattle.oe_core.specs.declared.advances.Advanced.TheVariants as advanced
 use Rattle.oe_admission.specs.Programs.{IsLive}
 use Rattle.oe_serial.specs.InOrder.{Between, Commits, Refuses, between, HasOpen}
-use Rattle.oe_serial.specs.declared.alone.Outcome.{Outcome}
-use Rattle.oe_serial.specs.declared.alone.Outcome.TheVariants as outcome
+use Rattle.oe_serial.specs.declared.lines.Asked.{Asked}
+use Rattle.oe_serial.specs.Answers.{Answers}
 use Rattle.oe_serial.specs.declared.verdicts.Shortage.{Shortage}
 use Rattle.oe_serial.specs.declared.verdicts.Shortage.TheVariants as shortage
 
@@ -39,13 +37,12 @@ abbrev pub Ends : Between system → ℕ → Request → Advanced → Option Rep
 Ends b t q advanced.More last w = ⊥
 Ends b t q (advanced.Committed m) last w =
     (y : Reply) × (last ≡ Some y) × Commits system b t q y (between system w) × IsFree w
-Ends b t q (advanced.Refused e) last w = shortage_of e ≡ None → Refuses system b t q e
+Ends b t q (advanced.Refused e) last w =
+    shortage_of e ≡ None → Refuses system b t q e × (between system w ≡ b) × IsFree w
 
--- and answered this text
-abbrev pub IsAnswered : Between system → ℕ → Request → Outcome → List ℕ → World system → Type 0
-IsAnswered b t q outcome.Committed text w =
-    (y : Reply) × Commits system b t q y (between system w) × IsFree w × (text ≡ reply_text y)
-IsAnswered b t q outcome.Refused text w = (e : Refusal) × Refuses system b t q e × (text ≡ error_text e)
+-- what is asked for is answered this text, alone
+abbrev pub IsAnswered : Between system → Asked → List ℕ → World system → Type 0
+IsAnswered b a text w = Answers b a text (between system w) × IsFree w
 
 -- what stands before the reply in a commit's answer
 abbrev pub commit_front : ℕ → List ℕ

@@ -1,23 +1,20 @@
-//! One transaction alone in a core: it is begun where nothing is open, carried out to its end, and
-//! forgotten once its answer is known, so that no more work is kept than one transaction's.
+//! One transaction or query alone in a core. A transaction is begun where nothing is open, carried
+//! out to its end, and forgotten once its answer is known, so that no more work is kept than one
+//! transaction's.
 ghost use Rattle.std.specs.Prelude.{◌≡◌, IfOk};
+ghost use Rattle.oe_serial.specs.declared.lines.Asked.TheVariants as asked;
+ghost use Rattle.oe_serial.specs.Answers.{Answers};
 ghost use Rattle.oe_core.specs.Core.{world_of, last_reply};
 ghost use Rattle.oe_model.specs.System.{system};
 ghost use Rattle.oe_serial.specs.InOrder.{between};
 ghost use Rattle.oe_serial.specs.Worlds.{IsFree, Ends, IsAnswered, shortage_of};
 
-use crate::answers::{AnswerText, write_refusal, write_reply};
+use crate::answers::{AnswerText, write_answer, write_refusal, write_reply};
+use crate::lines::Asked;
 use crate::verdicts::Shortage;
 use oe_core::{Advanced, Core};
-use oe_requests::{Refusal, Request};
+use oe_requests::{Query, Refusal, Request};
 use oe_values::Terminal;
-
-/// How a transaction that ran alone has ended.
-#[derive(Clone, Copy)]
-pub(crate) enum Outcome {
-    Committed,
-    Refused,
-}
 
 // Begins a transaction and carries it out to its end.
 fn carried_out(core: &mut Core, terminal: Terminal, request: &Request) -> Advanced
@@ -56,32 +53,58 @@ fn shortage(refusal: &Refusal) -> Option<Shortage>
     }
 }
 
-/// Carries a transaction out alone, and writes the text that it is answered.
+// Carries a transaction out alone, and writes the text that it is answered.
 #[tactic(none)]
-pub(crate) fn answered(
+fn transacted(
     core: &mut Core,
     terminal: Terminal,
     request: &Request,
     out: &mut AnswerText,
-) -> Result<Outcome, Shortage>
+) -> Result<(), Shortage>
     requires { IsFree (world_of core.old) }
-    ensures { IfOk result (λ o. IsAnswered (between system (world_of core.old)) terminal
-        request.now o out.new.items (world_of core.new)) }
+    ensures { IfOk result (λ o. IsAnswered (between system (world_of core.old))
+        (asked.Transaction terminal request.now) out.new.items (world_of core.new)) }
 {
     out.clear();
     match carried_out(core, terminal, request) {
         Advanced::Committed(moment) => {
             write_reply(core, terminal, moment, out);
             forget(core);
-            Ok(Outcome::Committed)
+            Ok(())
         }
         Advanced::Refused(refusal) => match shortage(&refusal) {
             Some(shortage) => Err(shortage),
             None => {
                 write_refusal(&refusal, out);
-                Ok(Outcome::Refused)
+                Ok(())
             }
         },
         Advanced::More => unreachable!(),
+    }
+}
+
+// Writes the text that a query of the tables as they stand is answered.
+#[tactic(none)]
+fn enquired(core: &Core, query: &Query, out: &mut AnswerText)
+    requires { IsFree (world_of core.now) }
+    ensures { Answers (between system (world_of core.now)) (asked.Query query.now) out.new.items
+        (between system (world_of core.now)) }
+{
+    out.clear();
+    write_answer(&core.read(core.newest(), query), out);
+}
+
+/// Has one transaction or query answered, alone, and writes the text of its answer.
+pub(crate) fn answered(core: &mut Core, asked: &Asked, out: &mut AnswerText) -> Result<(), Shortage>
+    requires { IsFree (world_of core.old) }
+    ensures { IfOk result (λ o. IsAnswered (between system (world_of core.old)) asked.now
+        out.new.items (world_of core.new)) }
+{
+    match asked {
+        Asked::Transaction(terminal, request) => transacted(core, *terminal, request, out),
+        Asked::Query(query) => {
+            enquired(core, query, out);
+            Ok(())
+        }
     }
 }

@@ -1,7 +1,7 @@
-//! The text that a transaction is answered, cut out of the line of its answer.
+//! The text that a transaction or a query is answered, cut out of the line of its answer.
 ghost use Rattle.std.specs.Prelude.{◌≡◌, ◌≤◌, ◌+◌, ◌++◌, [], ℕ, List, Some, length, codes};
 ghost use Rattle.arrayvec.specs.ArrayVec.{array_vec_len};
-ghost use Rattle.oe_texts.specs.Answer.{answer_line};
+ghost use Rattle.oe_texts.specs.Answer.{answer_line, answer_text};
 ghost use Rattle.oe_texts.specs.Refusal.{error_text};
 ghost use Rattle.oe_texts.specs.Reply.{reply_text};
 ghost use Rattle.oe_requests.specs.declared.answers.Answer.{Answer};
@@ -11,11 +11,11 @@ ghost use Rattle.oe_core.specs.Core.{last_reply};
 use crate::texts::commit_front;
 use arrayvec::ArrayVec;
 use oe_core::Core;
-use oe_requests::Refusal;
-use oe_texts::{LONGEST, Pending, SIZE, committed, refused};
+use oe_requests::{Answer, Refusal};
+use oe_texts::{LONGEST, Pending, SIZE, answer, committed, refused};
 use oe_values::{Moment, Terminal};
 
-/// The text that a transaction is answered.
+/// The text that a transaction or a query is answered.
 pub type AnswerText = ArrayVec<u8, LONGEST>;
 
 // Appends these bytes.
@@ -71,5 +71,15 @@ pub(crate) fn write_refusal(refusal: &Refusal, out: &mut AnswerText)
 {
     let mut line = Pending::new();
     refused(&mut line, refusal);
+    put(out, inner(line.as_slice(), b""));
+}
+
+/// Writes the text of an answer.
+pub(crate) fn write_answer(given: &Answer, out: &mut AnswerText)
+    requires { out.old.items ≡ [] }
+    ensures { out.new.items ≡ answer_text given.now }
+{
+    let mut line = Pending::new();
+    answer(&mut line, given);
     put(out, inner(line.as_slice(), b""));
 }

@@ -1,5 +1,5 @@
-//! Whether the replies of another engine are those of its transactions run one at a time, in the
-//! order of their commits. Clause numbers are TPC Benchmark C 5.11's.
+//! Whether the replies of another engine are those of its transactions and queries one at a time,
+//! in the order in which it says that they took effect. Clause numbers are TPC Benchmark C 5.11's.
 #![tactic(auto)]
 
 mod alone;

@@ -1,25 +1,26 @@
-//! The lines of a file: its opening, and a line for each commit. A line has at most 1,024 bytes
+//! The lines of a file: its opening, and a line for each reply. A line has at most 1,024 bytes
 //! before its end, as in a script.
-ghost use Rattle.std.specs.Prelude.{◌≡◌, ◌≤◌, ◌<◌, ◌^◌, ◌+◌, ◌++◌, ◌∷◌, [], ℕ, List, length, take, IsTrue, ◌↔◌, MatchOption, codes};
+ghost use Rattle.std.specs.Prelude.{◌≡◌, ◌≤◌, ◌<◌, ◌^◌, ◌+◌, ◌++◌, ◌∷◌, [], ℕ, List, length, take, IfSome, IsTrue, ◌↔◌, MatchOption, codes};
 ghost use Rattle.oe_rows.specs.declared.scales.Scale.{Scale};
+ghost use Rattle.oe_requests.specs.declared.requests.Query.{Query};
 ghost use Rattle.oe_requests.specs.declared.requests.Request.{Request};
 ghost use Rattle.oe_lines.specs.Grammar.{Says};
+ghost use Rattle.oe_lines.specs.declared.commands.Command.{Command};
 ghost use Rattle.oe_lines.specs.declared.commands.Command.TheVariants as asks;
-ghost use Rattle.oe_serial.specs.Files.{IsWithout, IsParted, Parts, IsTold, Opens, lines_of, last_of, unended, Unopened, Untold, AreBad, Shows};
+ghost use Rattle.oe_lines.specs.declared.commands.MomentChoice.TheVariants as moment;
+ghost use Rattle.oe_serial.specs.declared.lines.Asked.{Asked};
+ghost use Rattle.oe_serial.specs.Files.{IsWithout, IsParted, Parts, AsksFor, Asks, IsTold, Opens, lines_of, last_of, unended, Unopened, Untold, AreBad, Shows};
 
 use arrayvec::ArrayVec;
 use memchr::memchr;
-use oe_lines::{Command, command};
-use oe_requests::Request;
+use oe_lines::{Command, MomentChoice, command};
+use oe_requests::{Query, Request};
 use oe_rows::Scale;
 use oe_values::Terminal;
 use oe_values::fronts::after;
 
 /// No line has more bytes before its end.
 const LINE: usize = 1_024;
-
-/// What stands before a line's words in a script, where they begin a transaction.
-const BEGIN: &[u8; 6] = b"begin ";
 
 /// The lines of no form: the numbers of the first twenty, and how many there are.
 #[derive(Drop)]
@@ -28,11 +29,13 @@ pub struct BadLines {
     pub count: u128,
 }
 
-/// A transaction that a terminal asked for.
+/// What a line asks for.
 #[derive(Drop)]
-pub(crate) struct Asked {
-    pub(crate) terminal: Terminal,
-    pub(crate) request: Request,
+pub(crate) enum Asked {
+    /// The terminal's next transaction.
+    Transaction(Terminal, Request),
+    /// A query of the tables where it stands.
+    Query(Query),
 }
 
 /// Parts bytes where a byte stands first: what is before it, and what is behind it.
@@ -78,26 +81,94 @@ pub(crate) fn told(line: &[u8]) -> Option<(&[u8], &[u8])>
     Some((words, text))
 }
 
-/// Reads the transaction that words ask for.
-pub(crate) fn read_request(words: &[u8]) -> Option<Asked>
+// Reads the command that words ask for behind others.
+fn command_behind(front: &[u8], words: &[u8]) -> Option<Command>
+    requires front { length front.now ≤ 9 }
+    requires words { length words.now ≤ 1_024 }
+    ensures found { IfSome result (λ c. Says (front.now ++ words.now) c) }
+    ensures only { (c : Command) → Says (front.now ++ words.now) c → result ≡ Some c }
+{
+    let mut line: ArrayVec<u8, 1_033> = ArrayVec::new();
+    line.try_extend_from_slice(front).unwrap();
+    line.try_extend_from_slice(words).unwrap();
+    command(line.as_slice())
+}
+
+// Reads the transaction that words ask for.
+fn read_transaction(words: &[u8]) -> Option<(Terminal, Request)>
     requires { length words.now ≤ 1_024 }
     ensures { MatchOption result
         ((t : ℕ) (q : Request) → Says (codes "begin " ++ words.now) (asks.Begin t q) → ⊥)
-        (λ a. Says (codes "begin " ++ words.now) (asks.Begin a.terminal a.request)) }
+        (λ a. Says (codes "begin " ++ words.now) (asks.Begin a.0 a.1)) }
 {
-    let mut line: ArrayVec<u8, 1_030> = ArrayVec::new();
-    line.try_extend_from_slice(BEGIN).unwrap();
-    line.try_extend_from_slice(words).unwrap();
-    let Some(command) = command(line.as_slice()) else {
+    let Some(command) = command_behind(b"begin ", words) else {
         return None;
     };
     match command {
-        Command::Begin(terminal, request) => Some(Asked { terminal, request }),
+        Command::Begin(terminal, request) => Some((terminal, request)),
         _ => None,
     }
 }
 
-// Tells whether a line tells of a commit.
+// Tells whether a word is a terminal's number.
+fn is_terminal(word: &[u8]) -> bool
+    requires { length word.now ≤ 1_024 }
+    ensures { IsTrue result ↔ ((t : ℕ) × Says (codes "next " ++ word.now) (asks.Next t)) }
+{
+    let Some(command) = command_behind(b"next ", word) else {
+        return false;
+    };
+    matches!(command, Command::Next(_))
+}
+
+// Reads the query that words ask for, behind no terminal.
+fn read_asked(words: &[u8]) -> Option<Query>
+    requires { length words.now ≤ 1_024 }
+    ensures { MatchOption result
+        ((q : Query) → Says (codes "read now " ++ words.now) (asks.Read moment.Now q) → ⊥)
+        (λ q. Says (codes "read now " ++ words.now) (asks.Read moment.Now q)) }
+{
+    let Some(command) = command_behind(b"read now ", words) else {
+        return None;
+    };
+    match command {
+        Command::Read(moment, query) => match moment {
+            MomentChoice::Now => Some(query),
+            MomentChoice::At(_) => None,
+        },
+        _ => None,
+    }
+}
+
+// Reads the query that words ask for.
+fn read_query(words: &[u8]) -> Option<Query>
+    requires { length words.now ≤ 1_024 }
+    ensures { MatchOption result ((q : Query) → AsksFor words.now q → ⊥) (AsksFor words.now) }
+{
+    let Some((front, behind)) = parted_at(words, b' ') else {
+        return None;
+    };
+    if !is_terminal(front) {
+        return None;
+    }
+    read_asked(behind)
+}
+
+/// Reads what words ask for.
+pub(crate) fn read_words(words: &[u8]) -> Option<Asked>
+    requires { length words.now ≤ 1_024 }
+    ensures { MatchOption result ((a : Asked) → Asks words.now a → ⊥) (Asks words.now) }
+{
+    if let Some(query) = read_query(words) {
+        return Some(Asked::Query(query));
+    }
+    match read_transaction(words) {
+        Some((terminal, request)) => Some(Asked::Transaction(terminal, request)),
+        None => None,
+    }
+}
+
+// Tells whether a line tells of a reply.
 fn is_told(line: &[u8]) -> bool
     ensures { IsTrue result ↔ IsTold line.now }
 {
@@ -107,7 +178,7 @@ fn is_told(line: &[u8]) -> bool
     let Some((words, _)) = told(line) else {
         return false;
     };
-    read_request(words).is_some()
+    read_words(words).is_some()
 }
 
 /// Reads the scale that a line opens.
@@ -173,7 +244,7 @@ fn note_opening(bad: &mut BadLines, line: &[u8])
     }
 }
 
-// Notes a line of a number, where it tells of no commit.
+// Notes a line of a number, where it tells of no reply.
 fn note_line(bad: &mut BadLines, number: u128, line: &[u8])
     requires { bad.old.count + 1 < 2 ^ 128 }
     ensures shown { (more : List ℕ) × Untold number (line.now ∷ []) more

@@ -67,7 +67,7 @@ pub fn write_verdict<W: Outlet>(
     flush(&mut out, writer)
 }
 
-/// Decides whether a file's lines tell of commits as their transactions make them, run one at a
+/// Decides whether a file's lines tell the replies that its transactions and queries have, one at a
 /// time in this order, and writes the verdict. Nothing is written where lines have no form: they
 /// are part of the verdict then.
 pub fn run_serial<'a, W: Outlet>(

@@ -1,5 +1,5 @@
-//! The verdict on a file: each line's transaction is run alone, in order, and what it is answered
-//! is compared with what the line tells.
+//! The verdict on a file: each line's transaction or query runs alone, in order, and what it is
+//! answered is compared with what the line tells.
 ghost use Rattle.std.specs.Prelude.{◌≡◌, IfOk, MatchOption};
 ghost use Rattle.std.specs.List.{All};
 ghost use Rattle.oe_core.specs.Core.{world_of};
@@ -11,9 +11,9 @@ ghost use Rattle.oe_serial.specs.Files.{IsTold, lines_of};
 ghost use Rattle.oe_serial.specs.Worlds.{IsFree};
 ghost use Rattle.oe_serial.specs.Verdicts.{Agrees, Differs, IsVerdict, verdict_of, Leaves, IsDecision};
 
-use crate::alone::{Outcome, answered};
+use crate::alone::answered;
 use crate::answers::AnswerText;
-use crate::lines::{BadLines, bad_lines, opening, parted_at, read_request, told};
+use crate::lines::{BadLines, bad_lines, opening, parted_at, read_words, told};
 use oe_core::Core;
 use oe_population::populate;
 use oe_rows::{Layout, Scale};
@@ -25,7 +25,7 @@ use thiserror::Error;
 /// What a file comes to.
 #[derive(Drop)]
 pub enum Verdict<'a> {
-    /// So many transactions agree, and there is no other.
+    /// So many lines agree, and there is no other.
     Serial(u128),
     /// The line of that number is the first that disagrees, and tells that text.
     Differs(u128, &'a [u8]),
@@ -36,7 +36,7 @@ pub enum Verdict<'a> {
 /// A verdict, with the tables that a serial file's transactions leave.
 #[derive(Drop)]
 pub enum Decision<'a> {
-    /// So many transactions agree, there is no other, and they leave these tables.
+    /// So many lines agree, there is no other, and they leave these tables.
     Serial(u128, Tables),
     /// The line of that number is the first that disagrees, and tells that text.
     Differs(u128, &'a [u8]),
@@ -55,8 +55,8 @@ pub enum Shortage {
     UndoFull,
 }
 
-// Compares what a line tells with what its transaction is answered: gives the line's text where
-// they differ, and leaves the transaction's in `ours`.
+// Compares what a line tells with what it asks for is answered: gives the line's text where they
+// differ, and leaves the answer's in `ours`.
 #[tactic(none)]
 fn other_text<'a>(
     core: &mut Core,
@@ -74,19 +74,16 @@ fn other_text<'a>(
     let Some((words, theirs)) = told(line) else {
         unreachable!()
     };
-    let Some(asked) = read_request(words) else {
+    let Some(asked) = read_words(words) else {
         unreachable!()
     };
-    match answered(core, asked.terminal, &asked.request, ours) {
-        Err(shortage) => Err(shortage),
-        Ok(Outcome::Refused) => Ok(Some(theirs)),
-        Ok(Outcome::Committed) => {
-            if theirs == ours.as_slice() {
-                return Ok(None);
-            }
-            Ok(Some(theirs))
-        }
+    if let Err(shortage) = answered(core, &asked, ours) {
+        return Err(shortage);
     }
+    if theirs == ours.as_slice() {
+        return Ok(None);
+    }
+    Ok(Some(theirs))
 }
 
 // Compares lines in order, up to the first that disagrees.
@@ -167,10 +164,11 @@ impl<'a> Decision<'a> {
     }
 }
 
-/// Decides whether a file's lines tell of commits as their transactions make them, run one at a
-/// time in this order from the population of its scale. Where they do, the tables that these
-/// transactions leave are part of the decision. Where they don't, `ours` is the text that this
-/// order gives in place of the first line's that disagrees.
+/// Decides whether a file's lines tell the replies that its transactions and queries have, one at a
+/// time in this order from the population of its scale. A transaction may be told to be refused: it
+/// has changed nothing then. Where all lines agree, the tables that the transactions leave are part
+/// of the decision. Where one doesn't, `ours` is the text that this order gives in place of the
+/// first such line's.
 ///
 /// A `Shortage` is a want of memory or of undo extents: nothing is decided then.
 #[tactic(none)]

@@ -1,9 +1,9 @@
 #![tactic(auto)]
-//! An order-entry server that answers scripts and makes them, decides on files of commits, audits
+//! An order-entry server that answers scripts and makes them, decides on files of replies, audits
 //! files of tables and runs drives. Clause numbers are TPC Benchmark C 5.11's.
 //!
 //! This file is trusted: it has no contract. It hands the script's bytes to `run_script` or
-//! `explain_script`, whose contracts tell all that is answered; those of a file of commits to
+//! `explain_script`, whose contracts tell all that is answered; those of a file of replies to
 //! `run_serial`, whose contract tells the verdict, or with those of nine tables to
 //! `run_comparison`, whose contract tells what differs too; those of nine tables alone to
 //! `run_audit`, whose contract tells the report; the numbers of a load to `run_load`, whose
@@ -177,7 +177,7 @@ fn explain<R: Print + Eprint + AllocGlobal, T: Read + Drop>(
     }
 }
 
-/// Says why a file of commits can't be read.
+/// Says why a file of replies can't be read.
 fn tell_no_commits<R: Eprint>(rt: &R, name: &str, error: &io::Error) -> io::Result<ExitCode> {
     if error.kind() == IoKind::OutOfMemory {
         return fail(rt, SystemFault::NoMemory);
@@ -196,7 +196,7 @@ fn decide<R: Print + Eprint + AllocGlobal>(rt: &R, input: &[u8]) -> io::Result<E
     }
 }
 
-/// Tells which lines of a file of commits have no form, and gives the status of a verdict.
+/// Tells which lines of a file of replies have no form, and gives the status of a verdict.
 fn tell_replies<R: Eprint>(rt: &R, verdict: &Verdict<'_>) -> io::Result<ExitCode> {
     if let Verdict::Unreadable(bad) = verdict {
         tell_bad_lines(rt, bad)?;
@@ -230,7 +230,7 @@ fn answer_load<R: Print + Eprint + AllocGlobal>(
     }
 }
 
-/// Tells that a line of a file of commits has no form.
+/// Tells that a line of a file of replies has no form.
 fn tell_bad_line<R: Eprint>(rt: &R, number: u128) -> io::Result<()> {
     if number == 1 {
         return eprintln!(rt; "line 1: no opening");
@@ -238,7 +238,7 @@ fn tell_bad_line<R: Eprint>(rt: &R, number: u128) -> io::Result<()> {
     eprintln!(rt; "line {number}: no request and reply")
 }
 
-/// Tells which lines of a file of commits have no form.
+/// Tells which lines of a file of replies have no form.
 fn tell_bad_lines<R: Eprint>(rt: &R, bad: &BadLines) -> io::Result<()> {
     for number in bad.first.as_slice() {
         tell_bad_line(rt, *number)?;
@@ -280,7 +280,7 @@ fn tell_stop<R: Eprint, F>(
     }
 }
 
-/// Tells which lines can't be read, of a file of commits or of tables, and gives the status.
+/// Tells which lines can't be read, of a file of replies or of tables, and gives the status.
 fn tell_comparison<R: Eprint>(
     rt: &R,
     errors: &Stderr,

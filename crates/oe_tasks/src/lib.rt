@@ -153,12 +153,13 @@ the tables with a new population. It writes two lines:
   conditions 1 2 3 4 hold, or condition N fails
   population restored, or population differs
 
-A file of commits begins with a line open W C I E, as a script. Each other line tells of a
-commit of another engine, in their order: T, the words of the request as behind a script's
-begin T, then \" => \", and the reply as behind commit MOMENT. It writes one line:
-  serial COUNT       each reply is that of its transaction, run alone behind those before it
+A file of replies begins with a line open W C I E, as a script. Each other line tells of a
+reply of another engine, in their order: T, the words of the request as behind a script's
+begin T, or of a query as behind read MOMENT, then \" => \", and the reply as behind commit
+MOMENT, or error NUMBER CAUSE where it was refused. It writes one line:
+  serial COUNT       each reply is that of its request or query, alone behind those before it
   line N: \"REPLY\", in this order \"REPLY\"
-                     the first line whose transaction replies otherwise, or is refused
+                     the first line that is answered otherwise
 or, on standard error, which lines have no form (line N: no request and reply).
 Where they are serial and --tables names a directory, it reads the nine files of DIR as an
 audit does, and compares their rows with the tables that these transactions leave. It writes a
@@ -183,13 +184,13 @@ status, delivery, level). It writes a script in which their stages overlap, and 
 answered no error but Busy: a cycle of waits ends by a rollback, and purge now makes room.
 With --flat it writes the opening, and for each request a line T REQUEST.
 
-The status is 0 at the end of a script's input, whatever the answers, for a file of commits
+The status is 0 at the end of a script's input, whatever the answers, for a file of replies
 that is serial and whose tables are the same, for a drive whose conditions hold and whose
 population is restored, for an audit that finds nothing, and for a load that is written whole;
-1 for any other file of commits, drive, audit or load, after a fault, which standard error
+1 for any other file of replies, drive, audit or load, after a fault, which standard error
 names (fault: read, fault: write, fault: output closed, fault: no memory, fault: no undo
 extents), and for a FILE that can't be opened; and 2 where the command line is none of these,
-a line of a file of commits has no form, or a file of tables can't be read.
+a line of a file of replies has no form, or a file of tables can't be read.
 docs/SCRIPTS.md is the manual: stages, locks, refusals and columns; examples/ has scripts.";
 
 /// Finds what these words ask for; the first is the program's name.
@@ -266,7 +267,7 @@ fn explain_of<'a, S: AsStr>(words: &'a [S]) -> Option<Task<'a>>
     }
 }
 
-// Finds the file of commits that these words ask for, with the directory of tables, if any.
+// Finds the file of replies that these words ask for, with the directory of tables, if any.
 fn serial_of<'a, S: AsStr>(words: &'a [S]) -> Option<Task<'a>>
     ensures { MatchOption result
         ((task : Task) → AsksSerial (map S.text words.now) task → ⊥)
@@ -615,7 +616,7 @@ fn script_grammar<'a>(alloc: Global) -> Result<Command<'a>, Error> {
     Ok(command)
 }
 
-/// Makes the grammar of a file of commits.
+/// Makes the grammar of a file of replies.
 fn serial_grammar<'a>(alloc: Global) -> Result<Command<'a>, Error> {
     let command = command(alloc, "serial", SERIAL)
         .arg(Arg::new(alloc, "FILE").help("An opening, and a line for each commit"))?

@@ -1,8 +1,8 @@
-use Rattle.std.proofs.Common.{lit<, sym, subst, ◌∙◌}
+use Rattle.std.proofs.Common.{lit<, sym, subst, ◌∙◌, inl, inr}
 use Rattle.oe_model.specs.System.{system}
 use Rattle.oe_core.specs.Core.{world_of}
 use Rattle.oe_serial.specs.InOrder.{Between, Commits, between}
-use Rattle.oe_serial.proofs.alone.answered.Goals as goal
+use Rattle.oe_serial.proofs.alone.transacted.Goals as goal
 
 pub clear-requires : goal.clear-requires
 clear-requires c = lit< tt
@@ -31,17 +31,17 @@ unreachable-unreachable c = c.in-More.ensures
 pub returns-in-Committed : goal.returns-in-Committed
 returns-in-Committed c =
     let e = c.in-Committed.ensures in (
-      e.0,
-      subst (λ (z : Between system). Commits system (between system (world_of c.args.core.now)) c.args.terminal
-          c.args.request.now e.0 z)
-          (sym c.forget.ensures.same) e.2,
+      inl (
+        e.0,
+        subst (λ (z : Between system). Commits system (between system (world_of c.args.core.now)) c.args.terminal
+            c.args.request.now e.0 z)
+            (sym c.forget.ensures.same) e.2,
+        c.write_reply.ensures e.0 e.1,
+      ),
       c.forget.ensures.free,
-      c.write_reply.ensures e.0 e.1,
     )
 
 pub returns-in-None : goal.returns-in-None
-returns-in-None c = (
-  c.in-Refused.refusal,
-  c.in-Refused.ensures (sym c.shortage.ensures ∙ c.in-None.is),
-  c.write_refusal.ensures,
-)
+returns-in-None c =
+    let e = c.in-Refused.ensures (sym c.shortage.ensures ∙ c.in-None.is) in
+    (inr (c.in-Refused.refusal, e.0, c.write_refusal.ensures, e.1), e.2)
