@@ -3,6 +3,9 @@ mod LineFacts
 mod QueryFacts
 mod ToldFacts
 mod BadFacts
+mod ReasonFacts
+mod ListFacts
+mod OtherFacts
 mod AloneFacts
 mod WorkFacts
 mod AnswerFacts

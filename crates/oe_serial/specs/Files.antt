@@ -1,5 +1,6 @@
 -- A file that tells of replies: an opening, and a line for each reply.
-use Rattle.std.specs.Prelude.{◌≡◌, ◌≢◌, ℕ, ◌+◌, ◌≤◌, ◌==◌, ◌⊎◌, All, List, [], ◌∷◌, ◌++◌, length, take}
+use Rattle.std.specs.Prelude.{◌≡◌, ◌≢◌, ℕ, ◌+◌, ◌≤◌, ◌<◌, ◌==◌, ◌⊎◌, All, List, [], ◌∷◌, ◌++◌, length, take}
+use Rattle.std.specs.Prelude.{Bool, true, false}
 use Rattle.std.specs.Prelude.{codes, decimal, if◌then◌else◌}
 use Rattle.std.specs.Int.{IsInRange}
 use Rattle.std.specs.List.{join_with_byte}
@@ -7,10 +8,17 @@ use Rattle.oe_values.specs.declared.numbers.TheConstants.{TERMINALS}
 use Rattle.oe_rows.specs.declared.scales.Scale.{Scale}
 use Rattle.oe_requests.specs.declared.requests.Query.{Query}
 use Rattle.oe_lines.specs.declared.commands.RingChoice.{RingChoice}
+use Rattle.oe_lines.specs.declared.commands.Command.{Command}
 use Rattle.oe_lines.specs.declared.commands.Command.TheVariants as command
 use Rattle.oe_lines.specs.Grammar.{Says, IsQuery, query_words}
 use Rattle.oe_serial.specs.declared.lines.Asked.{Asked}
 use Rattle.oe_serial.specs.declared.lines.Asked.TheVariants as asked
+use Rattle.oe_reasons.specs.Reasons.{IsReason, IsTaken}
+use Rattle.oe_serial.specs.declared.reasons.Behind.{Behind}
+use Rattle.oe_serial.specs.declared.reasons.Behind.TheVariants as behind
+use Rattle.oe_serial.specs.declared.reasons.Why.{Why}
+use Rattle.oe_serial.specs.declared.reasons.Why.TheVariants as why
+use Rattle.oe_serial.specs.declared.reasons.BadLine.{BadLine}
 use Rattle.oe_serial.specs.declared.lines.BadLines.{BadLines}
 
 -- the byte stands nowhere
@@ -73,34 +81,86 @@ pub record Opens (line : List ℕ) (s : Scale) : Type 0 where
 
 -- LINES OF NO FORM
 
+-- What a bad line is read as, whole or in part: itself, while nothing is open; its words behind `begin`; of a query the
+-- terminal behind `next`, and the words behind `read now`.
+abbrev pub IsReadAs : List ℕ → Behind → List ℕ → Type 0
+IsReadAs line behind.Nothing words = words ≡ line
+IsReadAs line behind.Begin words = (text : List ℕ) × Parts line words text
+IsReadAs line behind.Next word =
+    (words : List ℕ) × (text : List ℕ) × (rest : List ℕ) × Parts line words text × IsParted 32 words word rest
+IsReadAs line behind.ReadNow rest =
+    (words : List ℕ) × (text : List ℕ) × (word : List ℕ) × Parts line words text × IsParted 32 words word rest
+
+abbrev pub front_text : Behind → List ℕ
+front_text behind.Nothing = []
+front_text behind.Begin = codes "begin "
+front_text behind.Next = codes "next "
+front_text behind.ReadNow = codes "read now "
+
+abbrev pub is_open_behind : Behind → Bool
+is_open_behind behind.Nothing = false
+is_open_behind b = true
+
+-- why a line that is whole has no form: it is too long; nothing parts a request from its reply; the reason is true of
+-- what the line is read as; or what it is read as has a form, but asks for something else
+abbrev pub IsWhy : List ℕ → Why → Type 0
+IsWhy line why.Long = 1_024 < length line
+IsWhy line why.NoReply = (words : List ℕ) (text : List ℕ) → Parts line words text → ⊥
+IsWhy line (why.Of b words r) =
+    IsReadAs line b words.now × IsReason (is_open_behind b) (front_text b ++ words.now) r
+IsWhy line (why.NoRequest b words) =
+    IsReadAs line b words.now
+    × ((c : Command) × IsTaken (is_open_behind b) (front_text b ++ words.now) c)
+IsWhy line why.Unended = ⊥
+
+-- the same of words behind others, which are read
+abbrev pub IsReadWhy : Behind → List ℕ → Why → Type 0
+IsReadWhy b words (why.Of own w r) =
+    (own ≡ b) × (w.now ≡ words) × IsReason (is_open_behind b) (front_text b ++ words) r
+IsReadWhy b words (why.NoRequest own w) =
+    (own ≡ b) × (w.now ≡ words) × ((c : Command) × IsTaken (is_open_behind b) (front_text b ++ words) c)
+IsReadWhy b words w = ⊥
+
+-- of the words of a line
+abbrev pub IsWordsWhy : List ℕ → Why → Type 0
+IsWordsWhy words w =
+    IsReadWhy behind.Begin words w
+    ⊎ ((word : List ℕ) × (rest : List ℕ) × IsParted 32 words word rest
+    × (IsReadWhy behind.Next word w ⊎ IsReadWhy behind.ReadNow rest w))
+
 -- the first line, where it opens nothing
-abbrev pub Unopened : List ℕ → List ℕ → Type 0
+abbrev pub Unopened : List ℕ → List BadLine → Type 0
 Unopened line bad =
-    ((s : Scale) × Opens line s × (bad ≡ [])) ⊎ (((s : Scale) → Opens line s → ⊥) × (bad ≡ 1 ∷ []))
+    ((s : Scale) × Opens line s × (bad ≡ []))
+    ⊎ (((s : Scale) → Opens line s → ⊥)
+    × ((b : BadLine) × (b.number ≡ 1) × IsWhy line b.why × (bad ≡ b ∷ [])))
 
 -- of these lines, the first of which is the n-th, those that tell of no reply
-abbrev pub Untold : ℕ → List (List ℕ) → List ℕ → Type 0
+abbrev pub Untold : ℕ → List (List ℕ) → List BadLine → Type 0
 Untold n [] bad = bad ≡ []
 Untold n (line ∷ lines) bad =
     (IsTold line × Untold (n + 1) lines bad)
-    ⊎ ((IsTold line → ⊥) × ((more : List ℕ) × Untold (n + 1) lines more × (bad ≡ n ∷ more)))
+    ⊎ ((IsTold line → ⊥)
+    × ((b : BadLine) × (more : List BadLine) × (b.number ≡ n) × IsWhy line b.why × Untold (n + 1) lines more
+    × (bad ≡ b ∷ more)))
 
 -- a last line without its end, which would be the n-th
-abbrev pub unended : ℕ → List ℕ → List ℕ
+abbrev pub unended : ℕ → List ℕ → List BadLine
 unended n [] = []
-unended n (b ∷ bs) = n ∷ []
+unended n (b ∷ bs) = record { number = n; why = why.Unended } ∷ []
 
--- the numbers of all lines that have no form, in order; a file without a line has no opening
-abbrev pub AreBadOf : List (List ℕ) → List ℕ → List ℕ → Type 0
-AreBadOf [] last bad = bad ≡ 1 ∷ []
+-- all lines that have no form, in order; a file without a line has no opening
+abbrev pub AreBadOf : List (List ℕ) → List ℕ → List BadLine → Type 0
+AreBadOf [] [] bad = Unopened [] bad
+AreBadOf [] (b ∷ bs) bad = bad ≡ unended 1 (b ∷ bs)
 AreBadOf (line ∷ lines) last bad =
-    (first more : List ℕ) × Unopened line first × Untold 2 lines more
+    (first more : List BadLine) × Unopened line first × Untold 2 lines more
     × (bad ≡ first ++ more ++ unended (length lines + 2) last)
 
-abbrev pub AreBad : List ℕ → List ℕ → Type 0
+abbrev pub AreBad : List ℕ → List BadLine → Type 0
 AreBad input bad = AreBadOf (lines_of input) (last_of input) bad
 
 -- the first twenty of them, and how many they are
-pub record Shows (shown : BadLines) (bad : List ℕ) : Type 0 where
+pub record Shows (shown : BadLines) (bad : List BadLine) : Type 0 where
   pub first : shown.first.items ≡ take 20 bad
   pub count : shown.count ≡ length bad

@@ -10,7 +10,9 @@ use Rattle.oe_store.specs.Places.{rows}
 use Rattle.oe_serial.specs.InOrder.{Between, at_first}
 use Rattle.oe_serial.specs.declared.lines.Asked.{Asked}
 use Rattle.oe_serial.specs.Answers.{Answers}
+use Rattle.oe_serial.specs.Others.{other_line}
 use Rattle.oe_serial.specs.Files.{Tells, IsTold, Opens, lines_of, last_of, AreBad, Shows}
+use Rattle.oe_serial.specs.declared.reasons.BadLine.{BadLine}
 use Rattle.oe_serial.specs.declared.verdicts.Verdict.{Verdict}
 use Rattle.oe_serial.specs.declared.verdicts.Verdict.TheVariants as verdict
 use Rattle.oe_serial.specs.declared.verdicts.Decision.{Decision}
@@ -63,11 +65,12 @@ pub record IsOfFile (input : List ℕ) (v : Verdict) (ours : List ℕ) (end : Be
   pub populated : IsPopulated scale base
   pub is_verdict : IsVerdict (at_first system base) lines v ours end
 
--- that; or the numbers of lines that have no form
+-- that; or the lines that have no form
 abbrev pub EndsSo : List ℕ → Verdict → List ℕ → Between system → Type 0
 EndsSo input (verdict.Serial n) ours end = IsOfFile input (verdict.Serial n) ours end
 EndsSo input (verdict.Differs number theirs) ours end = IsOfFile input (verdict.Differs number theirs) ours end
-EndsSo input (verdict.Unreadable shown) ours end = (bad : List ℕ) × AreBad input bad × (bad ≢ []) × Shows shown bad
+EndsSo input (verdict.Unreadable shown) ours end =
+    (bad : List BadLine) × AreBad input bad × (bad ≢ []) × Shows shown bad
 
 abbrev pub IsDecided : List ℕ → Verdict → List ℕ → Type 0
 IsDecided input v ours = (end : Between system) × EndsSo input v ours end
@@ -98,7 +101,8 @@ differs_line number theirs ours =
 
 abbrev pub verdict_text : Verdict → List ℕ → List ℕ
 verdict_text (verdict.Serial n) ours = serial_line n
-verdict_text (verdict.Differs number theirs) ours = differs_line number theirs.now ours
+verdict_text (verdict.Differs number theirs) ours =
+    differs_line number theirs.now ours ++ other_line number theirs.now ours
 verdict_text (verdict.Unreadable bad) ours = []
 
 abbrev pub status_of : Verdict → ℕ

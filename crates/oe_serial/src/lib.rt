@@ -4,12 +4,17 @@
 
 mod alone;
 mod answers;
+pub mod faults;
 mod lines;
+mod others;
+mod reasons;
 mod reports;
 mod texts;
 pub mod verdicts;
 
 pub use answers::AnswerText;
+pub use faults::write_bad_lines;
 pub use lines::BadLines;
+pub use reasons::{BadLine, Behind, Why};
 pub use reports::{SerialFault, run_serial, status, write_verdict};
 pub use verdicts::{Decision, Shortage, Verdict, decide};

@@ -9,8 +9,10 @@ ghost use Rattle.oe_lines.specs.declared.commands.Command.{Command};
 ghost use Rattle.oe_lines.specs.declared.commands.Command.TheVariants as asks;
 ghost use Rattle.oe_lines.specs.declared.commands.MomentChoice.TheVariants as moment;
 ghost use Rattle.oe_serial.specs.declared.lines.Asked.{Asked};
+ghost use Rattle.oe_serial.specs.declared.reasons.BadLine.{BadLine};
 ghost use Rattle.oe_serial.specs.Files.{IsWithout, IsParted, Parts, AsksFor, Asks, IsTold, Opens, lines_of, last_of, unended, Unopened, Untold, AreBad, Shows};
 
+use crate::reasons::{BadLine, Why, why_line, why_opening};
 use arrayvec::ArrayVec;
 use memchr::memchr;
 use oe_lines::{Command, MomentChoice, command};
@@ -20,12 +22,12 @@ use oe_values::Terminal;
 use oe_values::fronts::after;
 
 /// No line has more bytes before its end.
-const LINE: usize = 1_024;
+pub(crate) const LINE: usize = 1_024;
 
-/// The lines of no form: the numbers of the first twenty, and how many there are.
+/// The lines of no form: the first twenty, and how many there are.
 #[derive(Drop)]
-pub struct BadLines {
-    pub first: ArrayVec<u128, 20>,
+pub struct BadLines<'a> {
+    pub first: ArrayVec<BadLine<'a>, 20>,
     pub count: u128,
 }
 
@@ -110,8 +112,8 @@ fn read_transaction(words: &[u8]) -> Option<(Terminal, Request)>
     }
 }
 
-// Tells whether a word is a terminal's number.
-fn is_terminal(word: &[u8]) -> bool
+/// Tells whether a word is a terminal's number.
+pub(crate) fn is_terminal(word: &[u8]) -> bool
     requires { length word.now ≤ 1_024 }
     ensures { IsTrue result ↔ ((t : ℕ) × Says (codes "next " ++ word.now) (asks.Next t)) }
 {
@@ -197,9 +199,9 @@ pub(crate) fn opening(line: &[u8]) -> Option<Scale>
     }
 }
 
-impl BadLines {
-    // Makes the numbers of no lines.
-    fn none() -> BadLines
+impl<'a> BadLines<'a> {
+    // Makes no lines.
+    fn none() -> Self
         ensures shown { Shows result [] }
         ensures count { result.count ≡ 0 }
     {
@@ -209,68 +211,78 @@ impl BadLines {
         }
     }
 
-    // Notes the number of one more line.
-    fn note(&mut self, number: u128)
+    // Notes one more line.
+    fn note(&mut self, line: BadLine<'a>)
         requires { self.old.count + 1 < 2 ^ 128 }
-        ensures shown { (bad : List ℕ) → Shows self.old bad → Shows self.new (bad ++ number ∷ []) }
+        ensures shown { (bad : List BadLine) → Shows self.old bad
+            → Shows self.new (bad ++ line.entry ∷ []) }
         ensures count { self.new.count ≡ self.old.count + 1 }
     {
-        keep(&mut self.first, number);
+        keep(&mut self.first, line);
         self.count += 1;
     }
 }
 
-// Keeps a number, where fewer than twenty are kept.
+// Keeps a line, where fewer than twenty are kept.
 #[tactic(auto, using(crate::proofs::BadFacts::kept_full, crate::proofs::BadFacts::kept_first))]
-fn keep(first: &mut ArrayVec<u128, 20>, number: u128)
-    ensures { (bad : List ℕ) → first.old.items ≡ take 20 bad
-        → first.new.items ≡ take 20 (bad ++ number ∷ []) }
+fn keep<'a>(first: &mut ArrayVec<BadLine<'a>, 20>, line: BadLine<'a>)
+    ensures { (bad : List BadLine) → first.old.items ≡ take 20 bad
+        → first.new.items ≡ take 20 (bad ++ line.entry ∷ []) }
 {
     if first.len() >= 20 {
         return;
     }
-    first.push(number);
+    first.push(line);
 }
 
 // Notes the first line, where it opens nothing.
-fn note_opening(bad: &mut BadLines, line: &[u8])
+fn note_opening<'a>(bad: &mut BadLines<'a>, line: &'a [u8])
     requires { bad.old.count ≡ 0 }
-    ensures shown { (first : List ℕ) × Unopened line.now first
-        × ((b : List ℕ) → Shows bad.old b → Shows bad.new (b ++ first)) }
+    ensures shown { (first : List BadLine) × Unopened line.now first
+        × ((b : List BadLine) → Shows bad.old b → Shows bad.new (b ++ first)) }
     ensures count { bad.new.count ≤ 1 }
 {
     if opening(line).is_none() {
-        bad.note(1);
+        bad.note(BadLine {
+            number: 1,
+            why: why_opening(line),
+        });
     }
 }
 
 // Notes a line of a number, where it tells of no reply.
-fn note_line(bad: &mut BadLines, number: u128, line: &[u8])
+fn note_line<'a>(bad: &mut BadLines<'a>, number: u128, line: &'a [u8])
     requires { bad.old.count + 1 < 2 ^ 128 }
-    ensures shown { (more : List ℕ) × Untold number (line.now ∷ []) more
-        × ((b : List ℕ) → Shows bad.old b → Shows bad.new (b ++ more)) }
+    ensures shown { (more : List BadLine) × Untold number (line.now ∷ []) more
+        × ((b : List BadLine) → Shows bad.old b → Shows bad.new (b ++ more)) }
     ensures count { bad.new.count ≤ bad.old.count + 1 }
 {
     if !is_told(line) {
-        bad.note(number);
+        bad.note(BadLine {
+            number,
+            why: why_line(line),
+        });
     }
 }
 
 // Notes a last line without its end.
 fn note_last(bad: &mut BadLines, number: u128, last: &[u8])
     requires { bad.old.count + 1 < 2 ^ 128 }
-    ensures { (b : List ℕ) → Shows bad.old b → Shows bad.new (b ++ unended number last.now) }
+    ensures { (b : List BadLine) → Shows bad.old b → Shows bad.new (b ++ unended number last.now) }
 {
     if !last.is_empty() {
-        bad.note(number);
+        bad.note(BadLine {
+            number,
+            why: Why::Unended,
+        });
     }
 }
 
 // Notes the lines behind the first.
-fn note_lines(bad: &mut BadLines, lines: &[u8])
+fn note_lines<'a>(bad: &mut BadLines<'a>, lines: &'a [u8])
     requires { bad.old.count ≤ 1 }
-    ensures { (more : List ℕ) × Untold 2 (lines_of lines.now) more
-        × ((b : List ℕ) → Shows bad.old b → Shows bad.new (b ++ more
+    ensures { (more : List BadLine) × Untold 2 (lines_of lines.now) more
+        × ((b : List BadLine) → Shows bad.old b → Shows bad.new (b ++ more
         ++ unended (length (lines_of lines.now) + 2) (last_of lines.now))) }
 {
     let mut left = lines;
@@ -283,15 +295,28 @@ fn note_lines(bad: &mut BadLines, lines: &[u8])
     note_last(bad, number, left);
 }
 
-/// Finds the lines of a file that have no form.
-pub(crate) fn bad_lines(input: &[u8]) -> BadLines
-    ensures { (bad : List ℕ) × AreBad input.now bad × Shows result bad }
+// Finds what is bad of a file without a line.
+fn bad_last<'a>(input: &'a [u8]) -> BadLines<'a>
+    requires { IsWithout 10 input.now }
+    ensures { (bad : List BadLine) × AreBad input.now bad × Shows result bad }
 {
     let mut bad = BadLines::none();
-    let Some((first, rest)) = parted_at(input, b'\n') else {
-        bad.note(1);
+    if input.is_empty() {
+        note_opening(&mut bad, input);
         return bad;
+    }
+    note_last(&mut bad, 1, input);
+    bad
+}
+
+/// Finds the lines of a file that have no form.
+pub(crate) fn bad_lines<'a>(input: &'a [u8]) -> BadLines<'a>
+    ensures { (bad : List BadLine) × AreBad input.now bad × Shows result bad }
+{
+    let Some((first, rest)) = parted_at(input, b'\n') else {
+        return bad_last(input);
     };
+    let mut bad = BadLines::none();
     note_opening(&mut bad, first);
     note_lines(&mut bad, rest);
     bad

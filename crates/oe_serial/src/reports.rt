@@ -3,6 +3,7 @@ ghost use Rattle.std.specs.Prelude.{◌≡◌, ◌≤◌, ◌++◌, [], length};
 ghost use Rattle.oe_ports.specs.Ports.{Streams};
 ghost use Rattle.oe_serial.specs.Verdicts.{verdict_text, status_of, IsShort, SerialRan};
 
+use crate::others::other_line;
 use crate::texts::{differs_line, serial_line};
 use crate::verdicts::{Shortage, Verdict, decide};
 use arrayvec::ArrayVec;
@@ -35,7 +36,7 @@ pub fn status(verdict: &Verdict) -> u8
     }
 }
 
-// Writes the line of a verdict; none where nothing is decided.
+// Writes the lines of a verdict; none where nothing is decided.
 fn tell(out: &mut Pending, verdict: &Verdict, ours: &[u8])
     requires empty { out.old.items ≡ [] }
     requires short { IsShort verdict.now }
@@ -44,12 +45,15 @@ fn tell(out: &mut Pending, verdict: &Verdict, ours: &[u8])
 {
     match verdict {
         Verdict::Serial(count) => serial_line(out, *count),
-        Verdict::Differs(number, theirs) => differs_line(out, *number, theirs, ours),
+        Verdict::Differs(number, theirs) => {
+            differs_line(out, *number, theirs, ours);
+            other_line(out, *number, theirs, ours);
+        }
         Verdict::Unreadable(_) => {}
     }
 }
 
-/// Writes the line of a verdict; nothing where lines have no form.
+/// Writes the lines of a verdict; nothing where lines have no form.
 ///
 /// `Failed` where a write fails: a beginning of the line is written then.
 pub fn write_verdict<W: Outlet>(

@@ -17,8 +17,8 @@ fn text(out: &mut Pending, bytes: &[u8])
     out.try_extend_from_slice(bytes).unwrap();
 }
 
-// Appends a number in decimal.
-fn decimal(out: &mut Pending, number: u128)
+/// Appends a number in decimal.
+pub(crate) fn decimal(out: &mut Pending, number: u128)
     requires { array_vec_len out.old + 39 ≤ SIZE }
     ensures items { out.new.items ≡ out.old.items ++ decimal number }
     ensures len { array_vec_len out.new ≤ array_vec_len out.old + 39 }
@@ -50,7 +50,9 @@ pub(crate) fn serial_line(out: &mut Pending, count: u128)
 /// Writes `line <number>: "<theirs>", in this order "<ours>"`.
 pub(crate) fn differs_line(out: &mut Pending, number: u128, theirs: &[u8], ours: &[u8])
     requires { array_vec_len out.old + length theirs.now + length ours.now + 100 ≤ SIZE }
-    ensures { out.new.items ≡ out.old.items ++ differs_line number theirs.now ours.now }
+    ensures items { out.new.items ≡ out.old.items ++ differs_line number theirs.now ours.now }
+    ensures len { array_vec_len out.new
+        ≤ array_vec_len out.old + length theirs.now + length ours.now + 100 }
 {
     text(out, b"line ");
     decimal(out, number);

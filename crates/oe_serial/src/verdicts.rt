@@ -30,7 +30,7 @@ pub enum Verdict<'a> {
     /// The line of that number is the first that disagrees, and tells that text.
     Differs(u128, &'a [u8]),
     /// Lines have no form, and nothing is decided.
-    Unreadable(BadLines),
+    Unreadable(BadLines<'a>),
 }
 
 /// A verdict, with the tables that a serial file's transactions leave.
@@ -41,7 +41,7 @@ pub enum Decision<'a> {
     /// The line of that number is the first that disagrees, and tells that text.
     Differs(u128, &'a [u8]),
     /// Lines have no form, and nothing is decided.
-    Unreadable(BadLines),
+    Unreadable(BadLines<'a>),
 }
 
 /// Why nothing was decided.

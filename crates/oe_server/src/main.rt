@@ -25,7 +25,7 @@ use oe_ports::standard::{Printed, Standard};
 use oe_reading::{Format, Stop};
 use oe_script::script::run_script;
 use oe_script::session::ScriptFault;
-use oe_serial::{BadLines, SerialFault, Verdict, run_serial, status};
+use oe_serial::{SerialFault, Verdict, run_serial, status, write_bad_lines};
 use oe_tasks::{Task, job};
 use oe_values::Terminal;
 use std::env::Env;
@@ -51,7 +51,7 @@ fn main(rt: HostRuntime) -> io::Result<ExitCode> {
         Ok(Task::Explain(Some(name))) => explain_file(&rt, &rt.stderr(), name),
         Ok(Task::Serial { file, tables }) => match tables {
             Some(folder) => answer_comparison(&rt, &rt.stderr(), file, folder),
-            None => answer_serial(&rt, file),
+            None => answer_serial(&rt, &rt.stderr(), file),
         },
         Ok(
             Task::Audit {
@@ -187,19 +187,23 @@ fn tell_no_commits<R: Eprint>(rt: &R, name: &str, error: &io::Error) -> io::Resu
 }
 
 /// Tells whether commits are serial, on standard output.
-fn decide<R: Print + Eprint + AllocGlobal>(rt: &R, input: &[u8]) -> io::Result<ExitCode> {
+fn decide<R: Print + Eprint + AllocGlobal>(
+    rt: &R,
+    errors: &Stderr,
+    input: &[u8],
+) -> io::Result<ExitCode> {
     let mut writer = Printed::new(rt);
     match run_serial(rt.alloc(), input, &mut writer) {
-        Ok(verdict) => tell_replies(rt, &verdict),
+        Ok(verdict) => tell_replies(errors, &verdict),
         Err(SerialFault::Write) => fail(rt, writer.fault()),
         Err(fault) => fail(rt, fault),
     }
 }
 
-/// Tells which lines of a file of replies have no form, and gives the status of a verdict.
-fn tell_replies<R: Eprint>(rt: &R, verdict: &Verdict<'_>) -> io::Result<ExitCode> {
+/// Tells why lines of a file of replies have no form, and gives the status of a verdict.
+fn tell_replies(errors: &Stderr, verdict: &Verdict<'_>) -> io::Result<ExitCode> {
     if let Verdict::Unreadable(bad) = verdict {
-        tell_bad_lines(rt, bad)?;
+        let _told = write_bad_lines(bad, &mut Printed::new(errors));
     }
     Ok(ExitCode::from(status(verdict)))
 }
@@ -207,10 +211,11 @@ fn tell_replies<R: Eprint>(rt: &R, verdict: &Verdict<'_>) -> io::Result<ExitCode
 /// Tells whether the commits in a file are serial, on standard output.
 fn answer_serial<R: Files + Print + Eprint + AllocGlobal>(
     rt: &R,
+    errors: &Stderr,
     name: &str,
 ) -> io::Result<ExitCode> {
     match fs::read(rt, name) {
-        Ok(input) => decide(rt, input.as_slice()),
+        Ok(input) => decide(rt, errors, input.as_slice()),
         Err(error) => tell_no_commits(rt, name, &error),
     }
 }
@@ -228,26 +233,6 @@ fn answer_load<R: Print + Eprint + AllocGlobal>(
         Err(LoadFault::Write) => fail(rt, writer.fault()),
         Err(fault) => fail(rt, fault),
     }
-}
-
-/// Tells that a line of a file of replies has no form.
-fn tell_bad_line<R: Eprint>(rt: &R, number: u128) -> io::Result<()> {
-    if number == 1 {
-        return eprintln!(rt; "line 1: no opening");
-    }
-    eprintln!(rt; "line {number}: no request and reply")
-}
-
-/// Tells which lines of a file of replies have no form.
-fn tell_bad_lines<R: Eprint>(rt: &R, bad: &BadLines) -> io::Result<()> {
-    for number in bad.first.as_slice() {
-        tell_bad_line(rt, *number)?;
-    }
-    let more = bad.count.saturating_sub(20);
-    if more > 0 {
-        eprintln!(rt; "{more} more")?;
-    }
-    Ok(())
 }
 
 /// Says which of nine files can't be opened, and gives the status then.
@@ -281,13 +266,9 @@ fn tell_stop<R: Eprint, F>(
 }
 
 /// Tells which lines can't be read, of a file of replies or of tables, and gives the status.
-fn tell_comparison<R: Eprint>(
-    rt: &R,
-    errors: &Stderr,
-    verdict: &ComparisonVerdict<'_>,
-) -> io::Result<ExitCode> {
+fn tell_comparison(errors: &Stderr, verdict: &ComparisonVerdict<'_>) -> io::Result<ExitCode> {
     if let ComparisonVerdict::Replies(replies) = verdict {
-        return tell_replies(rt, replies);
+        return tell_replies(errors, replies);
     }
     if let ComparisonVerdict::Unreadable(faults) = verdict {
         let _told = write_faults(faults, &mut Printed::new(errors));
@@ -304,7 +285,7 @@ fn compare<R: Clock + Print + Eprint + AllocGlobal, F: Read + Drop>(
 ) -> io::Result<ExitCode> {
     let mut writer = Printed::new(rt);
     match run_comparison(rt.alloc(), input, sources, &mut writer) {
-        Ok(verdict) => tell_comparison(rt, errors, &verdict),
+        Ok(verdict) => tell_comparison(errors, &verdict),
         Err(ComparisonFault::Stopped(stop)) => tell_stop(rt, sources, stop),
         Err(ComparisonFault::Write) => fail(rt, writer.fault()),
         Err(fault) => fail(rt, fault),

@@ -158,9 +158,9 @@ reply of another engine, in their order: T, the words of the request as behind a
 begin T, or of a query as behind read MOMENT, then \" => \", and the reply as behind commit
 MOMENT, or error NUMBER CAUSE where it was refused. It writes one line:
   serial COUNT       each reply is that of its request or query, alone behind those before it
-  line N: \"REPLY\", in this order \"REPLY\"
-                     the first line that is answered otherwise
-or, on standard error, which lines have no form (line N: no request and reply).
+  line N: \"REPLY\", in this order \"REPLY\", and line N: WORD VALUE, in this order VALUE
+                     the first line that is answered otherwise, and its first word that differs
+or, on standard error, why lines have no form (line N: REASON).
 Where they are serial and --tables names a directory, it reads the nine files of DIR as an
 audit does, and compares their rows with the tables that these transactions leave. It writes a
 line for each table that differs, of the first row that does, and how many tables differ:

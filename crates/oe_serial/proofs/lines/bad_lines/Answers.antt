@@ -1,15 +1,8 @@
 use Rattle.std.proofs.Common.{ℕ, ◌+◌, List, [], ◌∷◌, ◌++◌, length, refl, sym, subst}
 use Rattle.oe_serial.specs.Files.{AreBadOf, unended, lines_of, last_of}
-use Rattle.oe_serial.proofs.LineFacts.{next_line, no_line}
+use Rattle.oe_serial.specs.declared.reasons.BadLine.{BadLine}
+use Rattle.oe_serial.proofs.LineFacts.{next_line}
 use Rattle.oe_serial.proofs.lines.bad_lines.Goals as goal
-
-pub returns-in_default : goal.returns-in_default
-returns-in_default c =
-    let none = no_line c.args.input.now c.in_default.ensures in (
-      1 ∷ [],
-      subst (λ (ls : List (List ℕ)). AreBadOf ls (last_of c.args.input.now) (1 ∷ [])) (sym none.0) refl,
-      c.note.ensures.shown [] c.none-bad.ensures.shown,
-    )
 
 pub returns : goal.returns
 returns c =
@@ -17,7 +10,7 @@ returns c =
     let next = next_line c.args.input.now c.in-Some.first.now rest c.in-Some.ensures in
     let o = c.note_opening.ensures.shown in
     let m = c.note_lines.ensures in
-    let bad : List ℕ = o.0 ++ m.0 ++ unended (length (lines_of rest) + 2) (last_of rest) in (
+    let bad : List BadLine = o.0 ++ m.0 ++ unended (length (lines_of rest) + 2) (last_of rest) in (
       bad,
       subst (λ (ls : List (List ℕ)). AreBadOf ls (last_of c.args.input.now) bad) (sym next.0)
           (subst (λ (last : List ℕ). AreBadOf (c.in-Some.first.now ∷ lines_of rest) last bad) (sym next.1)

@@ -13,7 +13,17 @@ returns-else-not-is_told-clause-shown c = (
 
 pub returns-then-not-is_told-clause-shown : goal.returns-then-not-is_told-clause-shown
 returns-then-not-is_told-clause-shown c = (
-  c.args.number ∷ [],
-  inr (λ told. both_ways c.is_told.result c.if-not-is_told.true (c.is_told.ensures.1 told), ([], refl, refl)),
+  record { number = c.args.number; why = c.why_line.result } ∷ [],
+  inr (
+    λ told. both_ways c.is_told.result c.if-not-is_told.true (c.is_told.ensures.1 told),
+    (
+      record { number = c.args.number; why = c.why_line.result },
+      [],
+      refl,
+      c.why_line.ensures,
+      refl,
+      refl,
+    ),
+  ),
   c.note.ensures.shown,
 )

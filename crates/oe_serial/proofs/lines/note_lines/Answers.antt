@@ -3,6 +3,7 @@ use Rattle.std.proofs.lemmas.List.{append-nil, length-append}
 use Rattle.oe_serial.specs.Files.{Untold, Shows, unended, lines_of, last_of}
 use Rattle.oe_serial.proofs.LineFacts.{next_line, no_line}
 use Rattle.oe_serial.proofs.BadFacts.{untold_then}
+use Rattle.oe_serial.specs.declared.reasons.BadLine.{BadLine}
 use Rattle.oe_serial.proofs.lines.note_lines.Goals as goal
 
 pub loop-line-preserved : goal.loop-line-preserved
@@ -48,6 +49,6 @@ returns c =
       subst (Untold 2 (lines_of lines)) (append-nil d.0)
           (d.2 [] (subst (λ (ls : List (List ℕ)). Untold c.loop-line.number ls []) (sym none.0) refl)),
       λ b s.
-          subst (λ (u : List ℕ). Shows c.note_last.new.bad (b ++ d.0 ++ u)) same
+          subst (λ (u : List BadLine). Shows c.note_last.new.bad (b ++ d.0 ++ u)) same
           (c.note_last.ensures (b ++ d.0) (d.1 b s)),
     )

@@ -1,12 +1,14 @@
 use Rattle.std.proofs.Common.{◌≡◌, ℕ, ◌+◌, ◌≤◌, List, ◌++◌, length}
 use Rattle.oe_serial.specs.Files.{lines_of, last_of, Untold, Shows}
+use Rattle.oe_serial.specs.declared.reasons.BadLine.{BadLine}
 use Rattle.oe_serial.proofs.lines.note_lines.Given as goal
 
 -- what was noted of the lines so far
 abbrev pub invariant-loop-line : goal.invariant-loop-line
 invariant-loop-line l = record {
-  noted : (done : List ℕ) × ((b : List ℕ) → Shows l.initial.bad b → Shows l.bad (b ++ done))
-      × ((more : List ℕ) → Untold l.number (lines_of l.left) more → Untold 2 (lines_of l.initial.left) (done ++ more));
+  noted : (done : List BadLine) × ((b : List BadLine) → Shows l.initial.bad b → Shows l.bad (b ++ done))
+      × ((more : List BadLine) → Untold l.number (lines_of l.left) more
+      → Untold 2 (lines_of l.initial.left) (done ++ more));
   number : length (lines_of l.initial.left) + 2 ≡ l.number + length (lines_of l.left);
   last : last_of l.initial.left ≡ last_of l.left;
   small : l.number + length l.left ≤ length l.initial.left + 2;
