@@ -5,6 +5,7 @@ use Rattle.oe_ports.specs.Ports.{Sink, Sent, Streams}
 use Rattle.oe_ports.proofs.Streaming.{sent_then, sent_cut}
 use Rattle.oe_store.specs.Places.{Places, rows}
 use Rattle.oe_serial.specs.Verdicts.{IsDecided, IsDecision, verdict_of, verdict_text}
+use Rattle.oe_serial.specs.declared.origins.Origin.{Origin}
 use Rattle.oe_serial.specs.declared.verdicts.Decision.{Decision}
 use Rattle.oe_serial.specs.declared.verdicts.Decision.TheVariants as decision
 use Rattle.oe_serial.specs.declared.verdicts.Verdict as replies
@@ -18,17 +19,17 @@ use Rattle.oe_comparison.specs.declared.runs.ComparisonFault.{ComparisonFault}
 use Rattle.oe_comparison.specs.declared.runs.ComparisonFault.TheVariants as stop
 
 -- the rows that a serial file's transactions leave
-pub leaves : (input ours : List ℕ) (d : Decision) (n : ℕ) (t : Places) → d ≡ decision.Serial n t
-    → IsDecision input d ours → LeavesRows input n (rows t)
-leaves input ours d n t is made =
-    let so = subst (λ (z : Decision). IsDecision input z ours) is made in
+pub leaves : (o : Origin) (input ours : List ℕ) (d : Decision) (n : ℕ) (t : Places) → d ≡ decision.Serial n t
+    → IsDecision o input d ours → LeavesRows o input n (rows t)
+leaves o input ours d n t is made =
+    let so = subst (λ (z : Decision). IsDecision o input z ours) is made in
     (ours, so.0, so.1, so.2)
 
 -- the verdict of a decision that is this
-pub decided : (input ours : List ℕ) (d e : Decision) → d ≡ e → IsDecision input d ours
-    → IsDecided input (verdict_of e) ours
-decided input ours d e is made =
-    let so = subst (λ (z : Decision). IsDecision input z ours) is made in
+pub decided : (o : Origin) (input ours : List ℕ) (d e : Decision) → d ≡ e → IsDecision o input d ours
+    → IsDecided o input (verdict_of e) ours
+decided o input ours d e is made =
+    let so = subst (λ (z : Decision). IsDecision o input z ours) is made in
     (so.0, so.1)
 
 -- the report on tables, where they were compared
@@ -44,21 +45,21 @@ compares n r before after old new told (Err (stop.Stopped s)) are t = absurd t
 compares n r before after old new told (Err stop.Write) are t = (told, are, t)
 
 -- replies that are not serial
-pub replies_told : (input ours : List ℕ) (v : replies.Verdict) (old new : Option Sink)
+pub replies_told : (o : Origin) (input ours : List ℕ) (v : replies.Verdict) (old new : Option Sink)
     (result : Result Verdict ComparisonFault)
-    → IsDecided input v ours → IsOther v → TellsOther v ours old new result → TellsReplies input old new result
-replies_told input ours v old new (Ok (verdict.Replies w)) made other t = (
+    → IsDecided o input v ours → IsOther v → TellsOther v ours old new result → TellsReplies o input old new result
+replies_told o input ours v old new (Ok (verdict.Replies w)) made other t = (
   ours,
-  subst (λ (z : replies.Verdict). IsDecided input z ours) (sym t.0) made,
+  subst (λ (z : replies.Verdict). IsDecided o input z ours) (sym t.0) made,
   subst IsOther (sym t.0) other,
   subst (λ (z : replies.Verdict). Sent old [] new [] (verdict_text z ours)) (sym t.0) t.1,
 )
-replies_told input ours v old new (Ok verdict.Same) made other t = t
-replies_told input ours v old new (Ok (verdict.Differs count)) made other t = t
-replies_told input ours v old new (Ok (verdict.Unreadable faults)) made other t = t
-replies_told input ours v old new (Err stop.Write) made other t = (v, ours, made, other, t)
-replies_told input ours v old new (Err (stop.Short s)) made other t = absurd t
-replies_told input ours v old new (Err (stop.Stopped s)) made other t = t
+replies_told o input ours v old new (Ok verdict.Same) made other t = t
+replies_told o input ours v old new (Ok (verdict.Differs count)) made other t = t
+replies_told o input ours v old new (Ok (verdict.Unreadable faults)) made other t = t
+replies_told o input ours v old new (Err stop.Write) made other t = (v, ours, made, other, t)
+replies_told o input ours v old new (Err (stop.Short s)) made other t = absurd t
+replies_told o input ours v old new (Err (stop.Stopped s)) made other t = t
 
 -- what is written behind what was written
 pub streams_behind : {T E : Type 0} (a b c : Option Sink) (t u : List ℕ) (r : Result T E) → Sent a [] b [] t

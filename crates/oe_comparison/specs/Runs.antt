@@ -6,6 +6,7 @@ use Rattle.oe_ports.specs.Ports.{Sink, Sent, Cut}
 use Rattle.oe_serial.specs.InOrder.{Between}
 use Rattle.oe_serial.specs.Verdicts as serial
 use Rattle.oe_serial.specs.Verdicts.{IsOfFile, IsDecided, verdict_text}
+use Rattle.oe_serial.specs.declared.origins.Origin.{Origin}
 use Rattle.oe_serial.specs.declared.verdicts.Verdict as replies
 use Rattle.oe_serial.specs.declared.verdicts.Verdict.TheVariants as reply
 use Rattle.oe_reading.specs.declared.faults.TableFault as line
@@ -25,9 +26,9 @@ status_of (verdict.Differs count) = 1
 status_of (verdict.Unreadable faults) = 2
 
 -- n transactions are serial, and leave these rows
-abbrev pub LeavesRows : List ℕ → ℕ → Rows → Type 0
-LeavesRows input n r =
-    (ours : List ℕ) × (end : Between system) × IsOfFile input (reply.Serial n) ours end × (r ≡ end.rows)
+abbrev pub LeavesRows : Origin → List ℕ → ℕ → Rows → Type 0
+LeavesRows o input n r =
+    (ours : List ℕ) × (end : Between system) × IsOfFile o input (reply.Serial n) ours end × (r ≡ end.rows)
 
 -- replies that are not serial, or lines of no form
 abbrev pub IsOther : replies.Verdict → Type 0
@@ -73,17 +74,19 @@ Compares n r before after old new (Err stop.Write) =
     (told : Told) × AreTold before after r told × Cut old [] new (comparison_text n told)
 
 -- the verdict on replies that are not serial was written, or a beginning of it
-abbrev pub TellsReplies : List ℕ → Option Sink → Option Sink → Result Verdict ComparisonFault → Type 0
-TellsReplies input old new (Ok (verdict.Replies v)) =
-    (ours : List ℕ) × IsDecided input v ours × IsOther v × Sent old [] new [] (verdict_text v ours)
-TellsReplies input old new (Ok v) = ⊥
-TellsReplies input old new (Err stop.Write) =
-    (v : replies.Verdict) × (ours : List ℕ) × IsDecided input v ours × IsOther v × Cut old [] new (verdict_text v ours)
-TellsReplies input old new (Err (stop.Short s)) = new ≡ old
-TellsReplies input old new (Err (stop.Stopped s)) = ⊥
+abbrev pub TellsReplies : Origin → List ℕ → Option Sink → Option Sink → Result Verdict ComparisonFault → Type 0
+TellsReplies o input old new (Ok (verdict.Replies v)) =
+    (ours : List ℕ) × IsDecided o input v ours × IsOther v × Sent old [] new [] (verdict_text v ours)
+TellsReplies o input old new (Ok v) = ⊥
+TellsReplies o input old new (Err stop.Write) =
+    (v : replies.Verdict) × (ours : List ℕ) × IsDecided o input v ours × IsOther v
+    × Cut old [] new (verdict_text v ours)
+TellsReplies o input old new (Err (stop.Short s)) = new ≡ old
+TellsReplies o input old new (Err (stop.Stopped s)) = ⊥
 
 -- The replies are not serial, or nothing was decided; or they are, and the tables at the end were compared.
-abbrev pub ComparisonRan : List ℕ → Nine → Nine → Option Sink → Option Sink → Result Verdict ComparisonFault → Type 0
-ComparisonRan input before after old new result =
-    TellsReplies input old new result
-    ⊎ ((n : ℕ) × (r : Rows) × LeavesRows input n r × Compares n r before after old new result)
+abbrev pub ComparisonRan : Origin → List ℕ → Nine → Nine → Option Sink → Option Sink → Result Verdict ComparisonFault
+    → Type 0
+ComparisonRan o input before after old new result =
+    TellsReplies o input old new result
+    ⊎ ((n : ℕ) × (r : Rows) × LeavesRows o input n r × Compares n r before after old new result)

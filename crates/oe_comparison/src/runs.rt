@@ -3,7 +3,7 @@
 ghost use Rattle.std.specs.Prelude.{◌≡◌, ◌≤◌, [], length, OnOk};
 ghost use Rattle.oe_ports.specs.Ports.{Streams};
 ghost use Rattle.oe_loading.specs.Loading.{nine_of};
-ghost use Rattle.oe_serial.specs.Verdicts.{IsShort, verdict_text};
+ghost use Rattle.oe_serial.specs.Verdicts.{IsOrigin, IsShort, verdict_text};
 ghost use Rattle.oe_store.specs.Places.{rows};
 ghost use Rattle.oe_comparison.specs.Runs.{status_of, IsOther, TellsOther, Tells, Compares, ComparisonRan};
 ghost use Rattle.oe_comparison.specs.Texts.{comparison_text};
@@ -15,7 +15,9 @@ use oe_loading::Sources;
 use oe_ports::output::{flush, write_all};
 use oe_ports::ports::{Failed, Intake, Outlet};
 use oe_reading::{Faults, Stop};
-use oe_serial::{AnswerText, Decision, Shortage, Verdict as Replies, decide, write_verdict};
+use oe_serial::{
+    AnswerText, Decision, Origin, Shortage, Verdict as Replies, decide, write_verdict,
+};
 use oe_store::Tables;
 use oe_texts::{LONGEST, Pending};
 use std::alloc::Global;
@@ -136,22 +138,24 @@ fn compare<'a, S: Intake, W: Outlet>(
     tell(count, &report, writer)
 }
 
-/// Decides whether a file's lines tell of commits as their transactions make them, run one at a
-/// time in this order. Where they do, it compares the rows of nine files with the tables that these
-/// transactions leave, and writes the verdict and a line for each table that differs; else it
-/// writes the verdict alone. Nothing is written where lines can't be read: they are part of the
-/// verdict then.
+/// Decides whether a file's lines tell the replies that its transactions and queries have, one at a
+/// time in this order from those tables. Where they do, it compares the rows of nine files with the
+/// tables that the transactions leave, and writes the verdict and a line for each table that
+/// differs; else it writes the verdict alone. Nothing is written where lines can't be read: they
+/// are part of the verdict then.
 pub fn run_comparison<'a, S: Intake, W: Outlet>(
     alloc: Global,
     input: &'a [u8],
+    origin: Origin,
     sources: &mut Sources<S>,
     writer: &mut W,
 ) -> Result<Verdict<'a>, ComparisonFault>
-    ensures { ComparisonRan input.now (nine_of S.source sources.old)
+    requires { IsOrigin origin }
+    ensures { ComparisonRan origin input.now (nine_of S.source sources.old)
         (nine_of S.source sources.new) (W.sink writer.old) (W.sink writer.new) result }
 {
     let mut ours: AnswerText = ArrayVec::new();
-    let decision = match decide(alloc, input, &mut ours) {
+    let decision = match decide(alloc, input, origin, &mut ours) {
         Ok(decision) => decision,
         Err(shortage) => return Err(ComparisonFault::Short(shortage)),
     };

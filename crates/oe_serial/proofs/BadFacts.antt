@@ -5,9 +5,10 @@ use Rattle.std.specs.Prelude.{◌≢◌, ◌⊎◌, All}
 use Rattle.std.proofs.lemmas.List.{length-append, length-take-le, take_all, take-append-le}
 use Rattle.std.proofs.lemmas.List.Elements.{All-nil, All-cons}
 use Rattle.std.proofs.lemmas.Bool.{cases_lt}
-use Rattle.oe_rows.specs.declared.scales.Scale.{Scale}
-use Rattle.oe_serial.specs.Files.{IsTold, Opens, IsWithout, Unopened, Untold, unended, AreBadOf, AreBad}
+use Rattle.oe_serial.specs.Files.{IsTold, IsOpening, IsWithout, Unopened, Untold, unended, AreBadOf, AreBad}
 use Rattle.oe_serial.specs.Files.{lines_of, last_of}
+use Rattle.oe_serial.specs.declared.origins.Opening.{Opening}
+use Rattle.oe_serial.specs.declared.origins.Opening.TheVariants as opening
 use Rattle.oe_serial.specs.declared.reasons.BadLine.{BadLine}
 use Rattle.oe_serial.proofs.LineFacts.{no_line}
 
@@ -76,38 +77,38 @@ both_empty [] ys e = (refl, sym e)
 both_empty (x ∷ xs) ys e = let not : ⊥ = cc in absurd not
 
 -- a file without such a line
-pub record IsFormed (lines : List (List ℕ)) (last : List ℕ) : Type 0 where
+pub record IsFormed (o : Opening) (lines : List (List ℕ)) (last : List ℕ) : Type 0 where
   pub opening : List ℕ
   pub behind : List (List ℕ)
-  pub scale : Scale
   pub are : lines ≡ opening ∷ behind
-  pub opens : Opens opening scale
+  pub opens : IsOpening o opening
   pub told : All IsTold behind
   pub ended : last ≡ []
 
-opened : (line : List ℕ) → Unopened line [] → (s : Scale) × Opens line s
-opened line (inl (s, o, e)) = (s, o)
-opened line (inr (never, (b, number, why, e))) = let not : ⊥ = cc in absurd not
+opened : (o : Opening) (line : List ℕ) → Unopened o line [] → IsOpening o line
+opened o line (inl (is, e)) = is
+opened o line (inr (never, (b, number, why, e))) = let not : ⊥ = cc in absurd not
 
 -- no empty line opens
-empty_opens : (s : Scale) → Opens [] s → ⊥
-empty_opens s o =
-    let spelled = o.says.spelled in
+empty_opens : (o : Opening) → IsOpening o [] → ⊥
+empty_opens opening.OfScale (s, is) =
+    let spelled = is.says.spelled in
+    cc
+empty_opens opening.OfRing is =
+    let spelled = is.spelled in
     cc
 
-formed : (lines : List (List ℕ)) (last : List ℕ) → AreBadOf lines last [] → IsFormed lines last
-formed [] [] u = let o = opened [] u in absurd (empty_opens o.0 o.1)
-formed [] (b ∷ bs) e = let not : ⊥ = cc in absurd not
-formed (line ∷ lines) last (first, more, o, u, e) =
+formed : (o : Opening) (lines : List (List ℕ)) (last : List ℕ) → AreBadOf o lines last [] → IsFormed o lines last
+formed o [] [] u = absurd (empty_opens o (opened o [] u))
+formed o [] (b ∷ bs) e = let not : ⊥ = cc in absurd not
+formed o (line ∷ lines) last (first, more, is, u, e) =
     let one = both_empty (first ++ more) (unended (length lines + 2) last) e in
     let two = both_empty first more (sym one.0) in
-    let s = opened line (subst (Unopened line) two.0 o) in
     record {
       opening = line;
       behind = lines;
-      scale = s.0;
       are = refl;
-      opens = s.1;
+      opens = opened o line (subst (Unopened o line) two.0 is);
       told = all_told 2 lines (subst (Untold 2 lines) two.1 u);
       ended = no_last (length lines + 2) last one.1;
     }
@@ -116,25 +117,27 @@ empty : (bad : List BadLine) → length bad ≡ 0 → bad ≡ []
 empty [] e = refl
 empty (b ∷ bad) e = absurd (omega (arith, e))
 
-pub is_formed : (input : List ℕ) (bad : List BadLine) (n : ℕ) → AreBad input bad → n ≡ length bad → n ≤ 0
-    → IsFormed (lines_of input) (last_of input)
-is_formed input bad n h count none =
+pub is_formed : (o : Opening) (input : List ℕ) (bad : List BadLine) (n : ℕ) → AreBad o input bad → n ≡ length bad
+    → n ≤ 0 → IsFormed o (lines_of input) (last_of input)
+is_formed o input bad n h count none =
     let zero : length bad ≡ 0 = omega (arith, count, none) in
-    formed (lines_of input) (last_of input) (subst (AreBadOf (lines_of input) (last_of input)) (empty bad zero) h)
+    formed o (lines_of input) (last_of input)
+    (subst (AreBadOf o (lines_of input) (last_of input)) (empty bad zero) h)
 
 -- A FILE WITHOUT A LINE
 
-pub none_bad : (input : List ℕ) (first : List BadLine) → length input ≡ 0 → Unopened input first
-    → AreBad input first
-none_bad [] first none u = u
-none_bad (b ∷ bs) first none u = absurd (omega (arith, none))
+pub none_bad : (o : Opening) (input : List ℕ) (first : List BadLine) → length input ≡ 0 → Unopened o input first
+    → AreBad o input first
+none_bad o [] first none u = u
+none_bad o (b ∷ bs) first none u = absurd (omega (arith, none))
 
-last_bad : (last : List ℕ) → length last ≢ 0 → AreBadOf [] last (unended 1 last)
-last_bad [] some = absurd (some refl)
-last_bad (b ∷ bs) some = refl
+last_bad : (o : Opening) (last : List ℕ) → length last ≢ 0 → AreBadOf o [] last (unended 1 last)
+last_bad o [] some = absurd (some refl)
+last_bad o (b ∷ bs) some = refl
 
-pub unended_bad : (input : List ℕ) → IsWithout 10 input → length input ≢ 0 → AreBad input (unended 1 input)
-unended_bad input h some =
+pub unended_bad : (o : Opening) (input : List ℕ) → IsWithout 10 input → length input ≢ 0
+    → AreBad o input (unended 1 input)
+unended_bad o input h some =
     let none = no_line input h in
-    subst (λ (ls : List (List ℕ)). AreBadOf ls (last_of input) (unended 1 input)) (sym none.0)
-    (subst (λ (last : List ℕ). AreBadOf [] last (unended 1 input)) (sym none.1) (last_bad input some))
+    subst (λ (ls : List (List ℕ)). AreBadOf o ls (last_of input) (unended 1 input)) (sym none.0)
+    (subst (λ (last : List ℕ). AreBadOf o [] last (unended 1 input)) (sym none.1) (last_bad o input some))

@@ -2,6 +2,7 @@
 mod LineFacts
 mod QueryFacts
 mod ToldFacts
+mod RingFacts
 mod BadFacts
 mod ReasonFacts
 mod ListFacts

@@ -40,7 +40,7 @@ head_same x y xs ys e = cc
 tail_same : (x y : ℕ) (xs ys : List ℕ) → x ∷ xs ≡ y ∷ ys → xs ≡ ys
 tail_same x y xs ys e = cc
 
-once : (m : ℕ) (a a' c c' : List ℕ) → IsWithout m a → IsWithout m a' → a ++ m ∷ c ≡ a' ++ m ∷ c'
+pub once : (m : ℕ) (a a' c c' : List ℕ) → IsWithout m a → IsWithout m a' → a ++ m ∷ c ≡ a' ++ m ∷ c'
     → (a ≡ a') × (c ≡ c')
 once m [] [] c c' h k e = (refl, tail_same m m c c' e)
 once m [] (x ∷ a') c c' h k e = absurd (All-head (λ b. b ≢ m) x a' k (sym (head_same m x c (a' ++ m ∷ c') e)))

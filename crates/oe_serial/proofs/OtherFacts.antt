@@ -5,7 +5,7 @@ use Rattle.std.proofs.lemmas.Bool.{ne_eqb, eq-eqb}
 use Rattle.std.proofs.lemmas.List.Elements.{All-head, All-tail}
 use Rattle.std.proofs.lemmas.List.{append-nil}
 use Rattle.oe_serial.specs.Files.{IsWithout, IsParted}
-use Rattle.oe_serial.specs.Others.{Differing, parts_from, parts_of, parts_behind, is_same, first_other, first_word}
+use Rattle.oe_serial.specs.Others.{parts_from, parts_of, parts_behind, is_same, first_other, first_word}
 
 other : (b m : ℕ) → b ≢ m → (b == m) ≡ false
 other b m ne = ne_eqb b m ne

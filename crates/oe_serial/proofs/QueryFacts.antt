@@ -22,10 +22,10 @@ use Rattle.oe_serial.proofs.LineFacts.{parted_once}
 digit_other : (d : ℕ) → 48 + d ≢ 32
 digit_other d e = absurd (omega (arith, e))
 
-one_digit : (d : ℕ) → IsWithout 32 ((48 + d) ∷ [])
+pub one_digit : (d : ℕ) → IsWithout 32 ((48 + d) ∷ [])
 one_digit d = All-cons (λ b. b ≢ 32) (48 + d) [] (digit_other d) (All-nil (λ b. b ≢ 32))
 
-decimal_unparted : (n : ℕ) → n < 2 ^ 64 → IsWithout 32 (decimal n)
+pub decimal_unparted : (n : ℕ) → n < 2 ^ 64 → IsWithout 32 (decimal n)
 decimal_unparted n small = decimal_by_steps (λ m ds. IsWithout 32 ds) (λ m h. one_digit m)
     (λ m ds h before. All-append (λ b. b ≢ 32) ds ((48 + m % 10) ∷ []) before (one_digit (m % 10))) n small
 

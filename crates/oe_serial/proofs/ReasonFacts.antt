@@ -1,7 +1,5 @@
 -- The reason of a line, by what is read of it.
-use Rattle.std.proofs.Common.{◌≡◌, ℕ, List, ◌++◌, sym, subst, inl, inr}
-use Rattle.std.specs.Prelude.{◌⊎◌}
-use Rattle.oe_lines.specs.declared.commands.Command.{Command}
+use Rattle.std.proofs.Common.{ℕ, List, ◌++◌, sym, subst, inl, inr}
 use Rattle.oe_reasons.specs.Reasons.{IsReason, IsTaken}
 use Rattle.oe_serial.specs.declared.reasons.Behind.{Behind}
 use Rattle.oe_serial.specs.declared.reasons.Behind.TheVariants as behind
@@ -26,6 +24,7 @@ read_why line b words (why.NoRequest own x) as_so (same, is, (c, taken)) = (
 )
 read_why line b words why.Long as_so r = absurd r
 read_why line b words why.NoReply as_so r = absurd r
+read_why line b words why.NoRing as_so r = absurd r
 read_why line b words why.Unended as_so r = absurd r
 
 pub words_why : (line words text : List ℕ) (w : Why) → Parts line words text → IsWordsWhy words w → IsWhy line w

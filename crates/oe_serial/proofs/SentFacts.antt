@@ -3,6 +3,7 @@ use Rattle.std.proofs.Common.{◌≡◌, ℕ, List, [], ◌++◌, Option, Some, 
 use Rattle.std.proofs.lemmas.List.{append-nil}
 use Rattle.oe_ports.specs.Ports.{Sink, Sent, Cut, Streams}
 use Rattle.oe_serial.specs.Verdicts.{IsShort, IsDecided}
+use Rattle.oe_serial.specs.declared.origins.Origin.{Origin}
 use Rattle.oe_serial.specs.declared.verdicts.Verdict.{Verdict}
 use Rattle.oe_serial.specs.declared.verdicts.Verdict.TheVariants as verdict
 use Rattle.oe_serial.proofs.LineFacts.{words_short}
@@ -31,9 +32,9 @@ streamed old new waited waits text (Ok x) none same s = all_sent old new waited 
 streamed old new waited waits text (Err e) none same s = front_sent old new waited text same s
 
 -- the text that a line tells
-pub is_short : (input ours : List ℕ) (v : Verdict) → IsDecided input v ours → IsShort v
-is_short input ours (verdict.Serial n) d = tt
-is_short input ours (verdict.Differs number theirs) d =
+pub is_short : (o : Origin) (input ours : List ℕ) (v : Verdict) → IsDecided o input v ours → IsShort v
+is_short o input ours (verdict.Serial n) d = tt
+is_short o input ours (verdict.Differs number theirs) d =
     let tells = d.1.is_verdict.differs.2 in
     (words_short d.1.is_verdict.line tells.words theirs.now 1_024 tells.parts tells.short).1
-is_short input ours (verdict.Unreadable bad) d = tt
+is_short o input ours (verdict.Unreadable bad) d = tt

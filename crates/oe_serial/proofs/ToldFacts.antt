@@ -1,10 +1,11 @@
 -- A line tells of a reply where its words ask for something.
-use Rattle.std.proofs.Common.{◌≡◌, ℕ, ◌≤◌, Bool, true, false, List, Option, Some, None, length, ap}
-use Rattle.std.proofs.Common.{subst, ◌∙◌, not}
+use Rattle.std.proofs.Common.{◌≡◌, ℕ, ◌≤◌, Bool, List, Option, Some, None, length, sym, subst}
 use Rattle.std.specs.Prelude.{MatchOption, IsTrue, is_some}
 use Rattle.oe_rows.specs.declared.scales.Scale.{Scale}
 use Rattle.oe_serial.specs.declared.lines.Asked.{Asked}
-use Rattle.oe_serial.specs.Files.{Parts, Asks, IsTold, Opens}
+use Rattle.oe_serial.specs.Files.{Parts, Asks, IsTold, Opens, IsOpening}
+use Rattle.oe_serial.specs.declared.origins.Opening.{Opening}
+use Rattle.oe_serial.specs.declared.origins.Opening.TheVariants as opening
 use Rattle.oe_serial.proofs.LineFacts.{parts_once}
 
 -- words that ask for nothing, or what they ask for
@@ -25,11 +26,12 @@ told_is line words text (Some a) b short p asks is = (
   λ told. is,
 )
 
-pub opens_nothing : (line : List ℕ) (r : Option Scale) (b : Bool)
-    → MatchOption r ((s : Scale) → Opens line s → ⊥) (Opens line) → is_some r ≡ not b → b ≡ true
-    → (s : Scale) → Opens line s → ⊥
-opens_nothing line None b none is sure = none
-opens_nothing line (Some s) b opens is sure =
-    let same : true ≡ false = is ∙ ap not sure in
-    let never : ⊥ = cc in
-    absurd never
+pub opens_scale : (line : List ℕ) (r : Option Scale) (b : Bool) → b ≡ is_some r
+    → MatchOption r ((s : Scale) → Opens line s → ⊥) (Opens line) → (k : Opening) → k ≡ opening.OfScale
+    → (IsTrue b → IsOpening k line) × (IsOpening k line → IsTrue b)
+opens_scale line None b is none k scale = (
+  λ yes. let never : ⊥ = cc in absurd never,
+  λ opens. let o = subst (λ (z : Opening). IsOpening z line) scale opens in absurd (none o.0 o.1),
+)
+opens_scale line (Some s) b is opens k scale =
+    (λ yes. subst (λ (z : Opening). IsOpening z line) (sym scale) (s, opens), λ o. is)

@@ -3,13 +3,13 @@ use Rattle.std.proofs.Common.{◌≡◌, ℕ, List, [], ◌∷◌, ◌++◌, Opt
 use Rattle.std.proofs.Common.{refl}
 use Rattle.std.specs.Prelude.{All, MatchOption}
 use Rattle.std.specs.FinMap.{empty}
-use Rattle.oe_rows.specs.declared.scales.Scale.{Scale}
 use Rattle.oe_model.specs.Rows.{Rows}
-use Rattle.oe_model.specs.Population.{IsPopulated}
 use Rattle.oe_model.specs.System.{system}
 use Rattle.oe_serial.specs.InOrder.{Between, at_first}
-use Rattle.oe_serial.specs.Files.{IsTold, Opens, lines_of, last_of}
-use Rattle.oe_serial.specs.Verdicts.{Agrees, AreSerial, IsVerdict, EndsSo, IsDecided, verdict_of, Leaves, IsDecision}
+use Rattle.oe_serial.specs.Files.{IsTold, lines_of, last_of}
+use Rattle.oe_serial.specs.Verdicts.{Agrees, AreSerial, IsVerdict, Begins, EndsSo, IsDecided, verdict_of, Leaves}
+use Rattle.oe_serial.specs.Verdicts.{IsDecision}
+use Rattle.oe_serial.specs.declared.origins.Origin.{Origin}
 use Rattle.oe_serial.specs.declared.verdicts.Decision.{Decision}
 use Rattle.oe_serial.specs.declared.verdicts.Verdict.{Verdict}
 use Rattle.oe_serial.specs.declared.verdicts.Verdict.TheVariants as verdict
@@ -37,35 +37,30 @@ no_head ls m ns e f =
     cc
 
 -- a verdict on the lines of a file
-pub decided : (input opening ours : List ℕ) (lines : List (List ℕ)) (s : Scale) (base : Rows) (b end : Between system)
-    → lines_of input ≡ opening ∷ lines → last_of input ≡ [] → Opens opening s → All IsTold lines
-    → IsPopulated s base → b ≡ at_first system base → (v : Verdict) → IsVerdict b lines v ours end
-    → EndsSo input v ours end
-decided input opening ours lines s base b end are ended opens told p first (verdict.Serial n) v = record {
+pub decided : (o : Origin) (input opening ours : List ℕ) (lines : List (List ℕ)) (base : Rows) (b end : Between system)
+    → lines_of input ≡ opening ∷ lines → last_of input ≡ [] → All IsTold lines → Begins o opening base
+    → b ≡ at_first system base → (v : Verdict) → IsVerdict b lines v ours end → EndsSo o input v ours end
+decided o input opening ours lines base b end are ended told begins first (verdict.Serial n) v = record {
   opening = opening;
   lines = lines;
-  scale = s;
   base = base;
   lines_are = are;
   ended = ended;
-  opens = opens;
+  begins = begins;
   told = told;
-  populated = p;
   is_verdict = subst (λ (z : Between system). IsVerdict z lines (verdict.Serial n) ours end) first v;
 }
-decided input opening ours lines s base b end are ended opens told p first (verdict.Differs number theirs) v = record {
+decided o input opening ours lines base b end are ended told begins first (verdict.Differs number theirs) v = record {
   opening = opening;
   lines = lines;
-  scale = s;
   base = base;
   lines_are = are;
   ended = ended;
-  opens = opens;
+  begins = begins;
   told = told;
-  populated = p;
   is_verdict = subst (λ (z : Between system). IsVerdict z lines (verdict.Differs number theirs) ours end) first v;
 }
-decided input opening ours lines s base b end are ended opens told p first (verdict.Unreadable bad) v = absurd v
+decided o input opening ours lines base b end are ended told begins first (verdict.Unreadable bad) v = absurd v
 
 -- where nothing was run
 pub no_tables : Between system
@@ -85,15 +80,15 @@ no_tables = record {
 }
 
 -- the same of a decision, whose verdict it is
-pub decision_so : (input ours : List ℕ) (d : Decision) (v : Verdict) (end : Between system) → verdict_of d ≡ v
-    → EndsSo input v ours end → Leaves d end → IsDecision input d ours
-decision_so input ours d v end same ends leaves =
-    (end, subst (λ (z : Verdict). EndsSo input z ours end) (sym same) ends, leaves)
+pub decision_so : (o : Origin) (input ours : List ℕ) (d : Decision) (v : Verdict) (end : Between system)
+    → verdict_of d ≡ v → EndsSo o input v ours end → Leaves d end → IsDecision o input d ours
+decision_so o input ours d v end same ends leaves =
+    (end, subst (λ (z : Verdict). EndsSo o input z ours end) (sym same) ends, leaves)
 
-pub verdict_so : (input ours : List ℕ) (d : Decision) (v : Verdict) → v ≡ verdict_of d → IsDecision input d ours
-    → IsDecided input v ours
-verdict_so input ours d v same made =
-    (made.0, subst (λ (z : Verdict). EndsSo input z ours made.0) (sym same) made.1)
+pub verdict_so : (o : Origin) (input ours : List ℕ) (d : Decision) (v : Verdict) → v ≡ verdict_of d
+    → IsDecision o input d ours → IsDecided o input v ours
+verdict_so o input ours d v same made =
+    (made.0, subst (λ (z : Verdict). EndsSo o input z ours made.0) (sym same) made.1)
 
 -- what is told of an option
 pub at_some : {A : Type 0} (P : Type 0) (Q : A → Type 0) (o : Option A) (x : A) → o ≡ Some x → MatchOption o P Q → Q x

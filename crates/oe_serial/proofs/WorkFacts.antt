@@ -1,5 +1,5 @@
 -- Of a transaction that runs alone in the server's machine.
-use Rattle.std.proofs.Common.{◌≡◌, ℕ, Option, None, Result, Ok, Err, IfOk, refl, sym, ap, subst, ◌∙◌, inl, inr}
+use Rattle.std.proofs.Common.{◌≡◌, ℕ, List, Option, None, Result, Ok, Err, IfOk, refl, sym, ap, subst, ◌∙◌, inl, inr}
 use Rattle.oe_theory.specs.World.{World, Open, newest, latest}
 use Rattle.oe_theory.specs.Next as theory
 use Rattle.oe_theory.specs.Next.{Next, Begin, Advance, Purge, Read, Answer}
@@ -16,9 +16,10 @@ use Rattle.oe_requests.specs.declared.steps.Step.TheVariants as step
 use Rattle.oe_rows.specs.declared.scales.Scale.{Scale}
 use Rattle.oe_model.specs.Rows.{Rows}
 use Rattle.oe_rows.specs.declared.layouts.Layout.TheVariants.{WholeRows}
-use Rattle.oe_model.specs.Population.{IsScale, IsPopulated}
+use Rattle.oe_model.specs.Conditions.{IsPopulation}
+use Rattle.oe_model.specs.Population.{IsPopulated}
+use Rattle.oe_store.specs.Places.{Places, rows}
 use Rattle.oe_model.specs.System.{system}
-use Rattle.oe_model.proofs.PopulationFacts.{population_is_one}
 use Rattle.oe_model.proofs.SystemLaws.{laws, population_is_good}
 use Rattle.oe_texts.specs.Answer.{answer_text}
 use Rattle.oe_core.specs.Steps.{refusal_in, answer_in, Advances}
@@ -28,6 +29,10 @@ use Rattle.oe_admission.proofs.LiveFacts.{next_live}
 use Rattle.oe_serial.specs.declared.lines.Asked.TheVariants as asked
 use Rattle.oe_serial.specs.InOrder.{Between, at_first, Refuses, Misses, between}
 use Rattle.oe_serial.specs.Answers.{Answers}
+use Rattle.oe_serial.specs.Files.{Opens, OpensRing}
+use Rattle.oe_serial.specs.Verdicts.{Begins}
+use Rattle.oe_serial.specs.declared.origins.Origin.{Origin}
+use Rattle.oe_serial.specs.declared.origins.Origin.TheVariants as origin
 use Rattle.oe_serial.specs.Worlds.{IsFree, IsAtWork, Ends, shortage_of}
 use Rattle.oe_serial.proofs.AloneFacts.{begun_alone, more_alone, commits_alone, aborts_alone, of_advance, of_begin}
 use Rattle.oe_serial.proofs.AloneFacts.{Stays, purge_stays, Leaves, aborted_leaves, rejected_stays, of_read}
@@ -177,18 +182,37 @@ purge_keeps w v m a f n =
 
 -- WHERE THE FIRST TRANSACTION BEGINS
 
-opened_free : (s : Scale) (x : Rows) (n : ℕ) → IsScale s → IsPopulated s x → IsFree (opened system x n WholeRows)
-opened_free s x n h p = record {
-  live = (
-    opening_is_reached system laws x n WholeRows (population_is_good x (population_is_one.is_population s x h p)),
-    λ t. tt,
-  );
+opened_free : (x : Rows) (n : ℕ) → IsPopulation x → IsFree (opened system x n WholeRows)
+opened_free x n p = record {
+  live = (opening_is_reached system laws x n WholeRows (population_is_good x p), λ t. tt);
   quiet = λ t. refl;
 }
 
-pub opened_so : {A E : Type 0} (w : A → World system) (s : Scale) (x : Rows) (n : ℕ) → IsScale s → IsPopulated s x
-    → (r : Result A E) → IfOk r (λ c. w c ≡ opened system x n WholeRows)
-    → IfOk r (λ c. IsFree (w c) × ((y : Rows) × IsPopulated s y × (between system (w c) ≡ at_first system y)))
-opened_so w s x n h p (Ok c) e =
-    (subst IsFree (sym e) (opened_free s x n h p), (x, p, ap (λ (z : World system). between system z) e))
-opened_so w s x n h p (Err e) u = u
+module _ {A E : Type 0} (w : A → World system) where
+  pub opened_so : (x : Rows) (n : ℕ) → IsPopulation x → (r : Result A E)
+      → IfOk r (λ c. w c ≡ opened system x n WholeRows)
+      → IfOk r (λ c. IsFree (w c) × (between system (w c) ≡ at_first system x))
+  opened_so x n p (Ok c) e =
+      (subst IsFree (sym e) (opened_free x n p), ap (λ (z : World system). between system z) e)
+  opened_so x n p (Err e) u = u
+
+  pub populated_so : (s : Scale) (x : Rows) → IsPopulated s x → (r : Result A E)
+      → IfOk r (λ c. IsFree (w c) × (between system (w c) ≡ at_first system x))
+      → IfOk r (λ c. IsFree (w c) × ((y : Rows) × IsPopulated s y × (between system (w c) ≡ at_first system y)))
+  populated_so s x p (Ok c) (f, e) = (f, (x, p, e))
+  populated_so s x p (Err e) u = u
+
+  -- what a first line opens
+  pub begun_of : (o : Origin) (line : List ℕ) (s : Scale) → o ≡ origin.Population → Opens line s → (r : Result A E)
+      → IfOk r (λ c. IsFree (w c) × ((y : Rows) × IsPopulated s y × (between system (w c) ≡ at_first system y)))
+      → IfOk r (λ c. IsFree (w c) × ((y : Rows) × Begins o line y × (between system (w c) ≡ at_first system y)))
+  begun_of o line s is opens (Ok c) (f, (y, p, e)) =
+      (f, (y, subst (λ (z : Origin). Begins z line y) (sym is) (s, opens, p), e))
+  begun_of o line s is opens (Err e) u = u
+
+  pub begun_on : (o : Origin) (line : List ℕ) (t : Places) → o ≡ origin.Tables t → OpensRing line → (r : Result A E)
+      → IfOk r (λ c. IsFree (w c) × (between system (w c) ≡ at_first system (rows t)))
+      → IfOk r (λ c. IsFree (w c) × ((y : Rows) × Begins o line y × (between system (w c) ≡ at_first system y)))
+  begun_on o line t is opens (Ok c) (f, e) =
+      (f, (rows t, subst (λ (z : Origin). Begins z line (rows t)) (sym is) (opens, refl), e))
+  begun_on o line t is opens (Err e) u = u

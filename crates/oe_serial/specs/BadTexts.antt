@@ -14,6 +14,7 @@ why_text why.Long = codes "it has more than 1024 bytes"
 why_text why.NoReply = codes "no \" => \" between a request and its reply"
 why_text (why.Of b words r) = reason_text (front_text b ++ take 1_024 words.now) r
 why_text (why.NoRequest b words) = codes "neither a request nor a query"
+why_text why.NoRing = codes "not of the form open EXTENTS or open EXTENTS LAYOUT"
 why_text why.Unended = codes "no newline at the end"
 
 -- line <number>: <why>

@@ -11,6 +11,9 @@ use Rattle.oe_lines.specs.declared.commands.RingChoice.{RingChoice}
 use Rattle.oe_lines.specs.declared.commands.Command.{Command}
 use Rattle.oe_lines.specs.declared.commands.Command.TheVariants as command
 use Rattle.oe_lines.specs.Grammar.{Says, IsQuery, query_words}
+use Rattle.oe_lines.specs.Rings.{layout_words}
+use Rattle.oe_serial.specs.declared.origins.Opening.{Opening}
+use Rattle.oe_serial.specs.declared.origins.Opening.TheVariants as opening
 use Rattle.oe_serial.specs.declared.lines.Asked.{Asked}
 use Rattle.oe_serial.specs.declared.lines.Asked.TheVariants as asked
 use Rattle.oe_reasons.specs.Reasons.{IsReason, IsTaken}
@@ -79,6 +82,18 @@ pub record Opens (line : List ℕ) (s : Scale) : Type 0 where
   pub ring : RingChoice
   pub says : Says line (command.Open s ring)
 
+-- it opens an undo ring for tables that are there
+pub record OpensRing (line : List ℕ) : Type 0 where
+  pub short : length line ≤ 1_024
+  pub ring : RingChoice
+  pub extents : IsInRange 2 4_096 ring.extents
+  pub spelled : line ≡ join_with_byte 32 (codes "open" ∷ decimal ring.extents ∷ layout_words ring.layout)
+
+-- a first line of that kind
+abbrev pub IsOpening : Opening → List ℕ → Type 0
+IsOpening opening.OfScale line = (s : Scale) × Opens line s
+IsOpening opening.OfRing line = OpensRing line
+
 -- LINES OF NO FORM
 
 -- What a bad line is read as, whole or in part: itself, while nothing is open; its words behind `begin`; of a query the
@@ -111,6 +126,7 @@ IsWhy line (why.Of b words r) =
 IsWhy line (why.NoRequest b words) =
     IsReadAs line b words.now
     × ((c : Command) × IsTaken (is_open_behind b) (front_text b ++ words.now) c)
+IsWhy line why.NoRing = OpensRing line → ⊥
 IsWhy line why.Unended = ⊥
 
 -- the same of words behind others, which are read
@@ -129,10 +145,10 @@ IsWordsWhy words w =
     × (IsReadWhy behind.Next word w ⊎ IsReadWhy behind.ReadNow rest w))
 
 -- the first line, where it opens nothing
-abbrev pub Unopened : List ℕ → List BadLine → Type 0
-Unopened line bad =
-    ((s : Scale) × Opens line s × (bad ≡ []))
-    ⊎ (((s : Scale) → Opens line s → ⊥)
+abbrev pub Unopened : Opening → List ℕ → List BadLine → Type 0
+Unopened o line bad =
+    (IsOpening o line × (bad ≡ []))
+    ⊎ ((IsOpening o line → ⊥)
     × ((b : BadLine) × (b.number ≡ 1) × IsWhy line b.why × (bad ≡ b ∷ [])))
 
 -- of these lines, the first of which is the n-th, those that tell of no reply
@@ -150,15 +166,15 @@ unended n [] = []
 unended n (b ∷ bs) = record { number = n; why = why.Unended } ∷ []
 
 -- all lines that have no form, in order; a file without a line has no opening
-abbrev pub AreBadOf : List (List ℕ) → List ℕ → List BadLine → Type 0
-AreBadOf [] [] bad = Unopened [] bad
-AreBadOf [] (b ∷ bs) bad = bad ≡ unended 1 (b ∷ bs)
-AreBadOf (line ∷ lines) last bad =
-    (first more : List BadLine) × Unopened line first × Untold 2 lines more
+abbrev pub AreBadOf : Opening → List (List ℕ) → List ℕ → List BadLine → Type 0
+AreBadOf o [] [] bad = Unopened o [] bad
+AreBadOf o [] (b ∷ bs) bad = bad ≡ unended 1 (b ∷ bs)
+AreBadOf o (line ∷ lines) last bad =
+    (first more : List BadLine) × Unopened o line first × Untold 2 lines more
     × (bad ≡ first ++ more ++ unended (length lines + 2) last)
 
-abbrev pub AreBad : List ℕ → List BadLine → Type 0
-AreBad input bad = AreBadOf (lines_of input) (last_of input) bad
+abbrev pub AreBad : Opening → List ℕ → List BadLine → Type 0
+AreBad o input bad = AreBadOf o (lines_of input) (last_of input) bad
 
 -- the first twenty of them, and how many they are
 pub record Shows (shown : BadLines) (bad : List BadLine) : Type 0 where

@@ -3,6 +3,7 @@ use Rattle.std.specs.Prelude.{◌≡◌, ◌≢◌, ℕ, ◌+◌, ◌≤◌, All
 use Rattle.std.specs.Prelude.{codes, decimal}
 use Rattle.oe_rows.specs.declared.scales.Scale.{Scale}
 use Rattle.oe_model.specs.Rows.{Rows}
+use Rattle.oe_model.specs.Conditions.{IsPopulation}
 use Rattle.oe_model.specs.Population.{IsPopulated}
 use Rattle.oe_model.specs.System.{system}
 use Rattle.oe_ports.specs.Ports.{Sink, Sent, Cut}
@@ -11,7 +12,11 @@ use Rattle.oe_serial.specs.InOrder.{Between, at_first}
 use Rattle.oe_serial.specs.declared.lines.Asked.{Asked}
 use Rattle.oe_serial.specs.Answers.{Answers}
 use Rattle.oe_serial.specs.Others.{other_line}
-use Rattle.oe_serial.specs.Files.{Tells, IsTold, Opens, lines_of, last_of, AreBad, Shows}
+use Rattle.oe_serial.specs.Files.{Tells, IsTold, Opens, OpensRing, lines_of, last_of, AreBad, Shows}
+use Rattle.oe_serial.specs.declared.origins.Opening.{Opening}
+use Rattle.oe_serial.specs.declared.origins.Opening.TheVariants as opening
+use Rattle.oe_serial.specs.declared.origins.Origin.{Origin}
+use Rattle.oe_serial.specs.declared.origins.Origin.TheVariants as origin
 use Rattle.oe_serial.specs.declared.reasons.BadLine.{BadLine}
 use Rattle.oe_serial.specs.declared.verdicts.Verdict.{Verdict}
 use Rattle.oe_serial.specs.declared.verdicts.Verdict.TheVariants as verdict
@@ -51,29 +56,42 @@ IsVerdict b lines (verdict.Serial n) ours end = AreSerial b lines end × (n ≡ 
 IsVerdict b lines (verdict.Differs number theirs) ours end = IsFirstOther b lines number theirs.now ours
 IsVerdict b lines (verdict.Unreadable bad) ours end = ⊥
 
--- the file opens a scale, each of its other lines tells of a reply, and this is the verdict on them from that scale's
--- population
-pub record IsOfFile (input : List ℕ) (v : Verdict) (ours : List ℕ) (end : Between system) : Type 0 where
+-- what the first line of a file opens, by what the file begins from
+abbrev pub opening_of : Origin → Opening
+opening_of origin.Population = opening.OfScale
+opening_of (origin.Tables t) = opening.OfRing
+
+-- what a file begins from may be opened
+abbrev pub IsOrigin : Origin → Type 0
+IsOrigin origin.Population = Unit {0}
+IsOrigin (origin.Tables t) = IsPopulation (rows t)
+
+-- the first line opens these tables: the population of its scale, or those that are there
+abbrev pub Begins : Origin → List ℕ → Rows → Type 0
+Begins origin.Population line r = (s : Scale) × Opens line s × IsPopulated s r
+Begins (origin.Tables t) line r = OpensRing line × (r ≡ rows t)
+
+-- the file's first line opens tables, each of its other lines tells of a reply, and this is the verdict on them from
+-- these tables
+pub record IsOfFile (o : Origin) (input : List ℕ) (v : Verdict) (ours : List ℕ) (end : Between system) : Type 0 where
   pub opening : List ℕ
   pub lines : List (List ℕ)
-  pub scale : Scale
   pub base : Rows
   pub lines_are : lines_of input ≡ opening ∷ lines
   pub ended : last_of input ≡ []
-  pub opens : Opens opening scale
+  pub begins : Begins o opening base
   pub told : All IsTold lines
-  pub populated : IsPopulated scale base
   pub is_verdict : IsVerdict (at_first system base) lines v ours end
 
 -- that; or the lines that have no form
-abbrev pub EndsSo : List ℕ → Verdict → List ℕ → Between system → Type 0
-EndsSo input (verdict.Serial n) ours end = IsOfFile input (verdict.Serial n) ours end
-EndsSo input (verdict.Differs number theirs) ours end = IsOfFile input (verdict.Differs number theirs) ours end
-EndsSo input (verdict.Unreadable shown) ours end =
-    (bad : List BadLine) × AreBad input bad × (bad ≢ []) × Shows shown bad
+abbrev pub EndsSo : Origin → List ℕ → Verdict → List ℕ → Between system → Type 0
+EndsSo o input (verdict.Serial n) ours end = IsOfFile o input (verdict.Serial n) ours end
+EndsSo o input (verdict.Differs number theirs) ours end = IsOfFile o input (verdict.Differs number theirs) ours end
+EndsSo o input (verdict.Unreadable shown) ours end =
+    (bad : List BadLine) × AreBad (opening_of o) input bad × (bad ≢ []) × Shows shown bad
 
-abbrev pub IsDecided : List ℕ → Verdict → List ℕ → Type 0
-IsDecided input v ours = (end : Between system) × EndsSo input v ours end
+abbrev pub IsDecided : Origin → List ℕ → Verdict → List ℕ → Type 0
+IsDecided o input v ours = (end : Between system) × EndsSo o input v ours end
 
 -- a decision is a verdict, with the tables at the end where that is serial
 abbrev pub verdict_of : Decision → Verdict
@@ -86,8 +104,8 @@ Leaves (decision.Serial n tables) end = rows tables ≡ end.rows
 Leaves (decision.Differs number theirs) end = Unit {0}
 Leaves (decision.Unreadable bad) end = Unit {0}
 
-abbrev pub IsDecision : List ℕ → Decision → List ℕ → Type 0
-IsDecision input d ours = (end : Between system) × EndsSo input (verdict_of d) ours end × Leaves d end
+abbrev pub IsDecision : Origin → List ℕ → Decision → List ℕ → Type 0
+IsDecision o input d ours = (end : Between system) × EndsSo o input (verdict_of d) ours end × Leaves d end
 
 -- WHAT IS WRITTEN
 
@@ -118,8 +136,8 @@ IsShort (verdict.Unreadable bad) = Unit {0}
 
 -- The file is decided, and the verdict written; nothing was decided or written, for want of memory or extents; or a
 -- beginning of the verdict was.
-abbrev pub SerialRan : List ℕ → Option Sink → Option Sink → Result Verdict SerialFault → Type 0
-SerialRan input old new (Ok v) = (ours : List ℕ) × IsDecided input v ours × Sent old [] new [] (verdict_text v ours)
-SerialRan input old new (Err (fault.Short s)) = new ≡ old
-SerialRan input old new (Err fault.Write) =
-    (v : Verdict) × (ours : List ℕ) × IsDecided input v ours × Cut old [] new (verdict_text v ours)
+abbrev pub SerialRan : Origin → List ℕ → Option Sink → Option Sink → Result Verdict SerialFault → Type 0
+SerialRan o input old new (Ok v) = (ours : List ℕ) × IsDecided o input v ours × Sent old [] new [] (verdict_text v ours)
+SerialRan o input old new (Err (fault.Short s)) = new ≡ old
+SerialRan o input old new (Err fault.Write) =
+    (v : Verdict) × (ours : List ℕ) × IsDecided o input v ours × Cut old [] new (verdict_text v ours)

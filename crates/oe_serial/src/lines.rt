@@ -10,8 +10,9 @@ ghost use Rattle.oe_lines.specs.declared.commands.Command.TheVariants as asks;
 ghost use Rattle.oe_lines.specs.declared.commands.MomentChoice.TheVariants as moment;
 ghost use Rattle.oe_serial.specs.declared.lines.Asked.{Asked};
 ghost use Rattle.oe_serial.specs.declared.reasons.BadLine.{BadLine};
-ghost use Rattle.oe_serial.specs.Files.{IsWithout, IsParted, Parts, AsksFor, Asks, IsTold, Opens, lines_of, last_of, unended, Unopened, Untold, AreBad, Shows};
+ghost use Rattle.oe_serial.specs.Files.{IsWithout, IsParted, Parts, AsksFor, Asks, IsTold, Opens, OpensRing, IsOpening, lines_of, last_of, unended, Unopened, Untold, AreBad, Shows};
 
+use crate::origins::Opening;
 use crate::reasons::{BadLine, Why, why_line, why_opening};
 use arrayvec::ArrayVec;
 use memchr::memchr;
@@ -85,12 +86,12 @@ pub(crate) fn told(line: &[u8]) -> Option<(&[u8], &[u8])>
 
 // Reads the command that words ask for behind others.
 fn command_behind(front: &[u8], words: &[u8]) -> Option<Command>
-    requires front { length front.now ≤ 9 }
+    requires front { length front.now ≤ 11 }
     requires words { length words.now ≤ 1_024 }
     ensures found { IfSome result (λ c. Says (front.now ++ words.now) c) }
     ensures only { (c : Command) → Says (front.now ++ words.now) c → result ≡ Some c }
 {
-    let mut line: ArrayVec<u8, 1_033> = ArrayVec::new();
+    let mut line: ArrayVec<u8, 1_035> = ArrayVec::new();
     line.try_extend_from_slice(front).unwrap();
     line.try_extend_from_slice(words).unwrap();
     command(line.as_slice())
@@ -199,6 +200,32 @@ pub(crate) fn opening(line: &[u8]) -> Option<Scale>
     }
 }
 
+// Tells whether a line opens an undo ring for tables that are there.
+fn opens_ring(line: &[u8]) -> bool
+    ensures { IsTrue result ↔ OpensRing line.now }
+{
+    if line.len() > LINE {
+        return false;
+    }
+    let Some(rest) = after(line, b"open ") else {
+        return false;
+    };
+    let Some(command) = command_behind(b"open 1 1 1 ", rest) else {
+        return false;
+    };
+    matches!(command, Command::Open(_, _))
+}
+
+// Tells whether a line opens what a file's first line has to.
+fn opens(line: &[u8], kind: Opening) -> bool
+    ensures { IsTrue result ↔ IsOpening kind line.now }
+{
+    match kind {
+        Opening::OfScale => opening(line).is_some(),
+        Opening::OfRing => opens_ring(line),
+    }
+}
+
 impl<'a> BadLines<'a> {
     // Makes no lines.
     fn none() -> Self
@@ -236,16 +263,16 @@ fn keep<'a>(first: &mut ArrayVec<BadLine<'a>, 20>, line: BadLine<'a>)
 }
 
 // Notes the first line, where it opens nothing.
-fn note_opening<'a>(bad: &mut BadLines<'a>, line: &'a [u8])
+fn note_opening<'a>(bad: &mut BadLines<'a>, line: &'a [u8], kind: Opening)
     requires { bad.old.count ≡ 0 }
-    ensures shown { (first : List BadLine) × Unopened line.now first
+    ensures shown { (first : List BadLine) × Unopened kind line.now first
         × ((b : List BadLine) → Shows bad.old b → Shows bad.new (b ++ first)) }
     ensures count { bad.new.count ≤ 1 }
 {
-    if opening(line).is_none() {
+    if !opens(line, kind) {
         bad.note(BadLine {
             number: 1,
-            why: why_opening(line),
+            why: why_opening(line, kind),
         });
     }
 }
@@ -296,28 +323,28 @@ fn note_lines<'a>(bad: &mut BadLines<'a>, lines: &'a [u8])
 }
 
 // Finds what is bad of a file without a line.
-fn bad_last<'a>(input: &'a [u8]) -> BadLines<'a>
+fn bad_last<'a>(input: &'a [u8], kind: Opening) -> BadLines<'a>
     requires { IsWithout 10 input.now }
-    ensures { (bad : List BadLine) × AreBad input.now bad × Shows result bad }
+    ensures { (bad : List BadLine) × AreBad kind input.now bad × Shows result bad }
 {
     let mut bad = BadLines::none();
     if input.is_empty() {
-        note_opening(&mut bad, input);
+        note_opening(&mut bad, input, kind);
         return bad;
     }
     note_last(&mut bad, 1, input);
     bad
 }
 
-/// Finds the lines of a file that have no form.
-pub(crate) fn bad_lines<'a>(input: &'a [u8]) -> BadLines<'a>
-    ensures { (bad : List BadLine) × AreBad input.now bad × Shows result bad }
+/// Finds the lines of a file that have no form; the first has to open something of a kind.
+pub(crate) fn bad_lines<'a>(input: &'a [u8], kind: Opening) -> BadLines<'a>
+    ensures { (bad : List BadLine) × AreBad kind input.now bad × Shows result bad }
 {
     let Some((first, rest)) = parted_at(input, b'\n') else {
-        return bad_last(input);
+        return bad_last(input, kind);
     };
     let mut bad = BadLines::none();
-    note_opening(&mut bad, first);
+    note_opening(&mut bad, first, kind);
     note_lines(&mut bad, rest);
     bad
 }

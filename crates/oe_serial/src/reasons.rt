@@ -3,10 +3,11 @@
 ghost use Rattle.std.specs.Prelude.{◌≡◌, ◌≤◌, ◌++◌, ◌+◌, ◌⊎◌, length, take};
 ghost use Rattle.arrayvec.specs.ArrayVec.{array_vec_len};
 ghost use Rattle.oe_serial.specs.declared.reasons.Behind.TheVariants as behind;
-ghost use Rattle.oe_serial.specs.Files.{IsReadWhy, IsWordsWhy, IsWhy, front_text, is_open_behind};
+ghost use Rattle.oe_serial.specs.Files.{IsOpening, IsReadWhy, IsWordsWhy, IsWhy, front_text, is_open_behind};
 ghost use Rattle.oe_serial.specs.BadTexts.{why_text, bad_line_text};
 
 use crate::lines::{LINE, is_terminal, parted_at, told};
+use crate::origins::Opening;
 use crate::texts::decimal;
 use arrayvec::ArrayVec;
 use oe_reasons::{Reason, tell, why};
@@ -36,6 +37,8 @@ pub enum Why<'a> {
     Of(Behind, &'a [u8], Reason),
     /// These words behind those ask for something else.
     NoRequest(Behind, &'a [u8]),
+    /// It opens no undo ring.
+    NoRing,
     /// It is the last, and has no end.
     #[default]
     Unended,
@@ -95,14 +98,18 @@ fn why_read<'a>(behind: Behind, words: &'a [u8]) -> Why<'a>
     }
 }
 
-/// Gives the reason why the first line opens nothing.
-pub(crate) fn why_opening<'a>(line: &'a [u8]) -> Why<'a>
+/// Gives the reason why the first line opens nothing of a kind.
+pub(crate) fn why_opening<'a>(line: &'a [u8], opening: Opening) -> Why<'a>
+    requires { IsOpening opening line.now → ⊥ }
     ensures { IsWhy line.now result }
 {
     if line.len() > LINE {
         return Why::Long;
     }
-    why_read(Behind::Nothing, line)
+    match opening {
+        Opening::OfScale => why_read(Behind::Nothing, line),
+        Opening::OfRing => Why::NoRing,
+    }
 }
 
 // Tells whether words are those of a query, behind its terminal.
@@ -173,6 +180,7 @@ fn tell_why(out: &mut Pending, why: &Why)
             tell(out, line.as_slice(), reason);
         }
         Why::NoRequest(_, _) => text(out, b"neither a request nor a query"),
+        Why::NoRing => text(out, b"not of the form open EXTENTS or open EXTENTS LAYOUT"),
         Why::Unended => text(out, b"no newline at the end"),
     }
 }

@@ -1,8 +1,9 @@
 //! What is told of a file: a line on the output where it is decided, and an exit status.
 ghost use Rattle.std.specs.Prelude.{◌≡◌, ◌≤◌, ◌++◌, [], length};
 ghost use Rattle.oe_ports.specs.Ports.{Streams};
-ghost use Rattle.oe_serial.specs.Verdicts.{verdict_text, status_of, IsShort, SerialRan};
+ghost use Rattle.oe_serial.specs.Verdicts.{verdict_text, status_of, IsShort, IsOrigin, SerialRan};
 
+use crate::origins::Origin;
 use crate::others::other_line;
 use crate::texts::{differs_line, serial_line};
 use crate::verdicts::{Shortage, Verdict, decide};
@@ -77,12 +78,14 @@ pub fn write_verdict<W: Outlet>(
 pub fn run_serial<'a, W: Outlet>(
     alloc: Global,
     input: &'a [u8],
+    origin: Origin,
     writer: &mut W,
 ) -> Result<Verdict<'a>, SerialFault>
-    ensures { SerialRan input.now (W.sink writer.old) (W.sink writer.new) result }
+    requires { IsOrigin origin }
+    ensures { SerialRan origin input.now (W.sink writer.old) (W.sink writer.new) result }
 {
     let mut ours: ArrayVec<u8, LONGEST> = ArrayVec::new();
-    let verdict = match decide(alloc, input, &mut ours) {
+    let verdict = match decide(alloc, input, origin, &mut ours) {
         Ok(decision) => decision.verdict(),
         Err(shortage) => return Err(SerialFault::Short(shortage)),
     };

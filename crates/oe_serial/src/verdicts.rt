@@ -3,17 +3,20 @@
 ghost use Rattle.std.specs.Prelude.{◌≡◌, IfOk, MatchOption};
 ghost use Rattle.std.specs.List.{All};
 ghost use Rattle.oe_core.specs.Core.{world_of};
+ghost use Rattle.oe_model.specs.Conditions.{IsPopulation};
 ghost use Rattle.oe_model.specs.Population.{IsPopulated, IsScale};
+ghost use Rattle.oe_store.specs.Places.{rows};
 ghost use Rattle.oe_model.specs.Rows.{Rows};
 ghost use Rattle.oe_model.specs.System.{system};
 ghost use Rattle.oe_serial.specs.InOrder.{at_first, between};
-ghost use Rattle.oe_serial.specs.Files.{IsTold, lines_of};
+ghost use Rattle.oe_serial.specs.Files.{IsTold, IsOpening, lines_of};
 ghost use Rattle.oe_serial.specs.Worlds.{IsFree};
-ghost use Rattle.oe_serial.specs.Verdicts.{Agrees, Differs, IsVerdict, verdict_of, Leaves, IsDecision};
+ghost use Rattle.oe_serial.specs.Verdicts.{Agrees, Differs, IsVerdict, verdict_of, Leaves, opening_of, IsOrigin, Begins, IsDecision};
 
 use crate::alone::answered;
 use crate::answers::AnswerText;
 use crate::lines::{BadLines, bad_lines, opening, parted_at, read_words, told};
+use crate::origins::Origin;
 use oe_core::Core;
 use oe_population::populate;
 use oe_rows::{Layout, Scale};
@@ -113,20 +116,48 @@ fn compared<'a>(
     Ok(Verdict::Serial(count))
 }
 
-// Opens a core on the population of a scale, with as many undo extents as there can be.
+// Opens a core on tables, with as many undo extents as there can be.
+fn opened_on(alloc: Global, tables: Tables) -> Result<Core, NoMemory>
+    requires { IsPopulation (rows tables) }
+    ensures { IfOk result (λ c. IsFree (world_of c)
+        × (between system (world_of c) ≡ at_first system (rows tables))) }
+{
+    Core::open(
+        alloc,
+        tables,
+        Number::new(4_096).unwrap(),
+        Layout::WholeRows,
+    )
+}
+
+// Opens a core on the population of a scale.
 fn opened(alloc: Global, scale: Scale) -> Result<Core, NoMemory>
     requires { IsScale scale }
     ensures { IfOk result (λ c. IsFree (world_of c)
         × ((r : Rows) × IsPopulated scale r × (between system (world_of c) ≡ at_first system r))) }
 {
     match populate(alloc, scale) {
-        Ok(tables) => Core::open(
-            alloc,
-            tables,
-            Number::new(4_096).unwrap(),
-            Layout::WholeRows,
-        ),
+        Ok(tables) => opened_on(alloc, tables),
         Err(e) => Err(e),
+    }
+}
+
+// Opens a core on what the first line of a file opens.
+fn begun(alloc: Global, line: &[u8], origin: Origin) -> Result<Core, NoMemory>
+    requires opening { IsOpening (opening_of origin) line.now }
+    requires origin { IsOrigin origin }
+    ensures { IfOk result (λ c. IsFree (world_of c)
+        × ((r : Rows) × Begins origin line.now r
+        × (between system (world_of c) ≡ at_first system r))) }
+{
+    match origin {
+        Origin::Population => {
+            let Some(scale) = opening(line) else {
+                unreachable!()
+            };
+            opened(alloc, scale)
+        }
+        Origin::Tables(tables) => opened_on(alloc, tables),
     }
 }
 
@@ -165,7 +196,7 @@ impl<'a> Decision<'a> {
 }
 
 /// Decides whether a file's lines tell the replies that its transactions and queries have, one at a
-/// time in this order from the population of its scale. A transaction may be told to be refused: it
+/// time in this order from those tables. A transaction may be told to be refused: it
 /// has changed nothing then. Where all lines agree, the tables that the transactions leave are part
 /// of the decision. Where one doesn't, `ours` is the text that this order gives in place of the
 /// first such line's.
@@ -175,21 +206,21 @@ impl<'a> Decision<'a> {
 pub fn decide<'a>(
     alloc: Global,
     input: &'a [u8],
+    origin: Origin,
     ours: &mut AnswerText,
 ) -> Result<Decision<'a>, Shortage>
-    ensures { IfOk result (λ d. IsDecision input.now d ours.new.items) }
+    requires { IsOrigin origin }
+    ensures { IfOk result (λ d. IsDecision origin input.now d ours.new.items) }
 {
-    let bad = bad_lines(input);
+    let bad = bad_lines(input, origin.opening());
     if bad.count > 0 {
+        origin.discard();
         return Ok(Decision::Unreadable(bad));
     }
     let Some((first, lines)) = parted_at(input, b'\n') else {
         unreachable!()
     };
-    let Some(scale) = opening(first) else {
-        unreachable!()
-    };
-    let Ok(mut core) = opened(alloc, scale) else {
+    let Ok(mut core) = begun(alloc, first, origin) else {
         return Err(Shortage::NoMemory);
     };
     match compared(&mut core, lines, ours) {

@@ -25,7 +25,7 @@ use oe_ports::standard::{Printed, Standard};
 use oe_reading::{Format, Stop};
 use oe_script::script::run_script;
 use oe_script::session::ScriptFault;
-use oe_serial::{SerialFault, Verdict, run_serial, status, write_bad_lines};
+use oe_serial::{Origin, SerialFault, Verdict, run_serial, status, write_bad_lines};
 use oe_tasks::{Task, job};
 use oe_values::Terminal;
 use std::env::Env;
@@ -193,7 +193,7 @@ fn decide<R: Print + Eprint + AllocGlobal>(
     input: &[u8],
 ) -> io::Result<ExitCode> {
     let mut writer = Printed::new(rt);
-    match run_serial(rt.alloc(), input, &mut writer) {
+    match run_serial(rt.alloc(), input, Origin::Population, &mut writer) {
         Ok(verdict) => tell_replies(errors, &verdict),
         Err(SerialFault::Write) => fail(rt, writer.fault()),
         Err(fault) => fail(rt, fault),
@@ -284,7 +284,7 @@ fn compare<R: Clock + Print + Eprint + AllocGlobal, F: Read + Drop>(
     sources: &mut Sources<TableFile<'_, '_, R, F>>,
 ) -> io::Result<ExitCode> {
     let mut writer = Printed::new(rt);
-    match run_comparison(rt.alloc(), input, sources, &mut writer) {
+    match run_comparison(rt.alloc(), input, Origin::Population, sources, &mut writer) {
         Ok(verdict) => tell_comparison(errors, &verdict),
         Err(ComparisonFault::Stopped(stop)) => tell_stop(rt, sources, stop),
         Err(ComparisonFault::Write) => fail(rt, writer.fault()),

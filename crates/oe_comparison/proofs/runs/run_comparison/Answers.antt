@@ -12,16 +12,16 @@ pub tell_replies-requires-clause-short : goal.tell_replies-requires-clause-short
 tell_replies-requires-clause-short g c =
     let n = c.in-Differs.number in
     let theirs = c.in-Differs.theirs in
-    is_short c.args.input.now c.decide.new.ours.items (reply.Differs n theirs)
-    (decided c.args.input.now c.decide.new.ours.items c.in-Ok.decision (decision.Differs n theirs) c.in-Differs.is
-    c.in-Ok.ensures)
+    is_short c.args.origin c.args.input.now c.decide.new.ours.items (reply.Differs n theirs)
+    (decided c.args.origin c.args.input.now c.decide.new.ours.items c.in-Ok.decision (decision.Differs n theirs)
+    c.in-Differs.is c.in-Ok.ensures)
 
 pub returns-in-Serial : goal.returns-in-Serial
 returns-in-Serial g c = inr (
   c.in-Serial.count,
   rows c.in-Serial.tables,
-  leaves c.args.input.now c.decide.new.ours.items c.in-Ok.decision c.in-Serial.count c.in-Serial.tables c.in-Serial.is
-      c.in-Ok.ensures,
+  leaves c.args.origin c.args.input.now c.decide.new.ours.items c.in-Ok.decision c.in-Serial.count
+      c.in-Serial.tables c.in-Serial.is c.in-Ok.ensures,
   c.compare-verdict.ensures,
 )
 
@@ -29,15 +29,17 @@ pub returns-in-Differs : goal.returns-in-Differs
 returns-in-Differs g c =
     let n = c.in-Differs.number in
     let theirs = c.in-Differs.theirs in
-    inl (replies_told c.args.input.now c.as_slice.result.now (reply.Differs n theirs) _ _ c.tell_replies.result
-    (subst (λ ours. IsDecided c.args.input.now (reply.Differs n theirs) ours) (sym c.as_slice.ensures.value)
-    (decided c.args.input.now c.decide.new.ours.items c.in-Ok.decision (decision.Differs n theirs) c.in-Differs.is
-    c.in-Ok.ensures)) tt c.tell_replies.ensures)
+    inl (replies_told c.args.origin c.args.input.now c.as_slice.result.now (reply.Differs n theirs) _ _
+    c.tell_replies.result
+    (subst (λ ours. IsDecided c.args.origin c.args.input.now (reply.Differs n theirs) ours)
+    (sym c.as_slice.ensures.value)
+    (decided c.args.origin c.args.input.now c.decide.new.ours.items c.in-Ok.decision (decision.Differs n theirs)
+    c.in-Differs.is c.in-Ok.ensures)) tt c.tell_replies.ensures)
 
 pub returns-in-Unreadable : goal.returns-in-Unreadable
 returns-in-Unreadable g c = inl (
   c.decide.new.ours.items,
-  decided c.args.input.now c.decide.new.ours.items c.in-Ok.decision _ c.in-Unreadable.is c.in-Ok.ensures,
+  decided c.args.origin c.args.input.now c.decide.new.ours.items c.in-Ok.decision _ c.in-Unreadable.is c.in-Ok.ensures,
   tt,
   sent_none (g.W.Outlet.sink c.args.writer.now) [],
 )

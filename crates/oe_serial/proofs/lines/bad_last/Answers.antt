@@ -9,7 +9,7 @@ returns-then-is_empty c =
     let o = c.note_opening.ensures.shown in
     let none : (length c.args.input.now == 0) ≡ true = sym c.is_empty.ensures ∙ c.if-is_empty.true in (
       o.0,
-      none_bad c.args.input.now o.0 (eqb-true (length c.args.input.now) 0 none) o.1,
+      none_bad c.args.kind c.args.input.now o.0 (eqb-true (length c.args.input.now) 0 none) o.1,
       o.2 [] c.none-bad.ensures.shown,
     )
 
@@ -17,7 +17,7 @@ pub returns : goal.returns
 returns c =
     let some : (length c.args.input.now == 0) ≡ false = sym c.is_empty.ensures ∙ c.if-is_empty.false in (
       unended 1 c.args.input.now,
-      unended_bad c.args.input.now c.requires
+      unended_bad c.args.kind c.args.input.now c.requires
           (λ e.
           let same : true ≡ false = sym (eq-eqb (length c.args.input.now) 0 e) ∙ some in
           let never : ⊥ = cc in

@@ -12,8 +12,8 @@ returns c =
     let m = c.note_lines.ensures in
     let bad : List BadLine = o.0 ++ m.0 ++ unended (length (lines_of rest) + 2) (last_of rest) in (
       bad,
-      subst (λ (ls : List (List ℕ)). AreBadOf ls (last_of c.args.input.now) bad) (sym next.0)
-          (subst (λ (last : List ℕ). AreBadOf (c.in-Some.first.now ∷ lines_of rest) last bad) (sym next.1)
+      subst (λ (ls : List (List ℕ)). AreBadOf c.args.kind ls (last_of c.args.input.now) bad) (sym next.0)
+          (subst (λ (last : List ℕ). AreBadOf c.args.kind (c.in-Some.first.now ∷ lines_of rest) last bad) (sym next.1)
           (o.0, m.0, o.1, m.1, refl)),
       m.2 o.0 (o.2 [] c.none-bad.ensures.shown),
     )

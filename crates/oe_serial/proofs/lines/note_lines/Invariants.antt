@@ -1,4 +1,4 @@
-use Rattle.std.proofs.Common.{◌≡◌, ℕ, ◌+◌, ◌≤◌, List, ◌++◌, length}
+use Rattle.std.proofs.Common.{◌≡◌, ◌+◌, ◌≤◌, List, ◌++◌, length}
 use Rattle.oe_serial.specs.Files.{lines_of, last_of, Untold, Shows}
 use Rattle.oe_serial.specs.declared.reasons.BadLine.{BadLine}
 use Rattle.oe_serial.proofs.lines.note_lines.Given as goal
