@@ -1,0 +1,12 @@
+//! Facts of rows, as an audit of files keeps them, and the columns that a fact needs. Clause numbers
+//! are TPC Benchmark C 5.11's.
+#![tactic(auto)]
+
+pub mod facts;
+pub mod keys;
+
+pub use facts::{
+    CustomerFact, DistrictFact, HistoryFact, ItemFact, NewOrderFact, OrderFact, OrderLineFact,
+    StockFact, WarehouseFact,
+};
+pub use keys::{CustomerId, DistrictId, OrderId, StockId};
