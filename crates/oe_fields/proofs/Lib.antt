@@ -1,0 +1,2 @@
+pub mod DigitFacts
+pub mod PartFacts
