@@ -4,9 +4,11 @@
 
 pub mod facts;
 pub mod keys;
+pub mod tables;
 
 pub use facts::{
     CustomerFact, DistrictFact, HistoryFact, ItemFact, NewOrderFact, OrderFact, OrderLineFact,
     StockFact, WarehouseFact,
 };
 pub use keys::{CustomerId, DistrictId, OrderId, StockId};
+pub use tables::{Fact, Table};
