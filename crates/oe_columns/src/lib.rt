@@ -1,0 +1,11 @@
+//! The columns that a fact needs of its table, their places on a line, and the fact that a line
+//! spells. Clause numbers are TPC Benchmark C 5.11's.
+#![tactic(auto)]
+
+pub mod columns;
+pub mod facts;
+pub mod rows;
+
+pub use columns::{Column, Kind, MOST_COLUMNS, fact_columns};
+pub use facts::read_fact;
+pub use rows::{Misfit, Row};

@@ -1,0 +1,192 @@
+//! A line whose columns are read at their places.
+//!
+//! A row is seen as the places of its columns, and the fields of its line. Nothing that is read
+//! changes it. The only error is the first column whose field does not spell what it has to.
+ghost use Rattle.std.specs.Prelude.{◌≡◌, ◌≤◌, IfOk};
+ghost use Rattle.std.specs.Option.{option_copied};
+ghost use Rattle.oe_columns.specs.Columns.{id, district_id, line_number, small, counter};
+ghost use Rattle.oe_columns.specs.Values.{Number, Quantity, Money, Presence, Flag, field_at, column, read_as};
+ghost use Rattle.oe_fields.specs.Parting.{fields_of};
+ghost use Rattle.oe_columns.specs.declared.columns.Kind.TheVariants as kind;
+
+use oe_fields::{Fields, Format, amount, flag, is_null, number, quantity};
+use std::marker::Model;
+
+/// The first column, by its number among those that a fact needs, whose field does not spell what
+/// it has to, or is not there.
+#[derive(Clone, Copy)]
+pub struct Misfit {
+    pub column: usize,
+}
+
+/// A line, and the places of the columns that are read.
+pub struct Row<'a> {
+    fields: Fields<'a>,
+    places: &'a [usize],
+}
+
+impl<'a> Model for Row<'a> {
+    ghost use Rattle.oe_columns.specs.Values.{Placed};
+    ghost use Rattle.oe_fields.specs.Parting.{fields_of};
+
+    ghost Value = { Placed };
+
+    ghost view = { λ r. record {
+      places = r.places.now;
+      fields = fields_of r.fields.format r.fields.text;
+    } };
+}
+
+impl<'a> Row<'a> {
+    /// Takes a line, without its end, with the places of its columns.
+    #[inline]
+    pub fn new(format: Format, line: &'a [u8], places: &'a [usize]) -> Row<'a>
+        ensures { result ≡ record { places = places.now; fields = fields_of format line.now } }
+    {
+        Row {
+            fields: Fields::new(format, line),
+            places,
+        }
+    }
+
+    /// Gives the text of a column's field, if it is there.
+    #[inline]
+    #[tactic(auto, unfolding(crate::specs::Values::field_at))]
+    pub fn field(&mut self, at: usize) -> Option<&'a [u8]>
+        ensures same { self.new ≡ self.old }
+        ensures value { option_copied result ≡ field_at self.old at }
+    {
+        match self.places.get(at) {
+            Some(place) => self.fields.at(*place),
+            None => None,
+        }
+    }
+
+    /// Reads a number in its range.
+    #[inline]
+    #[tactic(auto, unfolding(crate::specs::Values::column, crate::specs::Values::value_of))]
+    fn number(&mut self, at: usize, low: u64, high: u64) -> Result<u64, Misfit>
+        ensures same { self.new ≡ self.old }
+        ensures value { read_as (λ n. Number n) result
+            ≡ column (kind.Number low high) at self.old }
+        ensures range { IfOk result (λ n. (low ≤ n) × (n ≤ high)) }
+    {
+        let Some(field) = self.field(at) else {
+            return Err(Misfit { column: at });
+        };
+        match number(field) {
+            Some(n) if low <= n && n <= high => Ok(n),
+            _ => Err(Misfit { column: at }),
+        }
+    }
+
+    /// Reads the number of a warehouse, a customer, an order or an item.
+    #[inline]
+    pub(crate) fn id(&mut self, at: usize) -> Result<u32, Misfit>
+        ensures same { self.new ≡ self.old }
+        ensures value { read_as (λ n. Number n) result ≡ column id at self.old }
+    {
+        let n = self.number(at, 1, 4_294_967_295)?;
+        Ok(n as u32)
+    }
+
+    /// Reads the number of a district.
+    #[inline]
+    pub(crate) fn district(&mut self, at: usize) -> Result<u8, Misfit>
+        ensures same { self.new ≡ self.old }
+        ensures value { read_as (λ n. Number n) result ≡ column district_id at self.old }
+    {
+        let n = self.number(at, 1, 10)?;
+        Ok(n as u8)
+    }
+
+    /// Reads the number of an order's line.
+    #[inline]
+    pub(crate) fn line_number(&mut self, at: usize) -> Result<u8, Misfit>
+        ensures same { self.new ≡ self.old }
+        ensures value { read_as (λ n. Number n) result ≡ column line_number at self.old }
+    {
+        let n = self.number(at, 1, 255)?;
+        Ok(n as u8)
+    }
+
+    /// Reads a number of up to 32 bits.
+    #[inline]
+    pub(crate) fn small(&mut self, at: usize) -> Result<u32, Misfit>
+        ensures same { self.new ≡ self.old }
+        ensures value { read_as (λ n. Number n) result ≡ column small at self.old }
+    {
+        let n = self.number(at, 0, 4_294_967_295)?;
+        Ok(n as u32)
+    }
+
+    /// Reads a sum or a count.
+    #[inline]
+    pub(crate) fn counter(&mut self, at: usize) -> Result<u64, Misfit>
+        ensures same { self.new ≡ self.old }
+        ensures value { read_as (λ n. Number n) result ≡ column counter at self.old }
+    {
+        self.number(at, 0, 18_446_744_073_709_551_615)
+    }
+
+    /// Reads S_QUANTITY.
+    #[inline]
+    #[tactic(auto, unfolding(crate::specs::Values::column, crate::specs::Values::value_of))]
+    pub(crate) fn quantity(&mut self, at: usize) -> Result<i64, Misfit>
+        ensures same { self.new ≡ self.old }
+        ensures value { read_as (λ z. Quantity z) result ≡ column kind.Quantity at self.old }
+    {
+        let Some(field) = self.field(at) else {
+            return Err(Misfit { column: at });
+        };
+        match quantity(field) {
+            Some(z) => Ok(z),
+            None => Err(Misfit { column: at }),
+        }
+    }
+
+    /// Reads an amount of money.
+    #[inline]
+    #[tactic(auto, unfolding(crate::specs::Values::column, crate::specs::Values::value_of))]
+    pub(crate) fn amount(&mut self, at: usize) -> Result<i64, Misfit>
+        ensures same { self.new ≡ self.old }
+        ensures value { read_as (λ z. Money z) result ≡ column kind.Amount at self.old }
+    {
+        let Some(field) = self.field(at) else {
+            return Err(Misfit { column: at });
+        };
+        match amount(field) {
+            Some(z) => Ok(z),
+            None => Err(Misfit { column: at }),
+        }
+    }
+
+    /// Tells whether a column that may be null is not.
+    #[inline]
+    #[tactic(auto, unfolding(crate::specs::Values::column, crate::specs::Values::value_of))]
+    pub(crate) fn presence(&mut self, at: usize) -> Result<bool, Misfit>
+        ensures same { self.new ≡ self.old }
+        ensures value { read_as (λ b. Presence b) result ≡ column kind.Nullable at self.old }
+    {
+        match self.field(at) {
+            Some(field) => Ok(!is_null(field)),
+            None => Err(Misfit { column: at }),
+        }
+    }
+
+    /// Reads a flag.
+    #[inline]
+    #[tactic(auto, unfolding(crate::specs::Values::column, crate::specs::Values::value_of))]
+    pub(crate) fn flag(&mut self, at: usize) -> Result<bool, Misfit>
+        ensures same { self.new ≡ self.old }
+        ensures value { read_as (λ b. Flag b) result ≡ column kind.Flag at self.old }
+    {
+        let Some(field) = self.field(at) else {
+            return Err(Misfit { column: at });
+        };
+        match flag(field) {
+            Some(b) => Ok(b),
+            None => Err(Misfit { column: at }),
+        }
+    }
+}
