@@ -1,3 +1,4 @@
 pub mod Columns
 pub mod Facts
+pub mod Headings
 pub mod Values

@@ -20,6 +20,7 @@ pub struct Misfit {
 }
 
 /// A line, and the places of the columns that are read.
+#[derive(Drop)]
 pub struct Row<'a> {
     fields: Fields<'a>,
     places: &'a [usize],

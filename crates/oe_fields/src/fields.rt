@@ -117,6 +117,7 @@ fn text_of(format: Format, field: &[u8]) -> &[u8]
 }
 
 /// A line's fields.
+#[derive(Drop)]
 pub struct Fields<'a> {
     format: Format,
     line: &'a [u8],
@@ -236,4 +237,21 @@ impl<'a> Fields<'a> {
             None => None,
         }
     }
+
+    /// Gives the place of the next field.
+    #[inline]
+    pub fn place(&self) -> usize
+        ensures { result ≡ self.now.place }
+    {
+        self.place
+    }
+}
+
+/// Counts the fields of a line.
+pub fn count_fields(format: Format, line: &[u8]) -> usize
+    ensures { result ≡ length (fields_of format line.now) }
+{
+    let mut fields = Fields::new(format, line);
+    while fields.next().is_some() {}
+    fields.place()
 }

@@ -7,6 +7,6 @@ pub mod fields;
 pub mod numbers;
 pub mod words;
 
-pub use fields::{Fields, Format};
+pub use fields::{Fields, Format, count_fields};
 pub use numbers::{amount, number, quantity};
 pub use words::{flag, is_null};
