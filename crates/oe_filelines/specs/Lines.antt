@@ -1,0 +1,56 @@
+-- The lines of a source's bytes, and what took them.
+use Rattle.std.specs.Prelude.{◌≡◌, ◌≢◌, ℕ, ◌<◌, ◌≤◌, Bool, true, false, All, List, [], ◌∷◌, ◌++◌, length, ⊤}
+use Rattle.std.specs.Prelude.{Option, Some, None}
+use Rattle.std.specs.List.{flat_map}
+use Rattle.oe_ports.specs.Ports.{Source}
+
+-- byte 10 ends a line
+abbrev pub IsInLine : List ℕ → Type 0
+IsInLine line = All (λ b. b ≢ 10) line
+
+abbrev pub ended : List ℕ → List ℕ
+ended line = line ++ 10 ∷ []
+
+-- the last line may lack its end
+abbrev pub with_last : List (List ℕ) → List ℕ → List (List ℕ)
+with_last ls [] = ls
+with_last ls (b ∷ s) = ls ++ (b ∷ s) ∷ []
+
+-- the bytes are these lines
+pub record AreLines (bytes : List ℕ) (lines : List (List ℕ)) : Type 0 where
+  pub whole : List (List ℕ)
+  pub last : List ℕ
+  pub bytes_are : bytes ≡ flat_map ended whole ++ last
+  pub each : All IsInLine whole
+  pub tail : IsInLine last
+  pub lines_are : lines ≡ with_last whole last
+
+-- these were all bytes of a reader that tells them, and no call failed
+abbrev pub AreAll : Option Source → Option Source → List ℕ → Type 0
+AreAll None new bytes = ⊤
+AreAll (Some a) None bytes = ⊥
+AreAll (Some a) (Some b) bytes = (a.remaining ≡ bytes) × (b.remaining ≡ []) × (b.failures ≡ a.failures)
+
+-- the bytes of a line so far: held whole while they fit, and only known to be too many afterwards
+abbrev pub Holds : List ℕ → Bool → List ℕ → Type 0
+Holds held false line = (held ≡ line) × (length line ≤ 65_536)
+Holds held true line = 65_536 < length line
+
+module _ {T : Type 0} (taken : T → List (List ℕ) → T → Type 0) (start : T) where
+  -- the lines of this input were taken, and the beginning of the next is held
+  pub record Standing (input held : List ℕ) (over : Bool) (now : T) : Type 0 where
+    pub lines : List (List ℕ)
+    pub line : List ℕ
+    pub whole : input ≡ flat_map ended lines ++ line
+    pub each : All IsInLine lines
+    pub tail : IsInLine line
+    pub stands : taken start lines now
+    pub holds : Holds held over line
+
+  -- all lines of this input were taken
+  abbrev pub Finished : List ℕ → T → Type 0
+  Finished input now = (lines : List (List ℕ)) × AreLines input lines × taken start lines now
+
+  -- a source was read to its end, and all lines of its bytes were taken
+  abbrev pub LinesRead : Option Source → Option Source → T → Type 0
+  LinesRead old new now = (bytes : List ℕ) × AreAll old new bytes × Finished bytes now
