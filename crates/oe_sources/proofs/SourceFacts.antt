@@ -1,0 +1,148 @@
+-- One line more.
+use Rattle.std.proofs.Common.{◌≡◌, ℕ, ◌+◌, ◌<◌, ◌≤◌, cond, List, [], ◌∷◌, ◌++◌, length}
+use Rattle.std.proofs.Common.{sym, ap, subst, ◌∙◌, refl, append_assoc, append-nil, eqb}
+use Rattle.std.proofs.lemmas.Bool.{lt-ltb, le-ltb}
+use Rattle.std.proofs.lemmas.List.{map-append}
+use Rattle.oe_facts.specs.declared.tables.Table.{Table}
+use Rattle.oe_facts.specs.declared.tables.Fact.{Fact}
+use Rattle.oe_facts.specs.Table.{table_of}
+use Rattle.oe_columns.specs.Facts.{fact_values}
+use Rattle.oe_columns.specs.Values.{Value}
+use Rattle.oe_sources.specs.declared.faults.SourceFault.{SourceFault}
+use Rattle.oe_sources.specs.declared.faults.Wrong.{Wrong}
+use Rattle.oe_sources.specs.declared.ledgers.Taken as taken
+use Rattle.oe_sources.specs.declared.readings.Reading.{Reading}
+use Rattle.oe_sources.specs.declared.tables.TableLines as lines
+use Rattle.oe_sources.specs.Fault.{Told, capped, pushed, each_pushed}
+use Rattle.oe_sources.specs.Reading.{Says, Nothing, Row, Fault, step, long_says}
+use Rattle.oe_sources.specs.Taken.{Got, spelled, rows_said, faults_said}
+use Rattle.oe_sources.specs.Tables.{Read, begun_read, line_step, next, all_next, Stands, TableTaken}
+use Rattle.oe_sources.specs.Text.{text_of}
+
+-- ---- what was taken
+
+each_push : (fs : List SourceFault) (f : SourceFault) (t : Told)
+    → each_pushed (fs ++ f ∷ []) t ≡ pushed f (each_pushed fs t)
+each_push [] f t = refl
+each_push (g ∷ fs) f t = each_push fs f (pushed g t)
+
+module _ {L : Type 0} (holds : L → List Fact → Type 0) (start : taken.Taken L) where
+  pub got_as : (rows rows' : List (Table × List Value)) (faults faults' : List SourceFault) (now : taken.Taken L)
+      → rows ≡ rows' → faults ≡ faults' → Got holds start rows faults now → Got holds start rows' faults' now
+  got_as rows rows' faults faults' now e f g = record {
+    facts = g.facts;
+    are = g.are ∙ e;
+    held = g.held;
+    told = g.told ∙ ap (λ fs. each_pushed fs start.faults) f;
+  }
+
+  pub got_none : Got holds start [] [] start
+  got_none = record {
+    facts = [];
+    are = refl;
+    held = λ before h. subst (λ fs. holds start.ledger fs) (sym (append-nil before)) h;
+    told = refl;
+  }
+
+  pub got_nothing : (rows : List (Table × List Value)) (faults : List SourceFault) (now : taken.Taken L) (t : Table)
+      (n : ℕ) (s : Says) → s ≡ Nothing → Got holds start rows faults now
+      → Got holds start (rows ++ rows_said s) (faults ++ faults_said t n s) now
+  got_nothing rows faults now t n s e g =
+      got_as rows (rows ++ rows_said s) faults (faults ++ faults_said t n s) now
+      (sym (ap (λ s. rows ++ rows_said s) e ∙ append-nil rows))
+      (sym (ap (λ s. faults ++ faults_said t n s) e ∙ append-nil faults)) g
+
+  pub got_row : (rows : List (Table × List Value)) (faults : List SourceFault) (old now : taken.Taken L) (t : Table)
+      (n : ℕ) (s : Says) (f : Fact) → s ≡ Row (table_of f) (fact_values f) → now.faults ≡ old.faults
+      → ((facts : List Fact) → holds old.ledger facts → holds now.ledger (facts ++ f ∷ []))
+      → Got holds start rows faults old
+      → Got holds start (rows ++ rows_said s) (faults ++ faults_said t n s) now
+  got_row rows faults old now t n s f e same takes g = record {
+    facts = g.facts ++ f ∷ [];
+    are = map-append spelled g.facts (f ∷ []) ∙ ap (λ rs. rs ++ spelled f ∷ []) g.are
+        ∙ sym (ap (λ s. rows ++ rows_said s) e);
+    held = λ before h.
+        subst (λ fs. holds now.ledger fs) (append_assoc before g.facts (f ∷ []))
+        (takes (before ++ g.facts) (g.held before h));
+    told = same ∙ g.told
+        ∙ sym (ap (λ fs. each_pushed fs start.faults)
+        (ap (λ s. faults ++ faults_said t n s) e ∙ append-nil faults));
+  }
+
+  pub got_fault : (rows : List (Table × List Value)) (faults : List SourceFault) (old now : taken.Taken L) (t : Table)
+      (n : ℕ) (s : Says) (w : Wrong) (text : List ℕ) → s ≡ Fault w text → now.ledger ≡ old.ledger
+      → now.faults ≡ pushed (record { table = t; line = n; wrong = w; text = text }) old.faults
+      → Got holds start rows faults old
+      → Got holds start (rows ++ rows_said s) (faults ++ faults_said t n s) now
+  got_fault rows faults old now t n s w text e same push g =
+      let f : SourceFault = record { table = t; line = n; wrong = w; text = text } in
+      record {
+        facts = g.facts;
+        are = g.are ∙ sym (ap (λ s. rows ++ rows_said s) e ∙ append-nil rows);
+        held = λ before h. subst (λ l. holds l (before ++ g.facts)) (sym same) (g.held before h);
+        told = push ∙ ap (pushed f) g.told ∙ sym (each_push faults f start.faults)
+            ∙ sym (ap (λ s. each_pushed (faults ++ faults_said t n s) start.faults) e);
+      }
+
+-- ---- the next line
+
+all_push : (r : Read) (ls : List (List ℕ)) (line : List ℕ) → all_next r (ls ++ line ∷ []) ≡ next (all_next r ls) line
+all_push r [] line = refl
+all_push r (l ∷ ls) line = all_push (next r l) ls line
+
+pub short_step : (n : ℕ) (reading : Reading) (line : List ℕ) → length line ≤ 65_536
+    → line_step n reading line ≡ step reading (text_of (eqb n 1) line)
+short_step n reading line h =
+    ap (λ t. cond t (reading, long_says reading) (step reading (text_of (eqb n 1) line)))
+    (le-ltb 65_536 (length line) h)
+
+pub long_step : (n : ℕ) (reading : Reading) (line : List ℕ) → 65_536 < length line
+    → line_step n reading line ≡ (reading, long_says reading)
+long_step n reading line h =
+    ap (λ t. cond t (reading, long_says reading) (step reading (text_of (eqb n 1) line)))
+    (lt-ltb 65_536 (length line) h)
+
+module _ {L : Type 0} (holds : L → List Fact → Type 0) (start : lines.TableLines L) where
+  next_stands : (r : Read) (line : List ℕ) (old now : lines.TableLines L) (t : Table) (n : ℕ) (s : Says)
+      → t ≡ old.reading.table → n ≡ capped (old.count + 1) → now.reading ≡ (line_step n old.reading line).0 → now.count ≡ n
+      → s ≡ (line_step n old.reading line).1
+      → ((start : taken.Taken L) (rows : List (Table × List Value)) (faults : List SourceFault)
+      → Got holds start rows faults old.taken
+      → Got holds start (rows ++ rows_said s) (faults ++ faults_said t n s) now.taken)
+      → Stands holds start r old → Stands holds start (next r line) now
+  unfolding next
+  next_stands r line old now t n s of_table h reading count said takes stands =
+      let m = capped (r.count + 1) in
+      let en : n ≡ m = h ∙ ap (λ k. capped (k + 1)) stands.count in
+      let es : line_step n old.reading line ≡ line_step m r.reading line =
+      ap (λ k. line_step k old.reading line) en ∙ ap (λ rd. line_step m rd line) stands.reading in
+      let same : s ≡ (line_step m r.reading line).1 = said ∙ ap (λ (p : Reading × Says). p.1) es in
+      record {
+        reading = reading ∙ ap (λ (p : Reading × Says). p.0) es;
+        count = count ∙ en;
+        got = got_as holds start.taken (r.rows ++ rows_said s) _ (r.faults ++ faults_said t n s) _
+            now.taken (ap (λ s. r.rows ++ rows_said s) same)
+            (ap (λ t. r.faults ++ faults_said t n s) (of_table ∙ ap (λ (rd : Reading). rd.table) stands.reading)
+            ∙ ap (λ k. r.faults ++ faults_said r.reading.table k s) en
+            ∙ ap (λ s. r.faults ++ faults_said r.reading.table m s) same)
+            (takes start.taken r.rows r.faults stands.got);
+      }
+
+  pub line_stands : (ls : List (List ℕ)) (line : List ℕ) (old now : lines.TableLines L) (t : Table) (n : ℕ) (s : Says)
+      → t ≡ old.reading.table → n ≡ capped (old.count + 1) → now.reading ≡ (line_step n old.reading line).0 → now.count ≡ n
+      → s ≡ (line_step n old.reading line).1
+      → ((start : taken.Taken L) (rows : List (Table × List Value)) (faults : List SourceFault)
+      → Got holds start rows faults old.taken
+      → Got holds start (rows ++ rows_said s) (faults ++ faults_said t n s) now.taken)
+      → TableTaken holds start ls old → TableTaken holds start (ls ++ line ∷ []) now
+  line_stands ls line old now t n s of_table h reading count said takes stands =
+      subst (λ r. Stands holds start r now) (sym (all_push (begun_read start.reading start.count) ls line))
+      (next_stands (all_next (begun_read start.reading start.count) ls) line old now t n s of_table h reading count said takes
+      stands)
+
+  pub begins : TableTaken holds start [] start
+  begins = record {
+    reading = refl;
+    count = refl;
+    got = got_none holds start.taken;
+  }

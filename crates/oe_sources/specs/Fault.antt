@@ -1,0 +1,45 @@
+-- Faults: the first three of each table, and how many each has.
+use Rattle.std.specs.Prelude.{ℕ, ◌+◌, ◌-◌, ◌^◌, min, List, [], ◌∷◌, ◌++◌, nat_lt, slice_index, slice_set, replicate}
+use Rattle.std.specs.Prelude.{if◌then◌else◌}
+use Rattle.oe_facts.specs.declared.tables.Table.{Table}
+use Rattle.oe_facts.specs.declared.tables.Table.TheVariants as table
+use Rattle.oe_sources.specs.declared.faults.SourceFault.{SourceFault}
+use Rattle.oe_sources.specs.declared.faults.TheConstants.{KEPT}
+
+-- the faults that are kept, and how many each table has
+pub record Told : Type 0 where
+  pub kept : List SourceFault
+  pub counts : List ℕ
+
+abbrev pub place_of : Table → ℕ
+place_of table.Warehouse = 0
+place_of table.District = 1
+place_of table.Customer = 2
+place_of table.History = 3
+place_of table.NewOrder = 4
+place_of table.Order = 5
+place_of table.OrderLine = 6
+place_of table.Item = 7
+place_of table.Stock = 8
+
+abbrev pub no_faults : Told
+no_faults = record { kept = []; counts = replicate 9 0 }
+
+-- a count, as 64 bits hold it
+abbrev pub capped : ℕ → ℕ
+capped n = min n (2 ^ 64 - 1)
+
+-- one fault more: it is kept where fewer than three of its table stand before it
+abbrev pub pushed : SourceFault → Told → Told
+pushed f t =
+    let at = place_of f.table in
+    let count = slice_index t.counts at in
+    record {
+      kept = if nat_lt count KEPT then t.kept ++ f ∷ [] else t.kept;
+      counts = slice_set t.counts at (capped (count + 1));
+    }
+
+-- these faults more, one after another
+abbrev pub each_pushed : List SourceFault → Told → Told
+each_pushed [] t = t
+each_pushed (f ∷ fs) t = each_pushed fs (pushed f t)

@@ -1,0 +1,5 @@
+pub mod Fault
+pub mod Reading
+pub mod Tables
+pub mod Taken
+pub mod Text

@@ -1,0 +1,74 @@
+-- What the lines of a table's file say, one after another.
+use Rattle.std.specs.Prelude.{◌≡◌, ℕ, ◌+◌, ◌==◌, List, [], ◌∷◌, ◌++◌, length, nat_lt, Option, if◌then◌else◌}
+use Rattle.oe_ports.specs.Ports.{Source}
+use Rattle.oe_facts.specs.declared.tables.Table.{Table}
+use Rattle.oe_facts.specs.declared.tables.Fact.{Fact}
+use Rattle.oe_fields.specs.declared.fields.Format.{Format}
+use Rattle.oe_filelines.specs.Lines.{AreLines, AreAll}
+use Rattle.oe_columns.specs.Values.{Value}
+use Rattle.oe_sources.specs.declared.faults.SourceFault.{SourceFault}
+use Rattle.oe_sources.specs.declared.ledgers.Taken as taken
+use Rattle.oe_sources.specs.declared.readings.Reading.{Reading}
+use Rattle.oe_sources.specs.declared.tables.TableLines as lines
+use Rattle.oe_sources.specs.Fault.{capped, no_faults}
+use Rattle.oe_sources.specs.Reading.{Says, step, long_says, begun}
+use Rattle.oe_sources.specs.Taken.{Got, rows_said, faults_said}
+use Rattle.oe_sources.specs.Text.{text_of}
+
+-- what the lines said so far: how the table is read now, how many lines came, the rows, and the faults
+pub record Read : Type 0 where
+  pub reading : Reading
+  pub count : ℕ
+  pub rows : List (Table × List Value)
+  pub faults : List SourceFault
+
+-- nothing was said yet
+abbrev pub begun_read : Reading → ℕ → Read
+begun_read reading count = record { reading = reading; count = count; rows = []; faults = [] }
+
+-- the n-th line
+abbrev pub line_step : ℕ → Reading → List ℕ → Reading × Says
+line_step n reading line =
+    if nat_lt 65_536 (length line) then (reading, long_says reading) else step reading (text_of (n == 1) line)
+
+-- what was said, with what the n-th line says
+abbrev pub with_said : Read → ℕ → Reading × Says → Read
+with_said r n s = record {
+  reading = s.0;
+  count = n;
+  rows = r.rows ++ rows_said s.1;
+  faults = r.faults ++ faults_said r.reading.table n s.1;
+}
+
+-- the next line
+unfoldable pub next : Read → List ℕ → Read
+next r line = with_said r (capped (r.count + 1)) (line_step (capped (r.count + 1)) r.reading line)
+
+-- these lines, one after another
+abbrev pub all_next : Read → List (List ℕ) → Read
+all_next r [] = r
+all_next r (line ∷ lines) = all_next (next r line) lines
+
+-- what the lines of a table's file say
+abbrev pub table_says : Table → Format → List (List ℕ) → Read
+table_says t format lines = all_next (begun_read (begun t format) 0) lines
+
+-- where a file's reading stands behind lines that said this
+pub record Stands {L : Type 0} (holds : L → List Fact → Type 0) (start : lines.TableLines L) (r : Read)
+    (now : lines.TableLines L) : Type 0 where
+  pub reading : now.reading ≡ r.reading
+  pub count : now.count ≡ r.count
+  pub got : Got holds start.taken r.rows r.faults now.taken
+
+abbrev pub TableTaken : {L : Type 0} → (L → List Fact → Type 0) → lines.TableLines L → List (List ℕ)
+    → lines.TableLines L → Type 0
+TableTaken holds start ls now = Stands holds start (all_next (begun_read start.reading start.count) ls) now
+
+-- A table's file was read to its end: the ledger got exactly the facts of the rows that its lines spell, in order, and
+-- the faults are exactly those of its lines.
+abbrev pub TableRead : {L : Type 0} → (L → List Fact → Type 0) → Table → Format → L → Option Source → Option Source
+    → taken.Taken L → Type 0
+TableRead holds t format ledger old new now =
+    (bytes : List ℕ) × AreAll old new bytes × (ls : List (List ℕ)) × AreLines bytes ls
+    × Got holds (record { ledger = ledger; faults = no_faults }) (table_says t format ls).rows
+    (table_says t format ls).faults now

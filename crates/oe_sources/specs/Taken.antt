@@ -1,0 +1,34 @@
+-- What a ledger got, and which faults were told.
+use Rattle.std.specs.Prelude.{◌≡◌, ℕ, List, [], ◌∷◌, ◌++◌, map}
+use Rattle.oe_facts.specs.declared.tables.Table.{Table}
+use Rattle.oe_facts.specs.declared.tables.Fact.{Fact}
+use Rattle.oe_facts.specs.Table.{table_of}
+use Rattle.oe_columns.specs.Facts.{fact_values}
+use Rattle.oe_columns.specs.Values.{Value}
+use Rattle.oe_sources.specs.declared.faults.SourceFault.{SourceFault}
+use Rattle.oe_sources.specs.declared.ledgers.Taken as taken
+use Rattle.oe_sources.specs.Fault.{each_pushed}
+use Rattle.oe_sources.specs.Reading.{Says, Nothing, Row, Fault}
+
+-- the table of a fact, and the values of its columns
+abbrev pub spelled : Fact → Table × List Value
+spelled f = (table_of f, fact_values f)
+
+abbrev pub rows_said : Says → List (Table × List Value)
+rows_said Nothing = []
+rows_said (Row t vs) = (t, vs) ∷ []
+rows_said (Fault w text) = []
+
+abbrev pub faults_said : Table → ℕ → Says → List SourceFault
+faults_said t n Nothing = []
+faults_said t n (Row u vs) = []
+faults_said t n (Fault w text) = record { table = t; line = n; wrong = w; text = text } ∷ []
+
+-- From the beginning on the ledger got, in order, exactly the facts that these rows spell, and exactly these faults were
+-- told.
+pub record Got {L : Type 0} (holds : L → List Fact → Type 0) (start : taken.Taken L) (rows : List (Table × List Value))
+    (faults : List SourceFault) (now : taken.Taken L) : Type 0 where
+  pub facts : List Fact
+  pub are : map spelled facts ≡ rows
+  pub held : (before : List Fact) → holds start.ledger before → holds now.ledger (before ++ facts)
+  pub told : now.faults ≡ each_pushed faults start.faults

@@ -1,0 +1,13 @@
+//! The facts of a table's file, or of a stream with a section for each table, handed to a ledger in
+//! order; and what is wrong with their lines. Clause numbers are TPC Benchmark C 5.11's.
+#![tactic(auto)]
+
+pub mod faults;
+pub mod ledgers;
+pub mod readings;
+pub mod tables;
+mod texts;
+
+pub use faults::{Faults, KEPT, SHOWN, Shown, SourceFault, Wrong};
+pub use ledgers::{Ledger, Taken};
+pub use tables::read_table;
