@@ -12,11 +12,11 @@ use Rattle.oe_sources.specs.declared.faults.SourceFault.{SourceFault}
 use Rattle.oe_sources.specs.declared.faults.Wrong.{Wrong}
 use Rattle.oe_sources.specs.declared.ledgers.Taken as taken
 use Rattle.oe_sources.specs.declared.readings.Reading.{Reading}
-use Rattle.oe_sources.specs.declared.tables.TableLines as lines
+use Rattle.oe_sources.specs.declared.lines.SoFar as lines
 use Rattle.oe_sources.specs.Fault.{Told, capped, pushed, each_pushed}
 use Rattle.oe_sources.specs.Reading.{Says, Nothing, Row, Fault, step, long_says}
 use Rattle.oe_sources.specs.Taken.{Got, spelled, rows_said, faults_said}
-use Rattle.oe_sources.specs.Tables.{Read, begun_read, line_step, next, all_next, Stands, TableTaken}
+use Rattle.oe_sources.specs.Tables.{Read, begun_read, with_said, next, all_next, Stands, StandsBehind, file_step}
 use Rattle.oe_sources.specs.Text.{text_of}
 
 -- ---- what was taken
@@ -86,63 +86,70 @@ module _ {L : Type 0} (holds : L → List Fact → Type 0) (start : taken.Taken 
 
 -- ---- the next line
 
-all_push : (r : Read) (ls : List (List ℕ)) (line : List ℕ) → all_next r (ls ++ line ∷ []) ≡ next (all_next r ls) line
-all_push r [] line = refl
-all_push r (l ∷ ls) line = all_push (next r l) ls line
-
 pub short_step : (n : ℕ) (reading : Reading) (line : List ℕ) → length line ≤ 65_536
-    → line_step n reading line ≡ step reading (text_of (eqb n 1) line)
+    → file_step n reading line ≡ step reading (text_of (eqb n 1) line)
+unfolding file_step
 short_step n reading line h =
     ap (λ t. cond t (reading, long_says reading) (step reading (text_of (eqb n 1) line)))
     (le-ltb 65_536 (length line) h)
 
 pub long_step : (n : ℕ) (reading : Reading) (line : List ℕ) → 65_536 < length line
-    → line_step n reading line ≡ (reading, long_says reading)
+    → file_step n reading line ≡ (reading, long_says reading)
+unfolding file_step
 long_step n reading line h =
     ap (λ t. cond t (reading, long_says reading) (step reading (text_of (eqb n 1) line)))
     (lt-ltb 65_536 (length line) h)
 
-module _ {L : Type 0} (holds : L → List Fact → Type 0) (start : lines.TableLines L) where
-  next_stands : (r : Read) (line : List ℕ) (old now : lines.TableLines L) (t : Table) (n : ℕ) (s : Says)
-      → t ≡ old.reading.table → n ≡ capped (old.count + 1) → now.reading ≡ (line_step n old.reading line).0 → now.count ≡ n
-      → s ≡ (line_step n old.reading line).1
-      → ((start : taken.Taken L) (rows : List (Table × List Value)) (faults : List SourceFault)
-      → Got holds start rows faults old.taken
-      → Got holds start (rows ++ rows_said s) (faults ++ faults_said t n s) now.taken)
-      → Stands holds start r old → Stands holds start (next r line) now
-  unfolding next
-  next_stands r line old now t n s of_table h reading count said takes stands =
-      let m = capped (r.count + 1) in
-      let en : n ≡ m = h ∙ ap (λ k. capped (k + 1)) stands.count in
-      let es : line_step n old.reading line ≡ line_step m r.reading line =
-      ap (λ k. line_step k old.reading line) en ∙ ap (λ rd. line_step m rd line) stands.reading in
-      let same : s ≡ (line_step m r.reading line).1 = said ∙ ap (λ (p : Reading × Says). p.1) es in
-      record {
-        reading = reading ∙ ap (λ (p : Reading × Says). p.0) es;
-        count = count ∙ en;
-        got = got_as holds start.taken (r.rows ++ rows_said s) _ (r.faults ++ faults_said t n s) _
-            now.taken (ap (λ s. r.rows ++ rows_said s) same)
-            (ap (λ t. r.faults ++ faults_said t n s) (of_table ∙ ap (λ (rd : Reading). rd.table) stands.reading)
-            ∙ ap (λ k. r.faults ++ faults_said r.reading.table k s) en
-            ∙ ap (λ s. r.faults ++ faults_said r.reading.table m s) same)
-            (takes start.taken r.rows r.faults stands.got);
-      }
+module _ (line_step : ℕ → Reading → List ℕ → Reading × Says) where
+  all_push : (r : Read) (ls : List (List ℕ)) (line : List ℕ)
+      → all_next line_step r (ls ++ line ∷ []) ≡ next line_step (all_next line_step r ls) line
+  all_push r [] line = refl
+  all_push r (l ∷ ls) line = all_push (next line_step r l) ls line
 
-  pub line_stands : (ls : List (List ℕ)) (line : List ℕ) (old now : lines.TableLines L) (t : Table) (n : ℕ) (s : Says)
-      → t ≡ old.reading.table → n ≡ capped (old.count + 1) → now.reading ≡ (line_step n old.reading line).0 → now.count ≡ n
-      → s ≡ (line_step n old.reading line).1
-      → ((start : taken.Taken L) (rows : List (Table × List Value)) (faults : List SourceFault)
-      → Got holds start rows faults old.taken
-      → Got holds start (rows ++ rows_said s) (faults ++ faults_said t n s) now.taken)
-      → TableTaken holds start ls old → TableTaken holds start (ls ++ line ∷ []) now
-  line_stands ls line old now t n s of_table h reading count said takes stands =
-      subst (λ r. Stands holds start r now) (sym (all_push (begun_read start.reading start.count) ls line))
-      (next_stands (all_next (begun_read start.reading start.count) ls) line old now t n s of_table h reading count said takes
-      stands)
+  module _ {L : Type 0} (holds : L → List Fact → Type 0) (start : lines.SoFar L) where
+    next_stands : (r : Read) (line : List ℕ) (old now : lines.SoFar L) (t : Table) (n : ℕ) (s : Says)
+        → t ≡ now.reading.table → n ≡ capped (old.count + 1) → now.reading ≡ (line_step n old.reading line).0 → now.count ≡ n
+        → s ≡ (line_step n old.reading line).1
+        → ((start : taken.Taken L) (rows : List (Table × List Value)) (faults : List SourceFault)
+        → Got holds start rows faults old.taken
+        → Got holds start (rows ++ rows_said s) (faults ++ faults_said t n s) now.taken)
+        → Stands line_step holds start r old → Stands line_step holds start (next line_step r line) now
+    next_stands r line old now t n s of_table h reading count said takes stands =
+        let m = capped (r.count + 1) in
+        let en : n ≡ m = h ∙ ap (λ k. capped (k + 1)) stands.count in
+        let es : line_step n old.reading line ≡ line_step m r.reading line =
+        ap (λ k. line_step k old.reading line) en ∙ ap (λ rd. line_step m rd line) stands.reading in
+        let same : s ≡ (line_step m r.reading line).1 = said ∙ ap (λ (p : Reading × Says). p.1) es in
+        let now_is : now.reading ≡ (line_step m r.reading line).0 =
+        reading ∙ ap (λ (p : Reading × Says). p.0) es in
+        let table = (line_step m r.reading line).0.table in
+        record {
+          reading = now_is;
+          count = count ∙ en;
+          got = got_as holds start.taken (r.rows ++ rows_said s) _ (r.faults ++ faults_said t n s) _
+              now.taken (ap (λ s. r.rows ++ rows_said s) same)
+              (ap (λ t. r.faults ++ faults_said t n s) (of_table ∙ ap (λ (rd : Reading). rd.table) now_is)
+              ∙ ap (λ k. r.faults ++ faults_said table k s) en
+              ∙ ap (λ s. r.faults ++ faults_said table m s) same)
+              (takes start.taken r.rows r.faults stands.got);
+        }
 
-  pub begins : TableTaken holds start [] start
-  begins = record {
-    reading = refl;
-    count = refl;
-    got = got_none holds start.taken;
-  }
+    pub line_stands : (ls : List (List ℕ)) (line : List ℕ) (old now : lines.SoFar L) (t : Table) (n : ℕ) (s : Says)
+        → t ≡ now.reading.table → n ≡ capped (old.count + 1) → now.reading ≡ (line_step n old.reading line).0 → now.count ≡ n
+        → s ≡ (line_step n old.reading line).1
+        → ((start : taken.Taken L) (rows : List (Table × List Value)) (faults : List SourceFault)
+        → Got holds start rows faults old.taken
+        → Got holds start (rows ++ rows_said s) (faults ++ faults_said t n s) now.taken)
+        → StandsBehind line_step holds start ls old → StandsBehind line_step holds start (ls ++ line ∷ []) now
+    line_stands ls line old now t n s of_table h reading count said takes stands =
+        subst (λ r. Stands line_step holds start r now)
+        (sym (all_push (begun_read start.reading start.count) ls line))
+        (next_stands (all_next line_step (begun_read start.reading start.count) ls) line old now t n s of_table h reading count
+        said takes stands)
+
+    pub begins : StandsBehind line_step holds start [] start
+    begins = record {
+      reading = refl;
+      count = refl;
+      got = got_none holds start.taken;
+    }

@@ -1,4 +1,4 @@
--- What the lines of a table's file say, one after another.
+-- What the lines of a source say, one after another: of a table's file, or of a dump.
 use Rattle.std.specs.Prelude.{◌≡◌, ℕ, ◌+◌, ◌==◌, List, [], ◌∷◌, ◌++◌, length, nat_lt, Option, if◌then◌else◌}
 use Rattle.oe_ports.specs.Ports.{Source}
 use Rattle.oe_facts.specs.declared.tables.Table.{Table}
@@ -9,13 +9,14 @@ use Rattle.oe_columns.specs.Values.{Value}
 use Rattle.oe_sources.specs.declared.faults.SourceFault.{SourceFault}
 use Rattle.oe_sources.specs.declared.ledgers.Taken as taken
 use Rattle.oe_sources.specs.declared.readings.Reading.{Reading}
-use Rattle.oe_sources.specs.declared.tables.TableLines as lines
+use Rattle.oe_sources.specs.declared.lines.SoFar as lines
+use Rattle.oe_sources.specs.declared.tables.TableLines as table
 use Rattle.oe_sources.specs.Fault.{capped, no_faults}
 use Rattle.oe_sources.specs.Reading.{Says, step, long_says, begun}
 use Rattle.oe_sources.specs.Taken.{Got, rows_said, faults_said}
 use Rattle.oe_sources.specs.Text.{text_of}
 
--- what the lines said so far: how the table is read now, how many lines came, the rows, and the faults
+-- what the lines said so far: how they are read now, how many lines came, the rows, and the faults
 pub record Read : Type 0 where
   pub reading : Reading
   pub count : ℕ
@@ -26,43 +27,51 @@ pub record Read : Type 0 where
 abbrev pub begun_read : Reading → ℕ → Read
 begun_read reading count = record { reading = reading; count = count; rows = []; faults = [] }
 
--- the n-th line
-abbrev pub line_step : ℕ → Reading → List ℕ → Reading × Says
-line_step n reading line =
-    if nat_lt 65_536 (length line) then (reading, long_says reading) else step reading (text_of (n == 1) line)
-
 -- what was said, with what the n-th line says
 abbrev pub with_said : Read → ℕ → Reading × Says → Read
 with_said r n s = record {
   reading = s.0;
   count = n;
   rows = r.rows ++ rows_said s.1;
-  faults = r.faults ++ faults_said r.reading.table n s.1;
+  faults = r.faults ++ faults_said s.0.table n s.1;
 }
 
--- the next line
-unfoldable pub next : Read → List ℕ → Read
-next r line = with_said r (capped (r.count + 1)) (line_step (capped (r.count + 1)) r.reading line)
+-- What lines say where the n-th line is read so.
+module _ (line_step : ℕ → Reading → List ℕ → Reading × Says) where
+  -- the next line
+  abbrev pub next : Read → List ℕ → Read
+  next r line = with_said r (capped (r.count + 1)) (line_step (capped (r.count + 1)) r.reading line)
 
--- these lines, one after another
-abbrev pub all_next : Read → List (List ℕ) → Read
-all_next r [] = r
-all_next r (line ∷ lines) = all_next (next r line) lines
+  -- these lines, one after another
+  abbrev pub all_next : Read → List (List ℕ) → Read
+  all_next r [] = r
+  all_next r (line ∷ lines) = all_next (next r line) lines
+
+  module _ {L : Type 0} (holds : L → List Fact → Type 0) (start : lines.SoFar L) where
+    -- where reading stands behind lines that said this
+    pub record Stands (r : Read) (now : lines.SoFar L) : Type 0 where
+      pub reading : now.reading ≡ r.reading
+      pub count : now.count ≡ r.count
+      pub got : Got holds start.taken r.rows r.faults now.taken
+
+    -- where reading stands behind these lines
+    abbrev pub StandsBehind : List (List ℕ) → lines.SoFar L → Type 0
+    StandsBehind ls now = Stands (all_next (begun_read start.reading start.count) ls) now
+
+-- ---- a table's file
+
+-- the n-th line of a table's file
+unfoldable pub file_step : ℕ → Reading → List ℕ → Reading × Says
+file_step n reading line =
+    if nat_lt 65_536 (length line) then (reading, long_says reading) else step reading (text_of (n == 1) line)
 
 -- what the lines of a table's file say
 abbrev pub table_says : Table → Format → List (List ℕ) → Read
-table_says t format lines = all_next (begun_read (begun t format) 0) lines
+table_says t format lines = all_next file_step (begun_read (begun t format) 0) lines
 
--- where a file's reading stands behind lines that said this
-pub record Stands {L : Type 0} (holds : L → List Fact → Type 0) (start : lines.TableLines L) (r : Read)
-    (now : lines.TableLines L) : Type 0 where
-  pub reading : now.reading ≡ r.reading
-  pub count : now.count ≡ r.count
-  pub got : Got holds start.taken r.rows r.faults now.taken
-
-abbrev pub TableTaken : {L : Type 0} → (L → List Fact → Type 0) → lines.TableLines L → List (List ℕ)
-    → lines.TableLines L → Type 0
-TableTaken holds start ls now = Stands holds start (all_next (begun_read start.reading start.count) ls) now
+abbrev pub TableTaken : {L : Type 0} → (L → List Fact → Type 0) → table.TableLines L → List (List ℕ)
+    → table.TableLines L → Type 0
+TableTaken holds start ls now = StandsBehind file_step holds start.so_far ls now.so_far
 
 -- A table's file was read to its end: the ledger got exactly the facts of the rows that its lines spell, in order, and
 -- the faults are exactly those of its lines.

@@ -4,6 +4,7 @@
 
 pub mod faults;
 pub mod ledgers;
+pub mod lines;
 pub mod readings;
 pub mod tables;
 mod texts;

@@ -1,9 +1,9 @@
 //! A table's file: each line is taken in turn, and what it says goes to the ledger or to the faults.
-ghost use Rattle.std.specs.Prelude.{◌≡◌, ◌++◌, ◌∷◌, [], ℕ, List, length, IfOk, OnOk};
+ghost use Rattle.std.specs.Prelude.{IfOk};
 ghost use Rattle.oe_sources.specs.Tables.{TableTaken, TableRead};
 
-use crate::faults::Faults;
 use crate::ledgers::{Ledger, Taken};
+use crate::lines::SoFar;
 use crate::readings::Reading;
 use crate::texts::text_of;
 use oe_facts::Table;
@@ -12,13 +12,10 @@ use oe_filelines::{LineTaker, Stop, read_lines};
 use oe_ports::ports::Intake;
 use std::alloc::{AllocError, Global};
 
-/// The lines of a table's file, so far.
+/// The lines of a table's file so far.
 #[derive(Drop)]
 pub struct TableLines<L> {
-    reading: Reading,
-    // How many lines came.
-    count: u64,
-    taken: Taken<L>,
+    so_far: SoFar<L>,
 }
 
 impl<L: Ledger> LineTaker for TableLines<L> {
@@ -26,18 +23,16 @@ impl<L: Ledger> LineTaker for TableLines<L> {
 
     #[inline]
     fn take_line(&mut self, line: &[u8]) -> Result<(), AllocError> {
-        self.count = self.count.saturating_add(1);
-        let table = self.reading.table();
-        let text = text_of(self.count == 1, line);
-        let said = self.reading.take(text);
-        self.taken.add(table, self.count, said)
+        self.so_far.count = self.so_far.count.saturating_add(1);
+        let text = text_of(self.so_far.count == 1, line);
+        let said = self.so_far.reading.take(text);
+        self.so_far.add(said)
     }
 
     fn take_long(&mut self) -> Result<(), AllocError> {
-        self.count = self.count.saturating_add(1);
-        let table = self.reading.table();
-        let said = self.reading.take_long();
-        self.taken.add(table, self.count, said)
+        self.so_far.count = self.so_far.count.saturating_add(1);
+        let said = self.so_far.reading.take_long();
+        self.so_far.add(said)
     }
 }
 
@@ -58,20 +53,16 @@ pub fn read_table<S: Intake, L: Ledger + Drop>(
         (S.source source.new)) }
 {
     let mut lines = TableLines {
-        reading: Reading::new(table, format),
-        count: 0,
-        taken: Taken {
-            ledger,
-            faults: Faults::new(alloc),
-        },
+        so_far: SoFar::new(alloc, Reading::new(table, format), ledger),
     };
     match read_lines(alloc, source, &mut lines) {
         Ok(()) => {
-            let TableLines {
+            let TableLines { so_far } = lines;
+            let SoFar {
                 reading: _,
                 count: _,
                 taken,
-            } = lines;
+            } = so_far;
             Ok(taken)
         }
         Err(stop) => Err(stop),
