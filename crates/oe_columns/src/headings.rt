@@ -94,7 +94,7 @@ fn is_quoted(text: &[u8]) -> bool
 
 /// Gives a name without the blanks before it and the quotes that it stands in.
 #[tactic(auto, unfolding(crate::specs::Headings::bare))]
-fn bare(text: &[u8]) -> &[u8]
+pub fn bare(text: &[u8]) -> &[u8]
     ensures { result.now ≡ bare text.now }
 {
     let text = behind_blanks(text);

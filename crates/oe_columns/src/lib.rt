@@ -9,5 +9,5 @@ pub mod rows;
 
 pub use columns::{Column, Kind, MOST_COLUMNS, fact_columns};
 pub use facts::read_fact;
-pub use headings::{LayoutFault, Named, Places, heading_places, is_heading, layout};
+pub use headings::{LayoutFault, Named, Places, bare, heading_places, is_heading, layout};
 pub use rows::{Misfit, Row};

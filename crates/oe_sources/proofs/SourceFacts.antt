@@ -13,10 +13,11 @@ use Rattle.oe_sources.specs.declared.faults.Wrong.{Wrong}
 use Rattle.oe_sources.specs.declared.ledgers.Taken as taken
 use Rattle.oe_sources.specs.declared.readings.Reading.{Reading}
 use Rattle.oe_sources.specs.declared.lines.SoFar as lines
+use Rattle.oe_sources.specs.Dump as dump
 use Rattle.oe_sources.specs.Fault.{Told, capped, pushed, each_pushed}
 use Rattle.oe_sources.specs.Reading.{Says, Nothing, Row, Fault, step, long_says}
 use Rattle.oe_sources.specs.Taken.{Got, spelled, rows_said, faults_said}
-use Rattle.oe_sources.specs.Tables.{Read, begun_read, with_said, next, all_next, Stands, StandsBehind, file_step}
+use Rattle.oe_sources.specs.Tables.{Read, begun_read, next, all_next, Stands, StandsBehind, file_step}
 use Rattle.oe_sources.specs.Text.{text_of}
 
 -- ---- what was taken
@@ -98,6 +99,20 @@ pub long_step : (n : ℕ) (reading : Reading) (line : List ℕ) → 65_536 < len
 unfolding file_step
 long_step n reading line h =
     ap (λ t. cond t (reading, long_says reading) (step reading (text_of (eqb n 1) line)))
+    (lt-ltb 65_536 (length line) h)
+
+pub short_line : (n : ℕ) (reading : Reading) (line : List ℕ) → length line ≤ 65_536
+    → dump.line_step n reading line ≡ dump.dump_step reading (text_of (eqb n 1) line)
+unfolding dump.line_step
+short_line n reading line h =
+    ap (λ t. cond t (reading, dump.dump_long reading) (dump.dump_step reading (text_of (eqb n 1) line)))
+    (le-ltb 65_536 (length line) h)
+
+pub long_line : (n : ℕ) (reading : Reading) (line : List ℕ) → 65_536 < length line
+    → dump.line_step n reading line ≡ (reading, dump.dump_long reading)
+unfolding dump.line_step
+long_line n reading line h =
+    ap (λ t. cond t (reading, dump.dump_long reading) (dump.dump_step reading (text_of (eqb n 1) line)))
     (lt-ltb 65_536 (length line) h)
 
 module _ (line_step : ℕ → Reading → List ℕ → Reading × Says) where

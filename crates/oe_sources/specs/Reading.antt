@@ -2,8 +2,10 @@
 use Rattle.std.specs.Prelude.{ℕ, ◌+◌, ◌==◌, Bool, true, false, List, [], take, length, Option, Some, None}
 use Rattle.std.specs.Prelude.{Result, Ok, Err, if◌then◌else◌}
 use Rattle.oe_facts.specs.declared.tables.Table.{Table}
+use Rattle.oe_facts.specs.declared.tables.Table.TheVariants.{Warehouse}
 use Rattle.oe_facts.specs.Table.{table_of}
 use Rattle.oe_fields.specs.declared.fields.Format.{Format}
+use Rattle.oe_fields.specs.declared.fields.Format.TheVariants.{Tabs}
 use Rattle.oe_fields.specs.Parting.{fields_of}
 use Rattle.oe_columns.specs.declared.headings.LayoutFault.{LayoutFault}
 use Rattle.oe_columns.specs.declared.rows.Misfit.{Misfit}
@@ -60,6 +62,10 @@ begun_at t format layout = record { table = t; format = format; layout = layout;
 -- nothing is read yet
 abbrev pub begun : Table → Format → Reading
 begun t format = begun_at t format Unknown
+
+-- no rows are read
+abbrev pub between : Reading
+between = record { table = Warehouse; format = Tabs; layout = Lost; rows = 0; is_ended = true }
 
 abbrev pub row_by : Reading → List ℕ → Layout → Reading × Says
 row_by r text (Known places) =

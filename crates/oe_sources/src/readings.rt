@@ -4,7 +4,7 @@
 //! Blank lines are passed over. Where the first line does not tell where the columns stand, that is
 //! a fault, and the lines behind it are passed over.
 ghost use Rattle.std.specs.Prelude.{◌≡◌};
-ghost use Rattle.oe_sources.specs.Reading.{says, fault_says, misfit_says, read_row, row_step, begin_step, count_step, data_step, step, long_says, begun, begun_at};
+ghost use Rattle.oe_sources.specs.Reading.{says, fault_says, misfit_says, read_row, row_step, begin_step, count_step, data_step, step, long_says, begun, begun_at, between};
 
 use crate::faults::{Shown, Wrong};
 use crate::texts::{is_end, said_count};
@@ -47,7 +47,7 @@ pub struct Reading {
 }
 
 /// Tells that a line can't be read, and shows it.
-fn fault(wrong: Wrong, text: &[u8]) -> Said
+pub(crate) fn fault(wrong: Wrong, text: &[u8]) -> Said
     ensures { says result ≡ fault_says wrong text.now }
 {
     Said::Fault(wrong, Shown::of(text))
@@ -100,6 +100,19 @@ impl Reading {
             layout,
             rows: 0,
             is_ended: false,
+        }
+    }
+
+    /// No rows are read.
+    pub(crate) fn new_ended() -> Reading
+        ensures { result ≡ between }
+    {
+        Reading {
+            table: Table::Warehouse,
+            format: Format::Tabs,
+            layout: Layout::Lost,
+            rows: 0,
+            is_ended: true,
         }
     }
 

@@ -1,7 +1,7 @@
-use Rattle.std.proofs.Common.{◌≡◌, ℕ, List, sym, ap, subst, ◌∙◌, refl}
+use Rattle.std.proofs.Common.{sym, ap, ◌∙◌}
 use Rattle.std.proofs.lemmas.Result.{on_ok_weaker}
 use Rattle.oe_sources.specs.declared.readings.Reading.{Reading}
-use Rattle.oe_sources.specs.Reading.{Says, says, step}
+use Rattle.oe_sources.specs.Reading.{Says, says}
 use Rattle.oe_sources.specs.Tables.{file_step}
 use Rattle.oe_sources.proofs.SourceFacts.{line_stands, long_step}
 use Rattle.oe_sources.proofs.tables.TableLinesLineTaker.take_long.Goals as goal

@@ -1,0 +1,137 @@
+//! A dump with a section for each table, as `pg_dump --data-only` writes it. A section begins with
+//! `COPY table (columns) FROM stdin;` and ends with `\.`; its lines are rows, with tabs between two
+//! fields. All other lines are passed over, and so are sections of other tables. A table may have
+//! more sections than one. A section that is not ended is a fault.
+ghost use Rattle.std.specs.Prelude.{◌≡◌, IfOk};
+ghost use Rattle.oe_sources.specs.Dump.{statement_step, opened, dump_step, dump_long, end_says, DumpTaken, DumpRead};
+ghost use Rattle.oe_sources.specs.Reading.{says};
+
+use crate::faults::{Shown, Wrong};
+use crate::ledgers::{Ledger, Taken};
+use crate::lines::SoFar;
+use crate::names::statement;
+use crate::readings::{Layout, Reading, Said, fault};
+use crate::texts::text_of;
+use oe_columns::heading_places;
+use oe_facts::Table;
+use oe_fields::Format;
+use oe_filelines::{LineTaker, Stop, read_lines};
+use oe_ports::ports::Intake;
+use std::alloc::{AllocError, Global};
+
+/// The lines of a dump so far.
+#[derive(Drop)]
+pub struct DumpLines<L> {
+    so_far: SoFar<L>,
+}
+
+/// Opens a section of the table, whose columns the statement names.
+fn open(reading: &mut Reading, table: Table, columns: &[u8], text: &[u8]) -> Said
+    ensures now { reading.new ≡ (opened table columns.now text.now).0 }
+    ensures said { says result ≡ (opened table columns.now text.now).1 }
+{
+    match heading_places(table, Format::Commas, columns) {
+        Ok(places) => {
+            *reading = Reading::new_at(table, Format::Tabs, Layout::Known(places));
+            Said::Nothing
+        }
+        Err(lost) => {
+            *reading = Reading::new_at(table, Format::Tabs, Layout::Lost);
+            fault(Wrong::Layout(lost), text)
+        }
+    }
+}
+
+/// Takes a line that stands in no section.
+#[inline(never)]
+#[tactic(auto, unfolding(crate::specs::Dump::statement_step))]
+fn take_statement(reading: &mut Reading, text: &[u8]) -> Said
+    ensures now { reading.new ≡ (statement_step reading.old text.now).0 }
+    ensures said { says result ≡ (statement_step reading.old text.now).1 }
+{
+    match statement(text) {
+        Some((table, columns)) => open(reading, table, columns, text),
+        None => Said::Nothing,
+    }
+}
+
+/// Takes the next line's text.
+#[inline]
+#[tactic(auto, unfolding(crate::specs::Dump::dump_step))]
+fn take_text(reading: &mut Reading, text: &[u8]) -> Said
+    ensures now { reading.new ≡ (dump_step reading.old text.now).0 }
+    ensures said { says result ≡ (dump_step reading.old text.now).1 }
+{
+    if reading.is_ended() {
+        return take_statement(reading, text);
+    }
+    reading.take(text)
+}
+
+/// Takes the next line, which is too long.
+fn take_long(reading: &Reading) -> Said
+    ensures { says result ≡ dump_long reading.now }
+{
+    if reading.is_ended() {
+        return Said::Nothing;
+    }
+    reading.take_long()
+}
+
+impl<L: Ledger> LineTaker for DumpLines<L> {
+    ghost taken = { DumpTaken L.holds };
+
+    #[inline]
+    fn take_line(&mut self, line: &[u8]) -> Result<(), AllocError> {
+        self.so_far.count = self.so_far.count.saturating_add(1);
+        let text = text_of(self.so_far.count == 1, line);
+        let said = take_text(&mut self.so_far.reading, text);
+        self.so_far.add(said)
+    }
+
+    fn take_long(&mut self) -> Result<(), AllocError> {
+        self.so_far.count = self.so_far.count.saturating_add(1);
+        let said = take_long(&self.so_far.reading);
+        self.so_far.add(said)
+    }
+}
+
+/// Tells what the end of a dump says: a section that is not ended is a fault.
+fn end_of(reading: &Reading) -> Said
+    ensures { says result ≡ end_says reading.now }
+{
+    if reading.is_ended() {
+        return Said::Nothing;
+    }
+    Said::Fault(Wrong::NotEnded, Shown::of(b""))
+}
+
+/// Reads a dump to its end, and hands the fact of each row to the ledger.
+///
+/// A line of a section that can't be read is a fault, and no verdict on the ledger may be given
+/// where there is one. Where a read fails or there is no memory, the ledger is lost.
+pub fn read_dump<S: Intake, L: Ledger + Drop>(
+    alloc: Global,
+    source: &mut S,
+    ledger: L,
+) -> Result<Taken<L>, Stop>
+    ensures { IfOk result (DumpRead L.holds ledger (S.source source.old) (S.source source.new)) }
+{
+    let mut lines = DumpLines {
+        so_far: SoFar::new(alloc, Reading::new_ended(), ledger),
+    };
+    if let Err(stop) = read_lines(alloc, source, &mut lines) {
+        return Err(stop);
+    }
+    let DumpLines { mut so_far } = lines;
+    let said = end_of(&so_far.reading);
+    if let Err(_) = so_far.add(said) {
+        return Err(Stop::NoMemory);
+    }
+    let SoFar {
+        reading: _,
+        count: _,
+        taken,
+    } = so_far;
+    Ok(taken)
+}
