@@ -1,0 +1,8 @@
+use Rattle.std.proofs.Common.{◌∙◌}
+use Rattle.oe_ledgers.proofs.new_orders.NewOrders.settle.Goals as goal
+
+pub returns-clause-stays : goal.returns-clause-stays
+returns-clause-stays c facts kept = record {
+  by_order = λ k. c.settle.ensures.totals k ∙ kept.by_order k;
+  by_district = λ k. c.settle-2.ensures.totals k ∙ kept.by_district k;
+}

@@ -1,0 +1,6 @@
+use Rattle.std.proofs.Common.{rules}
+use Rattle.std.proofs.lemmas.Int.{wraps}
+use Rattle.oe_ledgers.proofs.order_lines.LineSumsJoin.join.Goals as goal
+
+pub returns : goal.returns
+returns c = search (rules, wraps)
