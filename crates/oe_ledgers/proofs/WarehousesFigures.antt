@@ -12,7 +12,7 @@ use Rattle.oe_ledgers.specs.Keeping.{KeepsWarehouses, warehouse_entry}
 use Rattle.oe_ledgers.specs.Figures.{AreFew}
 use Rattle.oe_ledgers.specs.Figures.{w_ytd}
 use Rattle.oe_ledgers.specs.Figures.{warehouse_rows}
-use Rattle.oe_ledgers.specs.Figures.{ten_districts}
+use Rattle.oe_ledgers.specs.Figures.{ten_of_warehouse}
 use Rattle.oe_ledgers.proofs.SumFacts.{projected, counted}
 
 pub w_ytd-kept : (facts : List WarehouseFact) (kept : Warehouses) → KeepsWarehouses facts kept → (k : ℕ)
@@ -27,8 +27,8 @@ warehouse_rows-kept facts kept is few k =
     ap (option_map (λ (s : WarehouseSums). pos s.rows)) (is.by_warehouse k)
     ∙ counted nat_eq warehouses_joined warehouse_entry (λ (s : WarehouseSums). s.rows) (λ a b. refl) (λ f. omega arith) facts few k
 
-pub ten_districts-kept : (facts : List WarehouseFact) (kept : Warehouses) → KeepsWarehouses facts kept → (k : ℕ)
-    → option_map (λ (s : WarehouseSums). pos 10) (total nat_eq warehouses_joined kept.by_warehouse k) ≡ ten_districts facts k
-ten_districts-kept facts kept is k =
+pub ten_of_warehouse-kept : (facts : List WarehouseFact) (kept : Warehouses) → KeepsWarehouses facts kept → (k : ℕ)
+    → option_map (λ (s : WarehouseSums). pos 10) (total nat_eq warehouses_joined kept.by_warehouse k) ≡ ten_of_warehouse facts k
+ten_of_warehouse-kept facts kept is k =
     ap (option_map (λ (s : WarehouseSums). pos 10)) (is.by_warehouse k)
     ∙ projected nat_eq warehouses_joined int_max warehouse_entry (λ (s : WarehouseSums). pos 10) (λ a b. refl) facts k

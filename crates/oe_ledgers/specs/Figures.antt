@@ -220,8 +220,8 @@ abbrev pub has_new_order : List NewOrderFact → OrderId → Option ℤ
 has_new_order facts k = greatest_of same_order (λ f. f.key) (λ f. pos 1) facts k
 
 -- 10 where there is a WAREHOUSE row
-abbrev pub ten_districts : List WarehouseFact → ℕ → Option ℤ
-ten_districts facts k = greatest_of nat_eq (λ f. f.warehouse) (λ f. pos 10) facts k
+abbrev pub ten_of_warehouse : List WarehouseFact → ℕ → Option ℤ
+ten_of_warehouse facts k = greatest_of nat_eq (λ f. f.warehouse) (λ f. pos 10) facts k
 
 -- the number of ITEM rows
 abbrev pub item_rows : List ItemFact → ℕ → Option ℤ

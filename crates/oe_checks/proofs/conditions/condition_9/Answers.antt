@@ -1,0 +1,15 @@
+use Rattle.std.proofs.Common.{◌∙◌}
+use Rattle.oe_checks.specs.Comparing.{against}
+use Rattle.oe_ledgers.proofs.DistrictsFigures.{d_ytd-kept}
+use Rattle.oe_ledgers.proofs.HistoriesFigures.{paid_in_district-kept}
+use Rattle.oe_checks.proofs.FindingFacts.{if_ok, alike_of_two}
+use Rattle.oe_checks.proofs.conditions.condition_9.Goals as goal
+
+pub returns : goal.returns
+returns c of_districts of_histories kept_of_districts kept_of_histories few_of_histories amounts_of_histories =
+    if_ok c.findings.result c.findings.ensures (λ found all. record {
+      ordered = all.ordered;
+      exact = λ k. all.exact k ∙ alike_of_two against
+          (d_ytd-kept of_districts c.args.districts.now kept_of_districts k)
+          (paid_in_district-kept of_histories c.args.histories.now kept_of_histories few_of_histories amounts_of_histories k);
+    })

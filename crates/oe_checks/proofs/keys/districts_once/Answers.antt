@@ -1,0 +1,21 @@
+use Rattle.std.proofs.Common.{◌∙◌}
+use Rattle.oe_checks.specs.Comparing.{repeated}
+use Rattle.oe_ledgers.proofs.DistrictsFigures.{district_rows-kept}
+use Rattle.oe_checks.proofs.FindingFacts.{if_ok, alike_of_one}
+use Rattle.std.proofs.Common.{subst, sym}
+use Rattle.std.specs.List.Sorted.{IsStrictlySortedBy}
+use Rattle.oe_tally.specs.Tallies.{IsSettled}
+use Rattle.oe_ledgers.specs.Keys.{district_cmp}
+use Rattle.oe_checks.proofs.keys.districts_once.Goals as goal
+
+pub findings-requires-clause-right : goal.findings-requires-clause-right
+unfolding IsStrictlySortedBy
+findings-requires-clause-right c = subst (IsSettled district_cmp) (sym c.new-nothing.ensures) tt
+
+pub returns : goal.returns
+returns c of_districts kept_of_districts few_of_districts =
+    if_ok c.findings.result c.findings.ensures (λ found all. record {
+      ordered = all.ordered;
+      exact = λ k. all.exact k ∙ alike_of_one repeated
+          (district_rows-kept of_districts c.args.districts.now kept_of_districts few_of_districts k);
+    })

@@ -1,0 +1,21 @@
+use Rattle.std.proofs.Common.{◌∙◌}
+use Rattle.oe_checks.specs.Comparing.{outside}
+use Rattle.oe_ledgers.proofs.StocksFigures.{s_quantity-kept}
+use Rattle.oe_checks.proofs.FindingFacts.{if_ok, alike_of_one}
+use Rattle.std.proofs.Common.{subst, sym}
+use Rattle.std.specs.List.Sorted.{IsStrictlySortedBy}
+use Rattle.oe_tally.specs.Tallies.{IsSettled}
+use Rattle.oe_ledgers.specs.Keys.{stock_cmp}
+use Rattle.oe_checks.proofs.movements.stock_quantity.Goals as goal
+
+pub findings-requires-clause-right : goal.findings-requires-clause-right
+unfolding IsStrictlySortedBy
+findings-requires-clause-right c = subst (IsSettled stock_cmp) (sym c.new-nothing.ensures) tt
+
+pub returns : goal.returns
+returns c of_stocks kept_of_stocks =
+    if_ok c.findings.result c.findings.ensures (λ found all. record {
+      ordered = all.ordered;
+      exact = λ k. all.exact k ∙ alike_of_one outside
+          (s_quantity-kept of_stocks c.args.stocks.now kept_of_stocks k);
+    })

@@ -1,0 +1,15 @@
+use Rattle.std.proofs.Common.{◌∙◌}
+use Rattle.oe_checks.specs.Comparing.{orphaned}
+use Rattle.oe_ledgers.proofs.OrderLinesFigures.{lines_of_order-kept}
+use Rattle.oe_ledgers.proofs.OrdersFigures.{order_rows-kept}
+use Rattle.oe_checks.proofs.FindingFacts.{if_ok, alike_of_two}
+use Rattle.oe_checks.proofs.references.lines_refer_to_orders.Goals as goal
+
+pub returns : goal.returns
+returns c of_lines of_orders kept_of_lines few_of_lines kept_of_orders few_of_orders =
+    if_ok c.findings.result c.findings.ensures (λ found all. record {
+      ordered = all.ordered;
+      exact = λ k. all.exact k ∙ alike_of_two orphaned
+          (lines_of_order-kept of_lines c.args.lines.now kept_of_lines few_of_lines k)
+          (order_rows-kept of_orders c.args.orders.now kept_of_orders few_of_orders k);
+    })

@@ -1,0 +1,23 @@
+use Rattle.std.proofs.Common.{◌∙◌}
+use Rattle.oe_checks.specs.Comparing.{single}
+use Rattle.oe_ledgers.proofs.OrdersFigures.{greatest_order-kept}
+use Rattle.oe_ledgers.proofs.OrdersFigures.{orders_of_district-kept}
+use Rattle.oe_checks.proofs.FindingFacts.{if_ok, alike_of_two}
+use Rattle.std.proofs.Common.{subst, sym}
+use Rattle.std.specs.List.Sorted.{IsStrictlySortedBy}
+use Rattle.oe_tally.specs.Tallies.{IsSettled}
+use Rattle.oe_ledgers.specs.Keys.{district_cmp}
+use Rattle.oe_checks.proofs.schema.orders_without_gap.Goals as goal
+
+pub findings-requires-clause-right : goal.findings-requires-clause-right
+unfolding IsStrictlySortedBy
+findings-requires-clause-right c = subst (IsSettled district_cmp) (sym c.new-nothing.ensures) tt
+
+pub returns : goal.returns
+returns c of_orders kept_of_orders few_of_orders =
+    if_ok c.findings.result c.findings.ensures (λ found all. record {
+      ordered = all.ordered;
+      exact = λ k. all.exact k ∙ alike_of_two single
+          (greatest_order-kept of_orders c.args.orders.now kept_of_orders k)
+          (orders_of_district-kept of_orders c.args.orders.now kept_of_orders few_of_orders k);
+    })

@@ -1,0 +1,7 @@
+-- What the clauses of this crate cite.
+pub mod Comparing
+pub mod Conditions
+pub mod Keys
+pub mod Movements
+pub mod References
+pub mod Schema
