@@ -69,7 +69,7 @@ impl Check<WarehouseSums, Takings> for Condition1 {
             return None;
         };
         let second = match sum {
-            Some(sum) => { sum.amount }
+            Some(sum) => sum.amount,
             None => 0,
         };
         let first = row.ytd as i128;
@@ -93,12 +93,8 @@ pub fn condition_1(
         → IfOk result (λ found. AreAll nat_cmp nat_eq
         (condition_1 of_warehouses of_districts) found.items) }
 {
-    findings(
-        alloc,
-        &Condition1,
-        &warehouses.by_warehouse,
-        &districts.by_warehouse,
-    )
+    let sums = &districts.by_warehouse;
+    findings(alloc, &Condition1, &warehouses.by_warehouse, sums)
 }
 
 struct Condition2OfOrders;
@@ -143,12 +139,8 @@ pub fn condition_2_of_orders(
         → IfOk result (λ found. AreAll district_cmp same_district
         (condition_2_of_orders of_districts of_orders) found.items) }
 {
-    findings(
-        alloc,
-        &Condition2OfOrders,
-        &districts.by_district,
-        &orders.by_district,
-    )
+    let sums = &orders.by_district;
+    findings(alloc, &Condition2OfOrders, &districts.by_district, sums)
 }
 
 struct Condition2OfNewOrders;
@@ -192,12 +184,8 @@ pub fn condition_2_of_new_orders(
         → IfOk result (λ found. AreAll district_cmp same_district
         (condition_2_of_new_orders of_districts of_new_orders) found.items) }
 {
-    findings(
-        alloc,
-        &Condition2OfNewOrders,
-        &districts.by_district,
-        &new_orders.by_district,
-    )
+    let sums = &new_orders.by_district;
+    findings(alloc, &Condition2OfNewOrders, &districts.by_district, sums)
 }
 
 struct Condition3;
@@ -312,7 +300,7 @@ impl Check<OrderSums, Count> for Condition5 {
             return None;
         };
         let second = match sum {
-            Some(sum) => { 1 }
+            Some(sum) => 1,
             None => 0,
         };
         let first = if row.is_delivered { 0 } else { 1 };
@@ -358,7 +346,7 @@ impl Check<OrderSums, LineSums> for Condition6 {
             return None;
         };
         let second = match sum {
-            Some(sum) => { sum.rows as i128 }
+            Some(sum) => sum.rows as i128,
             None => 0,
         };
         let first = row.line_count as i128;
@@ -457,7 +445,7 @@ impl Check<WarehouseSums, Takings> for Condition8 {
             return None;
         };
         let second = match sum {
-            Some(sum) => { sum.amount }
+            Some(sum) => sum.amount,
             None => 0,
         };
         let first = row.ytd as i128;
@@ -481,12 +469,8 @@ pub fn condition_8(
         → IfOk result (λ found. AreAll nat_cmp nat_eq
         (condition_8 of_warehouses of_histories) found.items) }
 {
-    findings(
-        alloc,
-        &Condition8,
-        &warehouses.by_warehouse,
-        &histories.by_warehouse,
-    )
+    let sums = &histories.by_warehouse;
+    findings(alloc, &Condition8, &warehouses.by_warehouse, sums)
 }
 
 struct Condition9;
@@ -509,7 +493,7 @@ impl Check<DistrictSums, Takings> for Condition9 {
             return None;
         };
         let second = match sum {
-            Some(sum) => { sum.amount }
+            Some(sum) => sum.amount,
             None => 0,
         };
         let first = row.ytd as i128;
@@ -533,10 +517,6 @@ pub fn condition_9(
         → IfOk result (λ found. AreAll district_cmp same_district
         (condition_9 of_districts of_histories) found.items) }
 {
-    findings(
-        alloc,
-        &Condition9,
-        &districts.by_district,
-        &histories.by_district,
-    )
+    let sums = &histories.by_district;
+    findings(alloc, &Condition9, &districts.by_district, sums)
 }

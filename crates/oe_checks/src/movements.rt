@@ -61,7 +61,7 @@ impl Check<StockSums, SupplySums> for StockYtd {
             return None;
         };
         let second = match sum {
-            Some(sum) => { sum.quantity as i128 }
+            Some(sum) => sum.quantity as i128,
             None => 0,
         };
         let first = row.ytd as i128;
@@ -109,7 +109,7 @@ impl Check<StockSums, SupplySums> for StockOrders {
             return None;
         };
         let second = match sum {
-            Some(sum) => { sum.orders as i128 }
+            Some(sum) => sum.orders as i128,
             None => 0,
         };
         let first = row.orders as i128;
@@ -156,7 +156,7 @@ impl Check<StockSums, SupplySums> for StockRemote {
             return None;
         };
         let second = match sum {
-            Some(sum) => { sum.remotes as i128 }
+            Some(sum) => sum.remotes as i128,
             None => 0,
         };
         let first = row.remotes as i128;
@@ -203,7 +203,7 @@ impl Check<CustomerSums, Takings> for PaymentCount {
             return None;
         };
         let second = match sum {
-            Some(sum) => { sum.rows as i128 }
+            Some(sum) => sum.rows as i128,
             None => 0,
         };
         let first = row.payments as i128;
@@ -227,12 +227,8 @@ pub fn payment_count(
         → IfOk result (λ found. AreAll customer_cmp same_customer
         (payment_count of_customers of_histories) found.items) }
 {
-    findings(
-        alloc,
-        &PaymentCount,
-        &customers.by_customer,
-        &histories.by_customer,
-    )
+    let sums = &histories.by_customer;
+    findings(alloc, &PaymentCount, &customers.by_customer, sums)
 }
 
 struct DeliveryCount;
@@ -255,7 +251,7 @@ impl Check<CustomerSums, CustomerOrders> for DeliveryCount {
             return None;
         };
         let second = match sum {
-            Some(sum) => { sum.deliveries as i128 }
+            Some(sum) => sum.deliveries as i128,
             None => 0,
         };
         let first = row.deliveries as i128;
@@ -279,12 +275,8 @@ pub fn delivery_count(
         → IfOk result (λ found. AreAll customer_cmp same_customer
         (delivery_count orders.now.initial of_customers of_orders) found.items) }
 {
-    findings(
-        alloc,
-        &DeliveryCount,
-        &customers.by_customer,
-        &orders.by_customer,
-    )
+    let sums = &orders.by_customer;
+    findings(alloc, &DeliveryCount, &customers.by_customer, sums)
 }
 
 struct AllLocal;

@@ -105,12 +105,8 @@ pub fn districts_refer(
         → IfOk result (λ found. AreAll nat_cmp nat_eq
         (districts_refer of_districts of_warehouses) found.items) }
 {
-    findings(
-        alloc,
-        &DistrictsRefer,
-        &districts.by_warehouse,
-        &warehouses.by_warehouse,
-    )
+    let sums = &warehouses.by_warehouse;
+    findings(alloc, &DistrictsRefer, &districts.by_warehouse, sums)
 }
 
 struct CustomersRefer;
@@ -158,12 +154,8 @@ pub fn customers_refer(
         → IfOk result (λ found. AreAll district_cmp same_district
         (customers_refer of_customers of_districts) found.items) }
 {
-    findings(
-        alloc,
-        &CustomersRefer,
-        &customers.by_district,
-        &districts.by_district,
-    )
+    let sums = &districts.by_district;
+    findings(alloc, &CustomersRefer, &customers.by_district, sums)
 }
 
 struct HistoriesReferToCustomers;
@@ -212,12 +204,9 @@ pub fn histories_refer_to_customers(
         → IfOk result (λ found. AreAll customer_cmp same_customer
         (histories_refer_to_customers of_histories of_customers) found.items) }
 {
-    findings(
-        alloc,
-        &HistoriesReferToCustomers,
-        &histories.by_customer,
-        &customers.by_customer,
-    )
+    let sums = &customers.by_customer;
+    let rows = &histories.by_customer;
+    findings(alloc, &HistoriesReferToCustomers, rows, sums)
 }
 
 struct HistoriesReferToDistricts;
@@ -265,12 +254,9 @@ pub fn histories_refer_to_districts(
         → IfOk result (λ found. AreAll district_cmp same_district
         (histories_refer_to_districts of_histories of_districts) found.items) }
 {
-    findings(
-        alloc,
-        &HistoriesReferToDistricts,
-        &histories.by_district,
-        &districts.by_district,
-    )
+    let sums = &districts.by_district;
+    let rows = &histories.by_district;
+    findings(alloc, &HistoriesReferToDistricts, rows, sums)
 }
 
 struct NewOrdersRefer;
@@ -318,12 +304,8 @@ pub fn new_orders_refer(
         → IfOk result (λ found. AreAll order_cmp same_order
         (new_orders_refer of_new_orders of_orders) found.items) }
 {
-    findings(
-        alloc,
-        &NewOrdersRefer,
-        &new_orders.by_order,
-        &orders.by_order,
-    )
+    let sums = &orders.by_order;
+    findings(alloc, &NewOrdersRefer, &new_orders.by_order, sums)
 }
 
 struct OrdersRefer;
@@ -372,12 +354,8 @@ pub fn orders_refer(
         → IfOk result (λ found. AreAll customer_cmp same_customer
         (orders_refer of_orders of_customers) found.items) }
 {
-    findings(
-        alloc,
-        &OrdersRefer,
-        &orders.by_customer,
-        &customers.by_customer,
-    )
+    let sums = &customers.by_customer;
+    findings(alloc, &OrdersRefer, &orders.by_customer, sums)
 }
 
 struct LinesReferToOrders;
@@ -426,12 +404,8 @@ pub fn lines_refer_to_orders(
         → IfOk result (λ found. AreAll order_cmp same_order
         (lines_refer_to_orders of_lines of_orders) found.items) }
 {
-    findings(
-        alloc,
-        &LinesReferToOrders,
-        &lines.by_order,
-        &orders.by_order,
-    )
+    let sums = &orders.by_order;
+    findings(alloc, &LinesReferToOrders, &lines.by_order, sums)
 }
 
 struct LinesReferToStocks;
@@ -480,12 +454,8 @@ pub fn lines_refer_to_stocks(
         → IfOk result (λ found. AreAll stock_cmp same_stock
         (lines_refer_to_stocks of_lines of_stocks) found.items) }
 {
-    findings(
-        alloc,
-        &LinesReferToStocks,
-        &lines.by_stock,
-        &stocks.by_stock,
-    )
+    let sums = &stocks.by_stock;
+    findings(alloc, &LinesReferToStocks, &lines.by_stock, sums)
 }
 
 struct StocksReferToWarehouses;
@@ -533,12 +503,8 @@ pub fn stocks_refer_to_warehouses(
         → IfOk result (λ found. AreAll nat_cmp nat_eq
         (stocks_refer_to_warehouses of_stocks of_warehouses) found.items) }
 {
-    findings(
-        alloc,
-        &StocksReferToWarehouses,
-        &stocks.by_warehouse,
-        &warehouses.by_warehouse,
-    )
+    let sums = &warehouses.by_warehouse;
+    findings(alloc, &StocksReferToWarehouses, &stocks.by_warehouse, sums)
 }
 
 struct StocksReferToItems;

@@ -49,7 +49,7 @@ impl Check<WarehouseSums, Takings> for TenDistricts {
             return None;
         };
         let second = match sum {
-            Some(sum) => { sum.rows as i128 }
+            Some(sum) => sum.rows as i128,
             None => 0,
         };
         let first = 10;
@@ -72,12 +72,8 @@ pub fn ten_districts(
         → IfOk result (λ found. AreAll nat_cmp nat_eq
         (ten_districts of_warehouses of_districts) found.items) }
 {
-    findings(
-        alloc,
-        &TenDistricts,
-        &warehouses.by_warehouse,
-        &districts.by_warehouse,
-    )
+    let sums = &districts.by_warehouse;
+    findings(alloc, &TenDistricts, &warehouses.by_warehouse, sums)
 }
 
 struct OrdersWithoutGap;
