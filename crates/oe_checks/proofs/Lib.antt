@@ -1,2 +1,4 @@
 -- What this crate's proofs share.
 pub mod FindingFacts
+pub mod RegroupFacts
+pub mod DeliveryFacts

@@ -1,6 +1,7 @@
 -- What the clauses of this crate cite.
 pub mod Comparing
 pub mod Conditions
+pub mod Deliveries
 pub mod Keys
 pub mod Movements
 pub mod References

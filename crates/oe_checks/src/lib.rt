@@ -3,6 +3,7 @@
 #![tactic(auto)]
 
 pub mod conditions;
+pub mod deliveries;
 pub mod figures;
 pub mod keys;
 pub mod movements;
