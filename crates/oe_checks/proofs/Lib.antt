@@ -2,3 +2,4 @@
 pub mod FindingFacts
 pub mod RegroupFacts
 pub mod DeliveryFacts
+pub mod AccountFacts

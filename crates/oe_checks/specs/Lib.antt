@@ -1,5 +1,6 @@
 -- What the clauses of this crate cite.
 pub mod Comparing
+pub mod Accounts
 pub mod Conditions
 pub mod Deliveries
 pub mod Keys

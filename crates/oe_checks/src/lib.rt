@@ -2,6 +2,7 @@
 //! order, with both figures. Clause numbers are TPC Benchmark C 5.11's.
 #![tactic(auto)]
 
+pub mod accounts;
 pub mod conditions;
 pub mod deliveries;
 pub mod figures;
