@@ -84,7 +84,7 @@ impl<K: Ord + Copy, V: Join> Tally<K, V> {
             return Ok(());
         }
         if count >= 4096 && count / 2 >= self.apart {
-            self.settle();
+            self.join_entries();
         }
         self.grow()
     }
@@ -112,13 +112,31 @@ impl<K: Ord + Copy, V: Join> Tally<K, V> {
     }
 
     /// Brings the entries of each key together, and puts them in the keys' order. No sum changes.
+    /// Gives memory back that is not needed.
     pub fn settle(&mut self)
+        ensures totals { SameTotals K.eq V.joined self.old self.new }
+        ensures ordered { IsSettled K.cmp self.new }
+        ensures fewer { length self.new ≤ length self.old }
+    {
+        self.join_entries();
+        self.shrink();
+    }
+
+    // The same without giving memory back.
+    fn join_entries(&mut self)
         ensures totals { SameTotals K.eq V.joined self.old self.new }
         ensures ordered { IsSettled K.cmp self.new }
         ensures fewer { length self.new ≤ length self.old }
     {
         settle_entries(&mut self.entries);
         self.apart = self.entries.len();
+    }
+
+    // Gives memory back.
+    fn shrink(&mut self)
+        ensures { self.new ≡ self.old }
+    {
+        self.entries.shrink_to_fit();
     }
 
     /// Gives the sum for a key, where something was added for it.
