@@ -3,3 +3,4 @@ pub mod FindingFacts
 pub mod RegroupFacts
 pub mod DeliveryFacts
 pub mod AccountFacts
+pub mod SizeFacts

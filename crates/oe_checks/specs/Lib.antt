@@ -7,3 +7,4 @@ pub mod Keys
 pub mod Movements
 pub mod References
 pub mod Schema
+pub mod Sizes

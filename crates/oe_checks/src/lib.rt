@@ -10,5 +10,6 @@ pub mod keys;
 pub mod movements;
 pub mod references;
 pub mod schema;
+pub mod sizes;
 
 pub use figures::Apart;
