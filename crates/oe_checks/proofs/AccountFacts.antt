@@ -1,5 +1,6 @@
 -- What was delivered to a customer less what it paid.
-use Rattle.std.proofs.Common.{◌≡◌, refl, sym, ◌∙◌, ap, subst, Bool, true, false, cond, ℕ, suc, ◌+◌, ◌*◌, ◌-◌, ◌^◌, ◌<◌, ◌≤◌, arith}
+use Rattle.std.proofs.Common.{◌≡◌, refl, sym, ◌∙◌, ap, subst, Bool, true, false, cond, ℕ, suc, ◌+◌, ◌*◌, ◌-◌, ◌^◌}
+use Rattle.std.proofs.Common.{◌<◌, ◌≤◌, arith}
 use Rattle.std.proofs.Common.{List, [], ◌∷◌, length, Option, Some, None}
 use Rattle.std.specs.Prelude.{ℤ, pos, ◌+ℤ◌, ◌-ℤ◌, All, IfSome, nat_eq, ◌&&◌}
 use Rattle.std.specs.Int.{int_wrap, w128}
@@ -27,15 +28,21 @@ use Rattle.oe_checks.specs.Accounts.{less, net, wrapped_less}
 pub customers_total : IsTotalOrder customer_cmp
 customers_total =
     then_total (on_total (λ (k : CustomerId). k.warehouse) nat_cmp_total)
-    (then_total (on_total (λ (k : CustomerId). k.district) nat_cmp_total) (on_total (λ (k : CustomerId). k.customer) nat_cmp_total))
+    (then_total (on_total (λ (k : CustomerId). k.district) nat_cmp_total)
+    (on_total (λ (k : CustomerId). k.customer) nat_cmp_total))
 
 pub customers_tie : (a b : CustomerId) → same_customer a b ≡ eq_by_cmp customer_cmp a b
 customers_tie a b =
-    ap (λ x. x && (nat_eq a.district b.district && nat_eq a.customer b.customer)) (unsigned_ties a.warehouse b.warehouse)
-    ∙ ap (λ x. is_eq (nat_cmp a.warehouse b.warehouse) && (x && nat_eq a.customer b.customer)) (unsigned_ties a.district b.district)
-    ∙ ap (λ x. is_eq (nat_cmp a.warehouse b.warehouse) && (is_eq (nat_cmp a.district b.district) && x)) (unsigned_ties a.customer b.customer)
-    ∙ ap (λ x. is_eq (nat_cmp a.warehouse b.warehouse) && x) (tied_then (nat_cmp a.district b.district) (nat_cmp a.customer b.customer))
-    ∙ tied_then (nat_cmp a.warehouse b.warehouse) (ordering_then (nat_cmp a.district b.district) (nat_cmp a.customer b.customer))
+    ap (λ x. x && (nat_eq a.district b.district && nat_eq a.customer b.customer))
+    (unsigned_ties a.warehouse b.warehouse)
+    ∙ ap (λ x. is_eq (nat_cmp a.warehouse b.warehouse) && (x && nat_eq a.customer b.customer))
+    (unsigned_ties a.district b.district)
+    ∙ ap (λ x. is_eq (nat_cmp a.warehouse b.warehouse) && (is_eq (nat_cmp a.district b.district) && x))
+    (unsigned_ties a.customer b.customer)
+    ∙ ap (λ x. is_eq (nat_cmp a.warehouse b.warehouse) && x)
+    (tied_then (nat_cmp a.district b.district) (nat_cmp a.customer b.customer))
+    ∙ tied_then (nat_cmp a.warehouse b.warehouse)
+    (ordering_then (nat_cmp a.district b.district) (nat_cmp a.customer b.customer))
 
 abs_add : (a b : ℤ) → unsigned_abs (a +ℤ b) ≤ unsigned_abs a + unsigned_abs b
 abs_add a b = omega (arith, ints)
@@ -48,7 +55,8 @@ abbrev IsBounded : Option ℤ → Type 0
 IsBounded s = IfSome s (λ y. unsigned_abs y ≤ 10 ^ 15 * 2 ^ 32)
 
 module _ {F K : Type 0} (same : K → K → Bool) (key : F → K) (column : F → ℤ) where
-  bound-step : (b : Bool) (x : ℤ) (s : Option ℤ) (n : ℕ) → unsigned_abs x ≤ 10 ^ 15 → IfSome s (λ y. unsigned_abs y ≤ 10 ^ 15 * n)
+  bound-step : (b : Bool) (x : ℤ) (s : Option ℤ) (n : ℕ) → unsigned_abs x ≤ 10 ^ 15
+      → IfSome s (λ y. unsigned_abs y ≤ 10 ^ 15 * n)
       → IfSome (together (λ p q. p +ℤ q) (cond b (Some x) None) s) (λ y. unsigned_abs y ≤ 10 ^ 15 * suc n)
   bound-step true x None n h g = omega arith
   bound-step true x (Some y) n h g = omega (arith, abs_add x y, g)
@@ -59,7 +67,8 @@ module _ {F K : Type 0} (same : K → K → Bool) (key : F → K) (column : F �
       → IfSome (of_key same key (λ p q. p +ℤ q) column facts k) (λ y. unsigned_abs y ≤ 10 ^ 15 * length facts)
   bounded-by [] k h = tt
   bounded-by (f ∷ facts) k h =
-      bound-step (same (key f) k) (column f) (of_key same key (λ p q. p +ℤ q) column facts k) (length facts) h.0 (bounded-by facts k h.1)
+      bound-step (same (key f) k) (column f) (of_key same key (λ p q. p +ℤ q) column facts k) (length facts) h.0
+      (bounded-by facts k h.1)
 
   wider : (s : Option ℤ) (n : ℕ) → n < 2 ^ 32 → IfSome s (λ y. unsigned_abs y ≤ 10 ^ 15 * n) → IsBounded s
   wider None n few h = tt
@@ -87,7 +96,8 @@ paid-bounded hs c few amounts =
     bounded same_customer (λ (f : HistoryFact). f.customer) (λ (f : HistoryFact). f.amount) hs c few
     (recursion_from_All (λ (f : HistoryFact). unsigned_abs f.amount ≤ 10 ^ 15) hs amounts)
 
-wrapped-less-is : (a b : ℤ) → unsigned_abs a ≤ 10 ^ 15 * 2 ^ 32 → unsigned_abs b ≤ 10 ^ 15 * 2 ^ 32 → wrapped_less a b ≡ a -ℤ b
+wrapped-less-is : (a b : ℤ) → unsigned_abs a ≤ 10 ^ 15 * 2 ^ 32 → unsigned_abs b ≤ 10 ^ 15 * 2 ^ 32
+    → wrapped_less a b ≡ a -ℤ b
 wrapped-less-is a b h g =
     int_wrap_fits w128 (a -ℤ b) (fits_signed_from_abs w128 (a -ℤ b) (omega (arith, abs_sub a b)))
 

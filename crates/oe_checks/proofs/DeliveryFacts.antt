@@ -1,5 +1,6 @@
 -- The deliveries of orders, added up by customer, are the delivered lines of the customer's orders.
-use Rattle.std.proofs.Common.{◌≡◌, refl, sym, ◌∙◌, ap, subst, Bool, true, false, cond, ℕ, ◌+◌, ◌*◌, ◌-◌, ◌^◌, ◌<◌, ◌≤◌, arith}
+use Rattle.std.proofs.Common.{◌≡◌, refl, sym, ◌∙◌, ap, subst, Bool, true, false, cond, ℕ, ◌+◌, ◌*◌, ◌-◌, ◌^◌, ◌<◌}
+use Rattle.std.proofs.Common.{◌≤◌, arith}
 use Rattle.std.proofs.Common.{List, [], ◌∷◌, map, length, Option, Some, None, eqb-true}
 use Rattle.std.specs.Prelude.{max, ℤ, pos, ◌+ℤ◌, All, nat_eq, ◌&&◌}
 use Rattle.std.specs.Int.{int_wrap, w128}
@@ -32,7 +33,8 @@ use Rattle.oe_ledgers.specs.Keeping.{Keeps, KeepsOrders, KeepsOrderLines, order_
 use Rattle.oe_ledgers.specs.Figures.{AreFew, AreAmounts}
 use Rattle.oe_ledgers.proofs.SumFacts.{projected, summed, abs_at_most}
 use Rattle.oe_checks.specs.declared.deliveries.Delivery.{Delivery}
-use Rattle.oe_checks.specs.Deliveries.{customer_at, customer_of, same_known, delivered, delivered_to, delivery, delivery_entry, HasDeliveries}
+use Rattle.oe_checks.specs.Deliveries.{customer_at, customer_of, same_known, delivered, delivered_to, delivery}
+use Rattle.oe_checks.specs.Deliveries.{delivery_entry, HasDeliveries}
 use Rattle.oe_checks.proofs.RegroupFacts.{total-found, regroup, all-found}
 
 exact_orders : (a b : OrderId) → same_order a b ≡ true → a ≡ b
@@ -47,25 +49,32 @@ exact_orders a b e =
 orders_total : IsTotalOrder order_cmp
 orders_total =
     then_total (on_total (λ (k : OrderId). k.warehouse) nat_cmp_total)
-    (then_total (on_total (λ (k : OrderId). k.district) nat_cmp_total) (on_total (λ (k : OrderId). k.order) nat_cmp_total))
+    (then_total (on_total (λ (k : OrderId). k.district) nat_cmp_total)
+    (on_total (λ (k : OrderId). k.order) nat_cmp_total))
 
 orders_tie : (a b : OrderId) → same_order a b ≡ eq_by_cmp order_cmp a b
 orders_tie a b =
     ap (λ x. x && (nat_eq a.district b.district && nat_eq a.order b.order)) (unsigned_ties a.warehouse b.warehouse)
-    ∙ ap (λ x. is_eq (nat_cmp a.warehouse b.warehouse) && (x && nat_eq a.order b.order)) (unsigned_ties a.district b.district)
-    ∙ ap (λ x. is_eq (nat_cmp a.warehouse b.warehouse) && (is_eq (nat_cmp a.district b.district) && x)) (unsigned_ties a.order b.order)
-    ∙ ap (λ x. is_eq (nat_cmp a.warehouse b.warehouse) && x) (tied_then (nat_cmp a.district b.district) (nat_cmp a.order b.order))
-    ∙ tied_then (nat_cmp a.warehouse b.warehouse) (ordering_then (nat_cmp a.district b.district) (nat_cmp a.order b.order))
+    ∙ ap (λ x. is_eq (nat_cmp a.warehouse b.warehouse) && (x && nat_eq a.order b.order))
+    (unsigned_ties a.district b.district)
+    ∙ ap (λ x. is_eq (nat_cmp a.warehouse b.warehouse) && (is_eq (nat_cmp a.district b.district) && x))
+    (unsigned_ties a.order b.order)
+    ∙ ap (λ x. is_eq (nat_cmp a.warehouse b.warehouse) && x)
+    (tied_then (nat_cmp a.district b.district) (nat_cmp a.order b.order))
+    ∙ tied_then (nat_cmp a.warehouse b.warehouse)
+    (ordering_then (nat_cmp a.district b.district) (nat_cmp a.order b.order))
 
 -- fusion of maps under a sum
-total-map : {X K V : Type 0} {J : Type 0} (alike : J → J → Bool) (op : V → V → V) (f : X → K × V) (g : K → J) (xs : List X) (c : J)
+total-map : {X K V : Type 0} {J : Type 0} (alike : J → J → Bool) (op : V → V → V) (f : X → K × V) (g : K → J)
+    (xs : List X) (c : J)
     → total alike op (map (λ e. (g e.0, e.1)) (map f xs)) c ≡ total alike op (map (λ x. (g (f x).0, (f x).1)) xs) c
 total-map alike op f g [] c = refl
 total-map alike op f g (x ∷ xs) c =
     ap (together op (cond (alike (g (f x).0) c) (Some (f x).1) None)) (total-map alike op f g xs c)
 
 module _ {F V : Type 0} (h : F → V) where
-  lookup-step : (b : Bool) (x : F) (r : Option F) → cond b (Some (h x)) (option_map h r) ≡ option_map h (cond b (Some x) r)
+  lookup-step : (b : Bool) (x : F) (r : Option F) → cond b (Some (h x)) (option_map h r)
+      ≡ option_map h (cond b (Some x) r)
   lookup-step true x r = refl
   lookup-step false x r = refl
 
@@ -98,15 +107,18 @@ keyed : (os : List OrderFact) (found : List (OrderId × Delivery)) (c : Customer
     ≡ total same_known wrapped (map (λ (q : OrderId × Delivery). (customer_of os q.0, q.1.amount)) found) (Some c)
 keyed os [] c h = refl
 keyed os (q ∷ found) c h =
-    ap (together wrapped (cond (same_customer (customer_at q.0 q.1.customer) c) (Some q.1.amount) None)) (keyed os found c h.1)
+    ap (together wrapped (cond (same_customer (customer_at q.0 q.1.customer) c) (Some q.1.amount) None))
+    (keyed os found c h.1)
     ∙ ap (λ j. together wrapped (cond (same_known j (Some c)) (Some q.1.amount) None)
-    (total same_known wrapped (map (λ (q : OrderId × Delivery). (customer_of os q.0, q.1.amount)) found) (Some c))) (sym h.0)
+    (total same_known wrapped (map (λ (q : OrderId × Delivery). (customer_of os q.0, q.1.amount)) found) (Some c)))
+    (sym h.0)
 
 module _ (os : List OrderFact) (ls : List OrderLineFact) (kept_orders : Orders) (kept_lines : OrderLines)
     (orders : KeepsOrders os kept_orders) (lines : KeepsOrderLines ls kept_lines) where
   -- the customer that stands with an order's sums is the order's
   customer-is : (k : OrderId)
-      → customer_of os k ≡ option_map (customer_at k) (option_map (λ (s : OrderSums). s.customer) (total same_order orders_joined kept_orders.by_order k))
+      → customer_of os k ≡ option_map (customer_at k)
+      (option_map (λ (s : OrderSums). s.customer) (total same_order orders_joined kept_orders.by_order k))
   customer-is k =
       ap (option_map (customer_at k))
       (sym (ap (option_map (λ (s : OrderSums). s.customer)) (orders.by_order k)
@@ -132,14 +144,16 @@ module _ (os : List OrderFact) (ls : List OrderLineFact) (kept_orders : Orders) 
   delivery-customer None l k d e = cc
   delivery-customer (Some o) None k d e = cc
   delivery-customer (Some o) (Some l) k d e =
-      let same-delivery : record { amount = l.amount; customer = o.customer } ≡ d = some-inner (record { amount = l.amount; customer = o.customer }) d e in
+      let same-delivery : record { amount = l.amount; customer = o.customer }
+      ≡ d = some-inner (record { amount = l.amount; customer = o.customer }) d e in
       ap (λ (x : Delivery). Some (customer_at k x.customer)) same-delivery
     where
       some-inner : (x y : Delivery) → Some x ≡ Some y → x ≡ y
       some-inner x y p = cc
 
   module _ (found : List (OrderId × Delivery))
-      (all : AreAll order_cmp same_order (wrong_at same_order orders_joined lines_joined delivery kept_orders.by_order kept_lines.by_order) found) where
+      (all : AreAll order_cmp same_order
+      (wrong_at same_order orders_joined lines_joined delivery kept_orders.by_order kept_lines.by_order) found) where
     amounts-settled : IsSettled order_cmp (map (λ (e : OrderId × Delivery). (e.0, e.1.amount)) found)
     amounts-settled =
         subst (IsStrictlySortedBy order_cmp) (sym (keys-values (λ (d : Delivery). d.amount) found)) all.ordered
@@ -148,33 +162,46 @@ module _ (os : List OrderFact) (ls : List OrderLineFact) (kept_orders : Orders) 
         → total same_order wrapped (map (λ (e : OrderId × Delivery). (e.0, e.1.amount)) found) k
         ≡ total same_order wrapped (map (λ (f : OrderLineFact). (f.order, delivered f)) ls) k
     amount-at c k counts =
-        total-found order_cmp orders_total orders_tie wrapped (map (λ (e : OrderId × Delivery). (e.0, e.1.amount)) found) k amounts-settled
+        total-found order_cmp orders_total orders_tie wrapped
+        (map (λ (e : OrderId × Delivery). (e.0, e.1.amount)) found) k amounts-settled
         ∙ lookup-values (λ (d : Delivery). d.amount) (λ x. same_order x k) found
         ∙ ap (option_map (λ (d : Delivery). d.amount)) (all.exact k)
-        ∙ delivery-amount (total same_order orders_joined kept_orders.by_order k) (total same_order lines_joined kept_lines.by_order k) k c
+        ∙ delivery-amount (total same_order orders_joined kept_orders.by_order k)
+        (total same_order lines_joined kept_lines.by_order k) k c
         (sym (ap (λ j. same_known j (Some c)) (customer-is k)) ∙ counts)
         ∙ amount-is k
 
-    customers-found : AllByRecursion (λ (q : OrderId × Delivery). customer_of os q.0 ≡ Some (customer_at q.0 q.1.customer)) found
+    customers-found : AllByRecursion
+        (λ (q : OrderId × Delivery). customer_of os q.0 ≡ Some (customer_at q.0 q.1.customer)) found
     customers-found =
-        all-found order_cmp orders_total orders_tie (λ q. customer_of os q.0 ≡ Some (customer_at q.0 q.1.customer)) found all.ordered
+        all-found order_cmp orders_total orders_tie (λ q. customer_of os q.0 ≡ Some (customer_at q.0 q.1.customer))
+        found all.ordered
         (λ k d is. customer-is k
-        ∙ delivery-customer (total same_order orders_joined kept_orders.by_order k) (total same_order lines_joined kept_lines.by_order k) k d
+        ∙ delivery-customer (total same_order orders_joined kept_orders.by_order k)
+        (total same_order lines_joined kept_lines.by_order k) k d
         (sym (all.exact k) ∙ is))
 
     -- a tally of the deliveries has what was delivered to each customer
-    pub delivered-kept : (tally : List (CustomerId × Takings)) → Keeps same_customer takings_joined delivery_entry found tally
+    pub delivered-kept : (tally : List (CustomerId × Takings))
+        → Keeps same_customer takings_joined delivery_entry found tally
         → AreFew ls → AreAmounts (λ (f : OrderLineFact). f.amount) ls → HasDeliveries os ls tally
     delivered-kept tally kept few amounts c =
         ap (option_map (λ (s : Takings). s.amount)) (kept c)
-        ∙ projected same_customer takings_joined wrapped delivery_entry (λ (s : Takings). s.amount) (λ a b. refl) found c
+        ∙ projected same_customer takings_joined wrapped delivery_entry (λ (s : Takings). s.amount) (λ a b. refl)
+        found c
         ∙ keyed os found c customers-found
-        ∙ sym (total-map same_known wrapped (λ (e : OrderId × Delivery). (e.0, e.1.amount)) (customer_of os) found (Some c))
-        ∙ regroup order_cmp orders_total orders_tie exact_orders same_known wrapped wrapped_associative wrapped_commutative
+        ∙ sym (total-map same_known wrapped (λ (e : OrderId × Delivery). (e.0, e.1.amount)) (customer_of os) found
+        (Some c))
+        ∙ regroup order_cmp orders_total orders_tie exact_orders same_known wrapped wrapped_associative
+        wrapped_commutative
         (customer_of os) (Some c) (map (λ (e : OrderId × Delivery). (e.0, e.1.amount)) found)
         (map (λ (f : OrderLineFact). (f.order, delivered f)) ls) amounts-settled (amount-at c)
         ∙ total-map same_known wrapped (λ (f : OrderLineFact). (f.order, delivered f)) (customer_of os) ls (Some c)
-        ∙ sym (itself-mapped (total same_known wrapped (map (λ (f : OrderLineFact). (customer_of os f.order, delivered f)) ls) (Some c)))
-        ∙ summed same_known wrapped (λ (f : OrderLineFact). (customer_of os f.order, delivered f)) (λ z. z) (2 ^ 127 - 1) (10 ^ 15)
-        adds-wrapped ls (Some c) (within-amounts ls (recursion_from_All (λ (f : OrderLineFact). unsigned_abs f.amount ≤ 10 ^ 15) ls amounts))
+        ∙ sym (itself-mapped (total same_known wrapped
+        (map (λ (f : OrderLineFact). (customer_of os f.order, delivered f)) ls) (Some c)))
+        ∙ summed same_known wrapped (λ (f : OrderLineFact). (customer_of os f.order, delivered f)) (λ z. z)
+        (2 ^ 127 - 1) (10 ^ 15)
+        adds-wrapped ls (Some c)
+        (within-amounts ls (recursion_from_All (λ (f : OrderLineFact). unsigned_abs f.amount ≤ 10 ^ 15) ls
+        amounts))
         (omega arith)

@@ -1,5 +1,6 @@
 -- A sum by a coarser key is the same, whether of rows or of their sums by the finer key.
-use Rattle.std.proofs.Common.{◌≡◌, refl, sym, ◌∙◌, ap, subst, Bool, true, false, cond, List, [], ◌∷◌, map, Option, Some, None}
+use Rattle.std.proofs.Common.{◌≡◌, refl, sym, ◌∙◌, ap, subst, Bool, true, false, cond, List, [], ◌∷◌, map, Option}
+use Rattle.std.proofs.Common.{Some, None}
 use Rattle.std.specs.Cmp.{IsTotalOrder, tied_itself}
 use Rattle.std.specs.List.{AllByRecursion}
 use Rattle.std.specs.List.Sorted.{IsStrictlySortedBy}
@@ -61,7 +62,8 @@ module _ {K J V : Type 0} (cmp : K → K → Ordering) (order : IsTotalOrder cmp
   without k (e ∷ es) = cond (same e.0 k) (without k es) (e ∷ without k es)
 
   part-more : (b : Bool) (x : V) (t r : Option V)
-      → together op (cond b (Some x) None) (together op (cond b t None) r) ≡ together op (cond b (together op (Some x) t) None) r
+      → together op (cond b (Some x) None) (together op (cond b t None) r)
+      ≡ together op (cond b (together op (Some x) t) None) r
   part-more true x None r = refl
   part-more true x (Some t) r = sym (together-assoc op assoc comm (Some x) (Some t) r)
   part-more false x t r = refl
@@ -76,22 +78,26 @@ module _ {K J V : Type 0} (cmp : K → K → Ordering) (order : IsTotalOrder cmp
   taken-step true k e es tie h =
       rw tie (
       ap (together op (cond (alike (g e.0) c) (Some e.1) None)) h
-      ∙ ap (λ j. together op (cond (alike (g j) c) (Some e.1) None) (together op (part k (total same op es k)) (coarse (without k es)))) (exact e.0 k tie)
+      ∙ ap (λ j. together op (cond (alike (g j) c) (Some e.1) None)
+      (together op (part k (total same op es k)) (coarse (without k es)))) (exact e.0 k tie)
       ∙ part-more (alike (g k) c) e.1 (total same op es k) (coarse (without k es)))
   taken-step false k e es tie h =
       rw tie (
       ap (together op (cond (alike (g e.0) c) (Some e.1) None)) h
-      ∙ together-turn op assoc comm (cond (alike (g e.0) c) (Some e.1) None) (part k (total same op es k)) (coarse (without k es)))
+      ∙ together-turn op assoc comm (cond (alike (g e.0) c) (Some e.1) None) (part k (total same op es k))
+      (coarse (without k es)))
 
   -- a key taken out
-  taken-out : (k : K) (es : List (K × V)) → coarse es ≡ together op (part k (total same op es k)) (coarse (without k es))
+  taken-out : (k : K) (es : List (K × V)) → coarse es
+      ≡ together op (part k (total same op es k)) (coarse (without k es))
   taken-out k [] = part-none (alike (g k) c)
   taken-out k (e ∷ es) = taken-step (same e.0 k) k e es refl (taken-out k es)
 
   without-step : (b d : Bool) (k q : K) (e : K × V) (es : List (K × V)) → same e.0 k ≡ b → same k q ≡ d
       → total same op (without k es) q ≡ cond (same k q) None (total same op es q)
       → total same op (without k (e ∷ es)) q ≡ cond (same k q) None (total same op (e ∷ es) q)
-  without-step true true k q e es tie same-key h = rw (tie, same-key) (h ∙ ap (λ b. cond b None (total same op es q)) same-key)
+  without-step true true k q e es tie same-key h = rw (tie, same-key)
+      (h ∙ ap (λ b. cond b None (total same op es q)) same-key)
   without-step true false k q e es tie other h =
       let there : same e.0 q ≡ false = ap (λ x. same x q) (exact e.0 k tie) ∙ other in
       rw (tie, other, there) (h ∙ ap (λ b. cond b None (total same op es q)) other)
@@ -99,7 +105,8 @@ module _ {K J V : Type 0} (cmp : K → K → Ordering) (order : IsTotalOrder cmp
       let there : same e.0 q ≡ false = ap (same e.0) (sym (exact k q same-key)) ∙ tie in
       rw (tie, same-key, there) (h ∙ ap (λ b. cond b None (total same op es q)) same-key)
   without-step false false k q e es tie other h =
-      rw (tie, other) (ap (together op (cond (same e.0 q) (Some e.1) None)) (h ∙ ap (λ b. cond b None (total same op es q)) other))
+      rw (tie, other) (ap (together op (cond (same e.0 q) (Some e.1) None))
+      (h ∙ ap (λ b. cond b None (total same op es q)) other))
 
   nothing-left : (b : Bool) → ◌≡◌ {A = Option V} None (cond b None None)
   nothing-left true = refl
@@ -125,8 +132,10 @@ module _ {K J V : Type 0} (cmp : K → K → Ordering) (order : IsTotalOrder cmp
       → (((k : K) → alike (g k) c ≡ true → total same op es k ≡ None) → coarse es ≡ None) → coarse (e ∷ es) ≡ None
   none-step true e es counts h more =
       let here : total same op (e ∷ es) e.0 ≡ None = h e.0 counts in
-      absurd (some-together e.1 (total same op es e.0) (sym (ap (λ b. together op (cond b (Some e.1) None) (total same op es e.0)) (itself e.0)) ∙ here))
-  none-step false e es not-so h more = rw not-so (more (λ k counts. other-key (same e.0 k) e es k refl not-so counts (h k counts)))
+      absurd (some-together e.1 (total same op es e.0)
+      (sym (ap (λ b. together op (cond b (Some e.1) None) (total same op es e.0)) (itself e.0)) ∙ here))
+  none-step false e es not-so h more = rw not-so
+      (more (λ k counts. other-key (same e.0 k) e es k refl not-so counts (h k counts)))
 
   none-left : (es : List (K × V)) → ((k : K) → alike (g k) c ≡ true → total same op es k ≡ None) → coarse es ≡ None
   none-left [] h = refl
@@ -138,7 +147,8 @@ module _ {K J V : Type 0} (cmp : K → K → Ordering) (order : IsTotalOrder cmp
   head-part true f fs es counts up h =
       let none : total same op fs f.0 ≡ None = none-behind cmp order ties op f fs f.0 up (itself f.0) in
       let here : total same op (f ∷ fs) f.0 ≡ Some f.1 =
-      ap (λ b. together op (cond b (Some f.1) None) (total same op fs f.0)) (itself f.0) ∙ ap (together op (Some f.1)) none in
+      ap (λ b. together op (cond b (Some f.1) None) (total same op fs f.0)) (itself f.0)
+      ∙ ap (together op (Some f.1)) none in
       ap (λ r. cond (alike (g f.0) c) r None) (sym here ∙ h counts)
   head-part false f fs es not-so up h = rw not-so refl
 
@@ -177,6 +187,8 @@ module _ {K F : Type 0} (cmp : K → K → Ordering) (order : IsTotalOrder cmp) 
   unfolding IsStrictlySortedBy
   all-found P [] up h = tt
   all-found P (e ∷ es) up h = (
-    h e.0 e.1 (ap (λ b. cond b (Some e.1) (lookup (λ y. same y e.0) es)) (ties e.0 e.0 ∙ ap is_eq (tied_itself order e.0))),
-    all-found P es up.1 (λ k x is. h k x (later (same e.0 k) e es k x refl up (total-found cmp order ties (λ p q. p) es k up.1) is)),
+    h e.0 e.1 (ap (λ b. cond b (Some e.1) (lookup (λ y. same y e.0) es))
+        (ties e.0 e.0 ∙ ap is_eq (tied_itself order e.0))),
+    all-found P es up.1 (λ k x is. h k x
+        (later (same e.0 k) e es k x refl up (total-found cmp order ties (λ p q. p) es k up.1) is)),
   )

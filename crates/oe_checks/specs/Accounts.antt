@@ -27,7 +27,8 @@ added (Some a) None = None
 added (Some a) (Some b) = Some (a +ℤ b)
 
 -- clause 3.3.2.10: C_BALANCE is the sum of delivered OL_AMOUNT less the sum of H_AMOUNT
-abbrev pub condition_10 : List CustomerFact → List OrderFact → List OrderLineFact → List HistoryFact → CustomerId → Option Apart
+abbrev pub condition_10 : List CustomerFact → List OrderFact → List OrderLineFact → List HistoryFact → CustomerId
+    → Option Apart
 condition_10 customers orders lines histories c =
     against (c_balance customers c) (less (delivered_to orders lines c) (paid_by_customer histories c))
 

@@ -26,11 +26,13 @@ condition_2_of_orders districts orders k = next (d_next_order districts k) (grea
 
 -- clause 3.3.2.2: where there is a NEW-ORDER row, D_NEXT_O_ID is the greatest NO_O_ID and 1
 abbrev pub condition_2_of_new_orders : List DistrictFact → List NewOrderFact → DistrictId → Option Apart
-condition_2_of_new_orders districts new_orders k = next_if_any (d_next_order districts k) (greatest_new_order new_orders k)
+condition_2_of_new_orders districts new_orders k = next_if_any (d_next_order districts k)
+    (greatest_new_order new_orders k)
 
 -- clause 3.3.2.3: the greatest NO_O_ID less the least, and 1, is the number of NEW-ORDER rows
 abbrev pub condition_3 : List NewOrderFact → DistrictId → Option Apart
-condition_3 new_orders k = span (greatest_new_order new_orders k) (least_new_order new_orders k) (new_orders_of_district new_orders k)
+condition_3 new_orders k = span (greatest_new_order new_orders k) (least_new_order new_orders k)
+    (new_orders_of_district new_orders k)
 
 -- clause 3.3.2.4: the sum of O_OL_CNT is the number of ORDER-LINE rows
 abbrev pub condition_4 : List OrderFact → List OrderLineFact → DistrictId → Option Apart

@@ -53,4 +53,5 @@ delivery_entry e = (customer_at e.0 e.1.customer, delivery_takings e.1)
 -- a tally has at each customer what was delivered to it
 abbrev pub HasDeliveries : List OrderFact → List OrderLineFact → List (CustomerId × Takings) → Type 0
 HasDeliveries orders lines tally =
-    (c : CustomerId) → option_map (λ s. s.amount) (total same_customer takings_joined tally c) ≡ delivered_to orders lines c
+    (c : CustomerId) → option_map (λ s. s.amount) (total same_customer takings_joined tally c)
+    ≡ delivered_to orders lines c

@@ -15,7 +15,8 @@ use Rattle.oe_ledgers.specs.Figures.{s_quantity}
 use Rattle.oe_checks.specs.declared.figures.Apart.{Apart}
 use Rattle.oe_checks.specs.Comparing.{against, any_against, outside}
 
--- clauses 2.4.2.2, 4.3.3.1: S_YTD is the sum of OL_QUANTITY of the lines that the row supplied, where the population did not have their order
+-- clauses 2.4.2.2, 4.3.3.1: S_YTD is the sum of OL_QUANTITY of the lines that the row supplied, where the population
+-- did not have their order
 abbrev pub stock_ytd : ℕ → List StockFact → List OrderLineFact → StockId → Option Apart
 stock_ytd initial stocks lines k = against (s_ytd stocks k) (ordered_quantity initial lines k)
 

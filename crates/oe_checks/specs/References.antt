@@ -30,11 +30,13 @@ customers_refer customers districts k = orphaned (customers_of_district customer
 
 -- clause 1.3.1: (H_C_W_ID, H_C_D_ID, H_C_ID) is a customer
 abbrev pub histories_refer_to_customers : List HistoryFact → List CustomerFact → CustomerId → Option Apart
-histories_refer_to_customers histories customers k = orphaned (payments_of_customer histories k) (customer_rows customers k)
+histories_refer_to_customers histories customers k = orphaned (payments_of_customer histories k)
+    (customer_rows customers k)
 
 -- clause 1.3.1: (H_W_ID, H_D_ID) is a district
 abbrev pub histories_refer_to_districts : List HistoryFact → List DistrictFact → DistrictId → Option Apart
-histories_refer_to_districts histories districts k = orphaned (payments_in_district histories k) (district_rows districts k)
+histories_refer_to_districts histories districts k = orphaned (payments_in_district histories k)
+    (district_rows districts k)
 
 -- clause 1.3.1: (NO_W_ID, NO_D_ID, NO_O_ID) is an order
 abbrev pub new_orders_refer : List NewOrderFact → List OrderFact → OrderId → Option Apart

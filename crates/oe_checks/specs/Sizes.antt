@@ -56,6 +56,7 @@ missing_of stocks w (e ∷ items) =
     ((stock_at w e.0, one_missing) ∷ missing_of stocks w items)
 
 -- of each warehouse, in their order
-abbrev pub all_missing : List (StockId × StockSums) → List (ℕ × Count) → List (ℕ × WarehouseSums) → List (StockId × Apart)
+abbrev pub all_missing : List (StockId × StockSums) → List (ℕ × Count) → List (ℕ × WarehouseSums)
+    → List (StockId × Apart)
 all_missing stocks items [] = []
 all_missing stocks items (w ∷ warehouses) = missing_of stocks w.0 items ++ all_missing stocks items warehouses

@@ -24,28 +24,40 @@ pub d_ytd-kept : (facts : List DistrictFact) (kept : Districts) → KeepsDistric
     → option_map (λ (s : DistrictSums). s.ytd) (total same_district districts_joined kept.by_district k) ≡ d_ytd facts k
 d_ytd-kept facts kept is k =
     ap (option_map (λ (s : DistrictSums). s.ytd)) (is.by_district k)
-    ∙ projected same_district districts_joined int_max district_entry (λ (s : DistrictSums). s.ytd) (λ a b. refl) facts k
+    ∙ projected same_district districts_joined int_max district_entry (λ (s : DistrictSums). s.ytd) (λ a b. refl)
+    facts k
 
 pub d_next_order-kept : (facts : List DistrictFact) (kept : Districts) → KeepsDistricts facts kept → (k : DistrictId)
-    → option_map (λ (s : DistrictSums). pos s.next_order) (total same_district districts_joined kept.by_district k) ≡ d_next_order facts k
+    → option_map (λ (s : DistrictSums). pos s.next_order) (total same_district districts_joined kept.by_district k)
+    ≡ d_next_order facts k
 d_next_order-kept facts kept is k =
     ap (option_map (λ (s : DistrictSums). pos s.next_order)) (is.by_district k)
-    ∙ projected same_district districts_joined int_max district_entry (λ (s : DistrictSums). pos s.next_order) (λ a b. pos_max a.next_order b.next_order) facts k
+    ∙ projected same_district districts_joined int_max district_entry (λ (s : DistrictSums). pos s.next_order)
+    (λ a b. pos_max a.next_order b.next_order) facts k
 
-pub district_rows-kept : (facts : List DistrictFact) (kept : Districts) → KeepsDistricts facts kept → AreFew facts → (k : DistrictId)
-    → option_map (λ (s : DistrictSums). pos s.rows) (total same_district districts_joined kept.by_district k) ≡ district_rows facts k
+pub district_rows-kept : (facts : List DistrictFact) (kept : Districts) → KeepsDistricts facts kept → AreFew facts
+    → (k : DistrictId)
+    → option_map (λ (s : DistrictSums). pos s.rows) (total same_district districts_joined kept.by_district k)
+    ≡ district_rows facts k
 district_rows-kept facts kept is few k =
     ap (option_map (λ (s : DistrictSums). pos s.rows)) (is.by_district k)
-    ∙ counted same_district districts_joined district_entry (λ (s : DistrictSums). s.rows) (λ a b. refl) (λ f. omega arith) facts few k
+    ∙ counted same_district districts_joined district_entry (λ (s : DistrictSums). s.rows) (λ a b. refl)
+    (λ f. omega arith) facts few k
 
-pub d_ytd_of_warehouse-kept : (facts : List DistrictFact) (kept : Districts) → KeepsDistricts facts kept → AreFew facts → AreAmounts (λ (f : DistrictFact). f.ytd) facts → (k : ℕ)
-    → option_map (λ (s : Takings). s.amount) (total nat_eq takings_joined kept.by_warehouse k) ≡ d_ytd_of_warehouse facts k
+pub d_ytd_of_warehouse-kept : (facts : List DistrictFact) (kept : Districts) → KeepsDistricts facts kept
+    → AreFew facts → AreAmounts (λ (f : DistrictFact). f.ytd) facts → (k : ℕ)
+    → option_map (λ (s : Takings). s.amount) (total nat_eq takings_joined kept.by_warehouse k)
+    ≡ d_ytd_of_warehouse facts k
 d_ytd_of_warehouse-kept facts kept is few amounts k =
     ap (option_map (λ (s : Takings). s.amount)) (is.by_warehouse k)
-    ∙ money nat_eq takings_joined district_ytd_entry (λ (s : Takings). s.amount) (λ a b. refl) (λ (f : DistrictFact). f.ytd) (λ f. omega arith) facts few amounts k
+    ∙ money nat_eq takings_joined district_ytd_entry (λ (s : Takings). s.amount) (λ a b. refl)
+    (λ (f : DistrictFact). f.ytd) (λ f. omega arith) facts few amounts k
 
-pub districts_of_warehouse-kept : (facts : List DistrictFact) (kept : Districts) → KeepsDistricts facts kept → AreFew facts → (k : ℕ)
-    → option_map (λ (s : Takings). pos s.rows) (total nat_eq takings_joined kept.by_warehouse k) ≡ districts_of_warehouse facts k
+pub districts_of_warehouse-kept : (facts : List DistrictFact) (kept : Districts) → KeepsDistricts facts kept
+    → AreFew facts → (k : ℕ)
+    → option_map (λ (s : Takings). pos s.rows) (total nat_eq takings_joined kept.by_warehouse k)
+    ≡ districts_of_warehouse facts k
 districts_of_warehouse-kept facts kept is few k =
     ap (option_map (λ (s : Takings). pos s.rows)) (is.by_warehouse k)
-    ∙ counted nat_eq takings_joined district_ytd_entry (λ (s : Takings). s.rows) (λ a b. refl) (λ f. omega arith) facts few k
+    ∙ counted nat_eq takings_joined district_ytd_entry (λ (s : Takings). s.rows) (λ a b. refl) (λ f. omega arith)
+    facts few k

@@ -12,12 +12,14 @@ use Rattle.oe_ledgers.specs.Keys.{same_district, same_customer, same_order, same
 use Rattle.oe_ledgers.specs.Keeping.{Keeps}
 
 pub districts_equal : IsEquivalence same_district
-districts_equal = and_equiv (on_equiv (λ (k : DistrictId). k.warehouse) nat_eq_equiv) (on_equiv (λ (k : DistrictId). k.district) nat_eq_equiv)
+districts_equal = and_equiv (on_equiv (λ (k : DistrictId). k.warehouse) nat_eq_equiv)
+    (on_equiv (λ (k : DistrictId). k.district) nat_eq_equiv)
 
 pub customers_equal : IsEquivalence same_customer
 customers_equal =
     and_equiv (on_equiv (λ (k : CustomerId). k.warehouse) nat_eq_equiv)
-    (and_equiv (on_equiv (λ (k : CustomerId). k.district) nat_eq_equiv) (on_equiv (λ (k : CustomerId). k.customer) nat_eq_equiv))
+    (and_equiv (on_equiv (λ (k : CustomerId). k.district) nat_eq_equiv)
+    (on_equiv (λ (k : CustomerId). k.customer) nat_eq_equiv))
 
 pub orders_equal : IsEquivalence same_order
 orders_equal =
@@ -25,7 +27,8 @@ orders_equal =
     (and_equiv (on_equiv (λ (k : OrderId). k.district) nat_eq_equiv) (on_equiv (λ (k : OrderId). k.order) nat_eq_equiv))
 
 pub stocks_equal : IsEquivalence same_stock
-stocks_equal = and_equiv (on_equiv (λ (k : StockId). k.warehouse) nat_eq_equiv) (on_equiv (λ (k : StockId). k.item) nat_eq_equiv)
+stocks_equal = and_equiv (on_equiv (λ (k : StockId). k.warehouse) nat_eq_equiv)
+    (on_equiv (λ (k : StockId). k.item) nat_eq_equiv)
 
 map-push : {F E : Type 0} (entry : F → E) (facts : List F) (fact : F)
     → map entry (facts ++ fact ∷ []) ≡ map entry facts ++ entry fact ∷ []
@@ -34,7 +37,8 @@ map-push entry (f ∷ facts) fact = ap (λ es. entry f ∷ es) (map-push entry f
 
 module _ {F K V : Type 0} {same : K → K → Bool} (equal : IsEquivalence same) (join : V → V → V)
     (assoc : (a b c : V) → join (join a b) c ≡ join a (join b c)) (comm : (a b : V) → join a b ≡ join b a) where
-  pub kept_more : (entry : F → K × V) (facts : List F) (fact : F) (old new : List (K × V)) (value : V) → value ≡ (entry fact).1
+  pub kept_more : (entry : F → K × V) (facts : List F) (fact : F) (old new : List (K × V)) (value : V) → value
+      ≡ (entry fact).1
       → Keeps same join entry facts old → Adds same join old new (entry fact).0 value
       → Keeps same join entry (facts ++ fact ∷ []) new
   kept_more entry facts fact old new value is h added k =

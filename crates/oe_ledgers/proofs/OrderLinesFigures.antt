@@ -28,56 +28,81 @@ use Rattle.oe_ledgers.specs.Figures.{lines_of_stock}
 use Rattle.oe_ledgers.proofs.SumFacts.{counted, money, quantities}
 use Rattle.oe_ledgers.proofs.SumFacts.{flag, other_flag, flag_of, at_most, abs_at_most}
 
-pub delivered_amount-kept : (facts : List OrderLineFact) (kept : OrderLines) → KeepsOrderLines facts kept → AreFew facts → AreAmounts (λ (f : OrderLineFact). f.amount) facts → (k : OrderId)
+pub delivered_amount-kept : (facts : List OrderLineFact) (kept : OrderLines) → KeepsOrderLines facts kept
+    → AreFew facts → AreAmounts (λ (f : OrderLineFact). f.amount) facts → (k : OrderId)
     → option_map (λ (s : LineSums). s.amount) (total same_order lines_joined kept.by_order k) ≡ delivered_amount facts k
 delivered_amount-kept facts kept is few amounts k =
     ap (option_map (λ (s : LineSums). s.amount)) (is.by_order k)
-    ∙ money same_order lines_joined line_entry (λ (s : LineSums). s.amount) (λ a b. refl) (λ (f : OrderLineFact). f.amount) (λ f. abs_at_most f.is_delivered f.amount) facts few amounts k
+    ∙ money same_order lines_joined line_entry (λ (s : LineSums). s.amount) (λ a b. refl)
+    (λ (f : OrderLineFact). f.amount) (λ f. abs_at_most f.is_delivered f.amount) facts few amounts k
 
-pub lines_of_order-kept : (facts : List OrderLineFact) (kept : OrderLines) → KeepsOrderLines facts kept → AreFew facts → (k : OrderId)
+pub lines_of_order-kept : (facts : List OrderLineFact) (kept : OrderLines) → KeepsOrderLines facts kept
+    → AreFew facts → (k : OrderId)
     → option_map (λ (s : LineSums). pos s.rows) (total same_order lines_joined kept.by_order k) ≡ lines_of_order facts k
 lines_of_order-kept facts kept is few k =
     ap (option_map (λ (s : LineSums). pos s.rows)) (is.by_order k)
     ∙ counted same_order lines_joined line_entry (λ (s : LineSums). s.rows) (λ a b. refl) (λ f. omega arith) facts few k
 
-pub delivered_lines-kept : (facts : List OrderLineFact) (kept : OrderLines) → KeepsOrderLines facts kept → AreFew facts → (k : OrderId)
-    → option_map (λ (s : LineSums). pos s.delivered) (total same_order lines_joined kept.by_order k) ≡ delivered_lines facts k
+pub delivered_lines-kept : (facts : List OrderLineFact) (kept : OrderLines) → KeepsOrderLines facts kept
+    → AreFew facts → (k : OrderId)
+    → option_map (λ (s : LineSums). pos s.delivered) (total same_order lines_joined kept.by_order k)
+    ≡ delivered_lines facts k
 delivered_lines-kept facts kept is few k =
     ap (option_map (λ (s : LineSums). pos s.delivered)) (is.by_order k)
-    ∙ counted same_order lines_joined line_entry (λ (s : LineSums). s.delivered) (λ a b. refl) (λ f. flag f.is_delivered) facts few k
+    ∙ counted same_order lines_joined line_entry (λ (s : LineSums). s.delivered) (λ a b. refl)
+    (λ f. flag f.is_delivered) facts few k
 
-pub remote_lines-kept : (facts : List OrderLineFact) (kept : OrderLines) → KeepsOrderLines facts kept → AreFew facts → (k : OrderId)
-    → option_map (λ (s : LineSums). pos s.remotes) (total same_order lines_joined kept.by_order k) ≡ remote_lines facts k
+pub remote_lines-kept : (facts : List OrderLineFact) (kept : OrderLines) → KeepsOrderLines facts kept → AreFew facts
+    → (k : OrderId)
+    → option_map (λ (s : LineSums). pos s.remotes) (total same_order lines_joined kept.by_order k)
+    ≡ remote_lines facts k
 remote_lines-kept facts kept is few k =
     ap (option_map (λ (s : LineSums). pos s.remotes)) (is.by_order k)
-    ∙ counted same_order lines_joined line_entry (λ (s : LineSums). s.remotes) (λ a b. refl) (λ f. other_flag (nat_eq f.supply f.order.warehouse)) facts few k
+    ∙ counted same_order lines_joined line_entry (λ (s : LineSums). s.remotes) (λ a b. refl)
+    (λ f. other_flag (nat_eq f.supply f.order.warehouse)) facts few k
 
-pub lines_there-kept : (facts : List OrderLineFact) (kept : OrderLines) → KeepsOrderLines facts kept → AreFew facts → (k : DistrictId)
-    → option_map (λ (s : Count). pos s.rows) (total same_district counts_joined kept.by_district k) ≡ lines_there facts k
+pub lines_there-kept : (facts : List OrderLineFact) (kept : OrderLines) → KeepsOrderLines facts kept → AreFew facts
+    → (k : DistrictId)
+    → option_map (λ (s : Count). pos s.rows) (total same_district counts_joined kept.by_district k)
+    ≡ lines_there facts k
 lines_there-kept facts kept is few k =
     ap (option_map (λ (s : Count). pos s.rows)) (is.by_district k)
-    ∙ counted same_district counts_joined line_district_entry (λ (s : Count). s.rows) (λ a b. refl) (λ f. omega arith) facts few k
+    ∙ counted same_district counts_joined line_district_entry (λ (s : Count). s.rows) (λ a b. refl)
+    (λ f. omega arith) facts few k
 
-pub ordered_quantity-kept : (facts : List OrderLineFact) (kept : OrderLines) → KeepsOrderLines facts kept → AreFew facts → AreNumbers (λ (f : OrderLineFact). f.quantity) facts → (k : StockId)
-    → option_map (λ (s : SupplySums). pos s.quantity) (total same_stock supplies_joined kept.by_stock k) ≡ ordered_quantity kept.initial facts k
+pub ordered_quantity-kept : (facts : List OrderLineFact) (kept : OrderLines) → KeepsOrderLines facts kept
+    → AreFew facts → AreNumbers (λ (f : OrderLineFact). f.quantity) facts → (k : StockId)
+    → option_map (λ (s : SupplySums). pos s.quantity) (total same_stock supplies_joined kept.by_stock k)
+    ≡ ordered_quantity kept.initial facts k
 ordered_quantity-kept facts kept is few numbers k =
     ap (option_map (λ (s : SupplySums). pos s.quantity)) (is.by_stock k)
-    ∙ quantities same_stock supplies_joined (supply_entry kept.initial) (λ (s : SupplySums). s.quantity) (λ a b. refl) (λ (f : OrderLineFact). f.quantity) (λ f. at_most (nat_lt kept.initial f.order.order) f.quantity) facts few numbers k
+    ∙ quantities same_stock supplies_joined (supply_entry kept.initial) (λ (s : SupplySums). s.quantity)
+    (λ a b. refl) (λ (f : OrderLineFact). f.quantity) (λ f. at_most (nat_lt kept.initial f.order.order) f.quantity)
+    facts few numbers k
 
-pub ordered_lines-kept : (facts : List OrderLineFact) (kept : OrderLines) → KeepsOrderLines facts kept → AreFew facts → (k : StockId)
-    → option_map (λ (s : SupplySums). pos s.orders) (total same_stock supplies_joined kept.by_stock k) ≡ ordered_lines kept.initial facts k
+pub ordered_lines-kept : (facts : List OrderLineFact) (kept : OrderLines) → KeepsOrderLines facts kept → AreFew facts
+    → (k : StockId)
+    → option_map (λ (s : SupplySums). pos s.orders) (total same_stock supplies_joined kept.by_stock k)
+    ≡ ordered_lines kept.initial facts k
 ordered_lines-kept facts kept is few k =
     ap (option_map (λ (s : SupplySums). pos s.orders)) (is.by_stock k)
-    ∙ counted same_stock supplies_joined (supply_entry kept.initial) (λ (s : SupplySums). s.orders) (λ a b. refl) (λ f. flag (nat_lt kept.initial f.order.order)) facts few k
+    ∙ counted same_stock supplies_joined (supply_entry kept.initial) (λ (s : SupplySums). s.orders) (λ a b. refl)
+    (λ f. flag (nat_lt kept.initial f.order.order)) facts few k
 
-pub ordered_remotes-kept : (facts : List OrderLineFact) (kept : OrderLines) → KeepsOrderLines facts kept → AreFew facts → (k : StockId)
-    → option_map (λ (s : SupplySums). pos s.remotes) (total same_stock supplies_joined kept.by_stock k) ≡ ordered_remotes kept.initial facts k
+pub ordered_remotes-kept : (facts : List OrderLineFact) (kept : OrderLines) → KeepsOrderLines facts kept
+    → AreFew facts → (k : StockId)
+    → option_map (λ (s : SupplySums). pos s.remotes) (total same_stock supplies_joined kept.by_stock k)
+    ≡ ordered_remotes kept.initial facts k
 ordered_remotes-kept facts kept is few k =
     ap (option_map (λ (s : SupplySums). pos s.remotes)) (is.by_stock k)
-    ∙ counted same_stock supplies_joined (supply_entry kept.initial) (λ (s : SupplySums). s.remotes) (λ a b. refl) (λ f. flag_of (nat_lt kept.initial f.order.order) (nat_eq f.supply f.order.warehouse)) facts few k
+    ∙ counted same_stock supplies_joined (supply_entry kept.initial) (λ (s : SupplySums). s.remotes) (λ a b. refl)
+    (λ f. flag_of (nat_lt kept.initial f.order.order) (nat_eq f.supply f.order.warehouse)) facts few k
 
-pub lines_of_stock-kept : (facts : List OrderLineFact) (kept : OrderLines) → KeepsOrderLines facts kept → AreFew facts → (k : StockId)
-    → option_map (λ (s : SupplySums). pos s.rows) (total same_stock supplies_joined kept.by_stock k) ≡ lines_of_stock facts k
+pub lines_of_stock-kept : (facts : List OrderLineFact) (kept : OrderLines) → KeepsOrderLines facts kept
+    → AreFew facts → (k : StockId)
+    → option_map (λ (s : SupplySums). pos s.rows) (total same_stock supplies_joined kept.by_stock k)
+    ≡ lines_of_stock facts k
 lines_of_stock-kept facts kept is few k =
     ap (option_map (λ (s : SupplySums). pos s.rows)) (is.by_stock k)
-    ∙ counted same_stock supplies_joined (supply_entry kept.initial) (λ (s : SupplySums). s.rows) (λ a b. refl) (λ f. omega arith) facts few k
+    ∙ counted same_stock supplies_joined (supply_entry kept.initial) (λ (s : SupplySums). s.rows) (λ a b. refl)
+    (λ f. omega arith) facts few k

@@ -32,73 +32,101 @@ use Rattle.oe_ledgers.proofs.SumFacts.{projected, pos_max, either_flag, either_o
 use Rattle.oe_ledgers.proofs.SumFacts.{flag}
 
 pub o_line_count-kept : (facts : List OrderFact) (kept : Orders) → KeepsOrders facts kept → (k : OrderId)
-    → option_map (λ (s : OrderSums). pos s.line_count) (total same_order orders_joined kept.by_order k) ≡ o_line_count facts k
+    → option_map (λ (s : OrderSums). pos s.line_count) (total same_order orders_joined kept.by_order k)
+    ≡ o_line_count facts k
 o_line_count-kept facts kept is k =
     ap (option_map (λ (s : OrderSums). pos s.line_count)) (is.by_order k)
-    ∙ projected same_order orders_joined int_max order_entry (λ (s : OrderSums). pos s.line_count) (λ a b. pos_max a.line_count b.line_count) facts k
+    ∙ projected same_order orders_joined int_max order_entry (λ (s : OrderSums). pos s.line_count)
+    (λ a b. pos_max a.line_count b.line_count) facts k
 
 pub o_customer-kept : (facts : List OrderFact) (kept : Orders) → KeepsOrders facts kept → (k : OrderId)
-    → option_map (λ (s : OrderSums). pos s.customer) (total same_order orders_joined kept.by_order k) ≡ o_customer facts k
+    → option_map (λ (s : OrderSums). pos s.customer) (total same_order orders_joined kept.by_order k)
+    ≡ o_customer facts k
 o_customer-kept facts kept is k =
     ap (option_map (λ (s : OrderSums). pos s.customer)) (is.by_order k)
-    ∙ projected same_order orders_joined int_max order_entry (λ (s : OrderSums). pos s.customer) (λ a b. pos_max a.customer b.customer) facts k
+    ∙ projected same_order orders_joined int_max order_entry (λ (s : OrderSums). pos s.customer)
+    (λ a b. pos_max a.customer b.customer) facts k
 
 pub order_rows-kept : (facts : List OrderFact) (kept : Orders) → KeepsOrders facts kept → AreFew facts → (k : OrderId)
     → option_map (λ (s : OrderSums). pos s.rows) (total same_order orders_joined kept.by_order k) ≡ order_rows facts k
 order_rows-kept facts kept is few k =
     ap (option_map (λ (s : OrderSums). pos s.rows)) (is.by_order k)
-    ∙ counted same_order orders_joined order_entry (λ (s : OrderSums). s.rows) (λ a b. refl) (λ f. omega arith) facts few k
+    ∙ counted same_order orders_joined order_entry (λ (s : OrderSums). s.rows) (λ a b. refl) (λ f. omega arith) facts
+    few k
 
-pub lines_asked-kept : (facts : List OrderFact) (kept : Orders) → KeepsOrders facts kept → AreFew facts → AreNumbers (λ (f : OrderFact). f.line_count) facts → (k : DistrictId)
-    → option_map (λ (s : DistrictOrders). pos s.lines) (total same_district district_orders_joined kept.by_district k) ≡ lines_asked facts k
+pub lines_asked-kept : (facts : List OrderFact) (kept : Orders) → KeepsOrders facts kept → AreFew facts
+    → AreNumbers (λ (f : OrderFact). f.line_count) facts → (k : DistrictId)
+    → option_map (λ (s : DistrictOrders). pos s.lines)
+    (total same_district district_orders_joined kept.by_district k) ≡ lines_asked facts k
 lines_asked-kept facts kept is few numbers k =
     ap (option_map (λ (s : DistrictOrders). pos s.lines)) (is.by_district k)
-    ∙ quantities same_district district_orders_joined order_district_entry (λ (s : DistrictOrders). s.lines) (λ a b. refl) (λ (f : OrderFact). f.line_count) (λ f. omega arith) facts few numbers k
+    ∙ quantities same_district district_orders_joined order_district_entry (λ (s : DistrictOrders). s.lines)
+    (λ a b. refl) (λ (f : OrderFact). f.line_count) (λ f. omega arith) facts few numbers k
 
 pub greatest_order-kept : (facts : List OrderFact) (kept : Orders) → KeepsOrders facts kept → (k : DistrictId)
-    → option_map (λ (s : DistrictOrders). pos s.greatest) (total same_district district_orders_joined kept.by_district k) ≡ greatest_order facts k
+    → option_map (λ (s : DistrictOrders). pos s.greatest)
+    (total same_district district_orders_joined kept.by_district k) ≡ greatest_order facts k
 greatest_order-kept facts kept is k =
     ap (option_map (λ (s : DistrictOrders). pos s.greatest)) (is.by_district k)
-    ∙ projected same_district district_orders_joined int_max order_district_entry (λ (s : DistrictOrders). pos s.greatest) (λ a b. pos_max a.greatest b.greatest) facts k
+    ∙ projected same_district district_orders_joined int_max order_district_entry
+    (λ (s : DistrictOrders). pos s.greatest) (λ a b. pos_max a.greatest b.greatest) facts k
 
-pub orders_of_district-kept : (facts : List OrderFact) (kept : Orders) → KeepsOrders facts kept → AreFew facts → (k : DistrictId)
-    → option_map (λ (s : DistrictOrders). pos s.rows) (total same_district district_orders_joined kept.by_district k) ≡ orders_of_district facts k
+pub orders_of_district-kept : (facts : List OrderFact) (kept : Orders) → KeepsOrders facts kept → AreFew facts
+    → (k : DistrictId)
+    → option_map (λ (s : DistrictOrders). pos s.rows) (total same_district district_orders_joined kept.by_district k)
+    ≡ orders_of_district facts k
 orders_of_district-kept facts kept is few k =
     ap (option_map (λ (s : DistrictOrders). pos s.rows)) (is.by_district k)
-    ∙ counted same_district district_orders_joined order_district_entry (λ (s : DistrictOrders). s.rows) (λ a b. refl) (λ f. omega arith) facts few k
+    ∙ counted same_district district_orders_joined order_district_entry (λ (s : DistrictOrders). s.rows)
+    (λ a b. refl) (λ f. omega arith) facts few k
 
-pub orders_of_customer-kept : (facts : List OrderFact) (kept : Orders) → KeepsOrders facts kept → AreFew facts → (k : CustomerId)
-    → option_map (λ (s : CustomerOrders). pos s.rows) (total same_customer customer_orders_joined kept.by_customer k) ≡ orders_of_customer facts k
+pub orders_of_customer-kept : (facts : List OrderFact) (kept : Orders) → KeepsOrders facts kept → AreFew facts
+    → (k : CustomerId)
+    → option_map (λ (s : CustomerOrders). pos s.rows) (total same_customer customer_orders_joined kept.by_customer k)
+    ≡ orders_of_customer facts k
 orders_of_customer-kept facts kept is few k =
     ap (option_map (λ (s : CustomerOrders). pos s.rows)) (is.by_customer k)
-    ∙ counted same_customer customer_orders_joined (order_customer_entry kept.initial) (λ (s : CustomerOrders). s.rows) (λ a b. refl) (λ f. omega arith) facts few k
+    ∙ counted same_customer customer_orders_joined (order_customer_entry kept.initial)
+    (λ (s : CustomerOrders). s.rows) (λ a b. refl) (λ f. omega arith) facts few k
 
-pub deliveries_to_customer-kept : (facts : List OrderFact) (kept : Orders) → KeepsOrders facts kept → AreFew facts → (k : CustomerId)
-    → option_map (λ (s : CustomerOrders). pos s.deliveries) (total same_customer customer_orders_joined kept.by_customer k) ≡ deliveries_to_customer kept.initial facts k
+pub deliveries_to_customer-kept : (facts : List OrderFact) (kept : Orders) → KeepsOrders facts kept → AreFew facts
+    → (k : CustomerId)
+    → option_map (λ (s : CustomerOrders). pos s.deliveries)
+    (total same_customer customer_orders_joined kept.by_customer k) ≡ deliveries_to_customer kept.initial facts k
 deliveries_to_customer-kept facts kept is few k =
     ap (option_map (λ (s : CustomerOrders). pos s.deliveries)) (is.by_customer k)
-    ∙ counted same_customer customer_orders_joined (order_customer_entry kept.initial) (λ (s : CustomerOrders). s.deliveries) (λ a b. refl) (λ f. flag (f.is_delivered && nat_lt (delivered_of kept.initial) f.key.order)) facts few k
+    ∙ counted same_customer customer_orders_joined (order_customer_entry kept.initial)
+    (λ (s : CustomerOrders). s.deliveries) (λ a b. refl)
+    (λ f. flag (f.is_delivered && nat_lt (delivered_of kept.initial) f.key.order)) facts few k
 
 pub is_delivered-kept : (facts : List OrderFact) (kept : Orders) → KeepsOrders facts kept → (k : OrderId)
-    → option_map (λ (s : OrderSums). pos (cond s.is_delivered 1 0)) (total same_order orders_joined kept.by_order k) ≡ is_delivered facts k
+    → option_map (λ (s : OrderSums). pos (cond s.is_delivered 1 0)) (total same_order orders_joined kept.by_order k)
+    ≡ is_delivered facts k
 is_delivered-kept facts kept is k =
     ap (option_map (λ (s : OrderSums). pos (cond s.is_delivered 1 0))) (is.by_order k)
-    ∙ projected same_order orders_joined int_max order_entry (λ (s : OrderSums). pos (cond s.is_delivered 1 0)) (λ a b. either_flag a.is_delivered b.is_delivered) facts k
+    ∙ projected same_order orders_joined int_max order_entry (λ (s : OrderSums). pos (cond s.is_delivered 1 0))
+    (λ a b. either_flag a.is_delivered b.is_delivered) facts k
 
 pub is_all_local-kept : (facts : List OrderFact) (kept : Orders) → KeepsOrders facts kept → (k : OrderId)
-    → option_map (λ (s : OrderSums). pos (cond s.is_all_local 1 0)) (total same_order orders_joined kept.by_order k) ≡ is_all_local facts k
+    → option_map (λ (s : OrderSums). pos (cond s.is_all_local 1 0)) (total same_order orders_joined kept.by_order k)
+    ≡ is_all_local facts k
 is_all_local-kept facts kept is k =
     ap (option_map (λ (s : OrderSums). pos (cond s.is_all_local 1 0))) (is.by_order k)
-    ∙ projected same_order orders_joined int_max order_entry (λ (s : OrderSums). pos (cond s.is_all_local 1 0)) (λ a b. either_flag a.is_all_local b.is_all_local) facts k
+    ∙ projected same_order orders_joined int_max order_entry (λ (s : OrderSums). pos (cond s.is_all_local 1 0))
+    (λ a b. either_flag a.is_all_local b.is_all_local) facts k
 
 pub is_open-kept : (facts : List OrderFact) (kept : Orders) → KeepsOrders facts kept → (k : OrderId)
-    → option_map (λ (s : OrderSums). pos (cond s.is_delivered 0 1)) (total same_order orders_joined kept.by_order k) ≡ is_open facts k
+    → option_map (λ (s : OrderSums). pos (cond s.is_delivered 0 1)) (total same_order orders_joined kept.by_order k)
+    ≡ is_open facts k
 is_open-kept facts kept is k =
     ap (option_map (λ (s : OrderSums). pos (cond s.is_delivered 0 1))) (is.by_order k)
-    ∙ projected same_order orders_joined int_min order_entry (λ (s : OrderSums). pos (cond s.is_delivered 0 1)) (λ a b. either_open a.is_delivered b.is_delivered) facts k
+    ∙ projected same_order orders_joined int_min order_entry (λ (s : OrderSums). pos (cond s.is_delivered 0 1))
+    (λ a b. either_open a.is_delivered b.is_delivered) facts k
 
 pub is_remote-kept : (facts : List OrderFact) (kept : Orders) → KeepsOrders facts kept → (k : OrderId)
-    → option_map (λ (s : OrderSums). pos (cond s.is_all_local 0 1)) (total same_order orders_joined kept.by_order k) ≡ is_remote facts k
+    → option_map (λ (s : OrderSums). pos (cond s.is_all_local 0 1)) (total same_order orders_joined kept.by_order k)
+    ≡ is_remote facts k
 is_remote-kept facts kept is k =
     ap (option_map (λ (s : OrderSums). pos (cond s.is_all_local 0 1))) (is.by_order k)
-    ∙ projected same_order orders_joined int_min order_entry (λ (s : OrderSums). pos (cond s.is_all_local 0 1)) (λ a b. either_open a.is_all_local b.is_all_local) facts k
+    ∙ projected same_order orders_joined int_min order_entry (λ (s : OrderSums). pos (cond s.is_all_local 0 1))
+    (λ a b. either_open a.is_all_local b.is_all_local) facts k

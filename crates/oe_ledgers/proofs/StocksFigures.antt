@@ -33,31 +33,38 @@ pub s_ytd-kept : (facts : List StockFact) (kept : Stocks) → KeepsStocks facts 
     → option_map (λ (s : StockSums). pos s.ytd) (total same_stock stocks_joined kept.by_stock k) ≡ s_ytd facts k
 s_ytd-kept facts kept is k =
     ap (option_map (λ (s : StockSums). pos s.ytd)) (is.by_stock k)
-    ∙ projected same_stock stocks_joined int_max stock_entry (λ (s : StockSums). pos s.ytd) (λ a b. pos_max a.ytd b.ytd) facts k
+    ∙ projected same_stock stocks_joined int_max stock_entry (λ (s : StockSums). pos s.ytd)
+    (λ a b. pos_max a.ytd b.ytd) facts k
 
 pub s_orders-kept : (facts : List StockFact) (kept : Stocks) → KeepsStocks facts kept → (k : StockId)
     → option_map (λ (s : StockSums). pos s.orders) (total same_stock stocks_joined kept.by_stock k) ≡ s_orders facts k
 s_orders-kept facts kept is k =
     ap (option_map (λ (s : StockSums). pos s.orders)) (is.by_stock k)
-    ∙ projected same_stock stocks_joined int_max stock_entry (λ (s : StockSums). pos s.orders) (λ a b. pos_max a.orders b.orders) facts k
+    ∙ projected same_stock stocks_joined int_max stock_entry (λ (s : StockSums). pos s.orders)
+    (λ a b. pos_max a.orders b.orders) facts k
 
 pub s_remotes-kept : (facts : List StockFact) (kept : Stocks) → KeepsStocks facts kept → (k : StockId)
     → option_map (λ (s : StockSums). pos s.remotes) (total same_stock stocks_joined kept.by_stock k) ≡ s_remotes facts k
 s_remotes-kept facts kept is k =
     ap (option_map (λ (s : StockSums). pos s.remotes)) (is.by_stock k)
-    ∙ projected same_stock stocks_joined int_max stock_entry (λ (s : StockSums). pos s.remotes) (λ a b. pos_max a.remotes b.remotes) facts k
+    ∙ projected same_stock stocks_joined int_max stock_entry (λ (s : StockSums). pos s.remotes)
+    (λ a b. pos_max a.remotes b.remotes) facts k
 
 pub stock_rows-kept : (facts : List StockFact) (kept : Stocks) → KeepsStocks facts kept → AreFew facts → (k : StockId)
     → option_map (λ (s : StockSums). pos s.rows) (total same_stock stocks_joined kept.by_stock k) ≡ stock_rows facts k
 stock_rows-kept facts kept is few k =
     ap (option_map (λ (s : StockSums). pos s.rows)) (is.by_stock k)
-    ∙ counted same_stock stocks_joined stock_entry (λ (s : StockSums). s.rows) (λ a b. refl) (λ f. omega arith) facts few k
+    ∙ counted same_stock stocks_joined stock_entry (λ (s : StockSums). s.rows) (λ a b. refl) (λ f. omega arith) facts
+    few k
 
-pub stocks_of_warehouse-kept : (facts : List StockFact) (kept : Stocks) → KeepsStocks facts kept → AreFew facts → (k : ℕ)
-    → option_map (λ (s : Count). pos s.rows) (total nat_eq counts_joined kept.by_warehouse k) ≡ stocks_of_warehouse facts k
+pub stocks_of_warehouse-kept : (facts : List StockFact) (kept : Stocks) → KeepsStocks facts kept → AreFew facts
+    → (k : ℕ)
+    → option_map (λ (s : Count). pos s.rows) (total nat_eq counts_joined kept.by_warehouse k)
+    ≡ stocks_of_warehouse facts k
 stocks_of_warehouse-kept facts kept is few k =
     ap (option_map (λ (s : Count). pos s.rows)) (is.by_warehouse k)
-    ∙ counted nat_eq counts_joined stock_warehouse_entry (λ (s : Count). s.rows) (λ a b. refl) (λ f. omega arith) facts few k
+    ∙ counted nat_eq counts_joined stock_warehouse_entry (λ (s : Count). s.rows) (λ a b. refl) (λ f. omega arith)
+    facts few k
 
 pub stocks_of_item-kept : (facts : List StockFact) (kept : Stocks) → KeepsStocks facts kept → AreFew facts → (k : ℕ)
     → option_map (λ (s : Count). pos s.rows) (total nat_eq counts_joined kept.by_item k) ≡ stocks_of_item facts k

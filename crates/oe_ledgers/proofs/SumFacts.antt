@@ -56,10 +56,12 @@ pub abs_at_most : (b : Bool) (z : ℤ) → unsigned_abs (cond b z (pos 0)) ≤ u
 abs_at_most true z = omega arith
 abs_at_most false z = omega arith
 
-module _ {F K V C : Type 0} (same : K → K → Bool) (join : V → V → V) (op : C → C → C) (entry : F → K × V) (field : V → C)
+module _ {F K V C : Type 0} (same : K → K → Bool) (join : V → V → V) (op : C → C → C) (entry : F → K × V)
+    (field : V → C)
     (hom : (a b : V) → field (join a b) ≡ op (field a) (field b)) where
   project-step : (b : Bool) (v : V) (r : Option V)
-      → option_map field (together join (cond b (Some v) None) r) ≡ together op (cond b (Some (field v)) None) (option_map field r)
+      → option_map field (together join (cond b (Some v) None) r)
+      ≡ together op (cond b (Some (field v)) None) (option_map field r)
   project-step true v None = refl
   project-step true v (Some w) = ap Some (hom v w)
   project-step false v r = refl
@@ -94,7 +96,8 @@ module _ {F K : Type 0} (same : K → K → Bool) (key : F → K) (column : F �
       → IfSome (of_key same key (λ p q. p +ℤ q) column facts k) (λ y. unsigned_abs y ≤ limit_of facts)
   bounded [] k h = tt
   bounded (f ∷ facts) k h =
-      bound-step (same (key f) k) (column f) (of_key same key (λ p q. p +ℤ q) column facts k) (limit_of facts) h.0 (bounded facts k h.1)
+      bound-step (same (key f) k) (column f) (of_key same key (λ p q. p +ℤ q) column facts k) (limit_of facts) h.0
+      (bounded facts k h.1)
 
 module _ {F K V : Type 0} (same : K → K → Bool) (join : V → V → V) (entry : F → K × V) (field : V → ℤ) (limit each : ℕ)
     (adds : (a b : V) → unsigned_abs (field a +ℤ field b) ≤ limit → field (join a b) ≡ field a +ℤ field b) where
@@ -114,10 +117,12 @@ module _ {F K V : Type 0} (same : K → K → Bool) (join : V → V → V) (entr
       → option_map field (total same join (map entry facts) k) ≡ sums facts k
   summed-within [] k h l = refl
   summed-within (f ∷ facts) k h l =
-      let rest : option_map field (total same join (map entry facts) k) ≡ sums facts k = summed-within facts k h.1 (omega arith) in
+      let rest : option_map field (total same join (map entry facts) k)
+      ≡ sums facts k = summed-within facts k h.1 (omega arith) in
       sum-step (same (entry f).0 k) (entry f).1 (total same join (map entry facts) k)
       (limit_of same (λ f. (entry f).0) (λ f. field (entry f).1) each facts) h.0
-      (subst (λ s. IfSome s (λ y. unsigned_abs y ≤ limit_of same (λ f. (entry f).0) (λ f. field (entry f).1) each facts)) (sym rest)
+      (subst (λ s. IfSome s
+      (λ y. unsigned_abs y ≤ limit_of same (λ f. (entry f).0) (λ f. field (entry f).1) each facts)) (sym rest)
       (bounded same (λ f. (entry f).0) (λ f. field (entry f).1) each facts k h.1)) l
       ∙ ap (together (λ p q. p +ℤ q) (cond (same (entry f).0 k) (Some (field (entry f).1)) None)) rest
 
@@ -125,7 +130,8 @@ module _ {F K V : Type 0} (same : K → K → Bool) (join : V → V → V) (entr
   pub summed : (facts : List F) (k : K) → AllByRecursion (λ f. unsigned_abs (field (entry f).1) ≤ each) facts
       → each * length facts ≤ limit → option_map field (total same join (map entry facts) k) ≡ sums facts k
   summed facts k h l =
-      summed-within facts k h (subst (λ n. n ≤ limit) (sym (limit-is same (λ f. (entry f).0) (λ f. field (entry f).1) each facts)) l)
+      summed-within facts k h
+      (subst (λ n. n ≤ limit) (sym (limit-is same (λ f. (entry f).0) (λ f. field (entry f).1) each facts)) l)
 
 all_small : {F : Type 0} (n : F → ℕ) (each : ℕ) (small : (f : F) → n f ≤ each) (facts : List F)
     → AllByRecursion (λ f. n f ≤ each) facts
@@ -160,7 +166,8 @@ module _ {F K V : Type 0} (same : K → K → Bool) (join : V → V → V) (entr
       (all_small (λ f. count (entry f).1) 1 small facts) (omega arith)
 
   -- a sum of fewer than 2^32 amounts, each within 10^15
-  pub money : (amount : V → ℤ) → ((a b : V) → amount (join a b) ≡ int_wrap w128 (amount a +ℤ amount b)) → (column : F → ℤ)
+  pub money : (amount : V → ℤ) → ((a b : V) → amount (join a b) ≡ int_wrap w128 (amount a +ℤ amount b))
+      → (column : F → ℤ)
       → ((f : F) → unsigned_abs (amount (entry f).1) ≤ unsigned_abs (column f)) → (facts : List F) → AreFew facts
       → AreAmounts column facts → (k : K)
       → option_map amount (total same join (map entry facts) k)

@@ -21,14 +21,18 @@ w_ytd-kept facts kept is k =
     ap (option_map (λ (s : WarehouseSums). s.ytd)) (is.by_warehouse k)
     ∙ projected nat_eq warehouses_joined int_max warehouse_entry (λ (s : WarehouseSums). s.ytd) (λ a b. refl) facts k
 
-pub warehouse_rows-kept : (facts : List WarehouseFact) (kept : Warehouses) → KeepsWarehouses facts kept → AreFew facts → (k : ℕ)
-    → option_map (λ (s : WarehouseSums). pos s.rows) (total nat_eq warehouses_joined kept.by_warehouse k) ≡ warehouse_rows facts k
+pub warehouse_rows-kept : (facts : List WarehouseFact) (kept : Warehouses) → KeepsWarehouses facts kept
+    → AreFew facts → (k : ℕ)
+    → option_map (λ (s : WarehouseSums). pos s.rows) (total nat_eq warehouses_joined kept.by_warehouse k)
+    ≡ warehouse_rows facts k
 warehouse_rows-kept facts kept is few k =
     ap (option_map (λ (s : WarehouseSums). pos s.rows)) (is.by_warehouse k)
-    ∙ counted nat_eq warehouses_joined warehouse_entry (λ (s : WarehouseSums). s.rows) (λ a b. refl) (λ f. omega arith) facts few k
+    ∙ counted nat_eq warehouses_joined warehouse_entry (λ (s : WarehouseSums). s.rows) (λ a b. refl)
+    (λ f. omega arith) facts few k
 
 pub ten_of_warehouse-kept : (facts : List WarehouseFact) (kept : Warehouses) → KeepsWarehouses facts kept → (k : ℕ)
-    → option_map (λ (s : WarehouseSums). pos 10) (total nat_eq warehouses_joined kept.by_warehouse k) ≡ ten_of_warehouse facts k
+    → option_map (λ (s : WarehouseSums). pos 10) (total nat_eq warehouses_joined kept.by_warehouse k)
+    ≡ ten_of_warehouse facts k
 ten_of_warehouse-kept facts kept is k =
     ap (option_map (λ (s : WarehouseSums). pos 10)) (is.by_warehouse k)
     ∙ projected nat_eq warehouses_joined int_max warehouse_entry (λ (s : WarehouseSums). pos 10) (λ a b. refl) facts k

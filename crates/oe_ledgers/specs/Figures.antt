@@ -1,5 +1,6 @@
 -- Figures of rows, by key: a column of the rows that have the key. Where keys stand once, the greatest is the row's.
-use Rattle.std.specs.Prelude.{ℕ, ◌^◌, ◌<◌, ◌≤◌, Bool, cond, ◌&&◌, nat_eq, nat_lt, ℤ, pos, ◌+ℤ◌, List, length, Option, All}
+use Rattle.std.specs.Prelude.{ℕ, ◌^◌, ◌<◌, ◌≤◌, Bool, cond, ◌&&◌, nat_eq, nat_lt, ℤ, pos, ◌+ℤ◌, List, length, Option}
+use Rattle.std.specs.Prelude.{All}
 use Rattle.std.specs.Int.{int_max, int_min}
 use Rattle.std.specs.Int.RustNames.{unsigned_abs}
 use Rattle.oe_facts.specs.declared.keys.DistrictId.{DistrictId}
@@ -169,7 +170,8 @@ delivered_lines facts k = sum_of same_order (λ f. f.order) (λ f. pos (cond f.i
 
 -- the number of ORDER-LINE rows by order that another warehouse supplies
 abbrev pub remote_lines : List OrderLineFact → OrderId → Option ℤ
-remote_lines facts k = sum_of same_order (λ f. f.order) (λ f. pos (cond (nat_eq f.supply f.order.warehouse) 0 1)) facts k
+remote_lines facts k = sum_of same_order (λ f. f.order) (λ f. pos (cond (nat_eq f.supply f.order.warehouse) 0 1))
+    facts k
 
 -- the number of ORDER-LINE rows by district
 abbrev pub lines_there : List OrderLineFact → DistrictId → Option ℤ
@@ -177,15 +179,18 @@ lines_there facts k = sum_of same_district (λ f. district_of_order f.order) (λ
 
 -- the sum of OL_QUANTITY by OL_SUPPLY_W_ID and OL_I_ID, of orders that the population did not have
 abbrev pub ordered_quantity : ℕ → List OrderLineFact → StockId → Option ℤ
-ordered_quantity initial facts k = sum_of same_stock (λ f. stock_of_line f) (λ f. pos (cond (nat_lt initial f.order.order) f.quantity 0)) facts k
+ordered_quantity initial facts k = sum_of same_stock (λ f. stock_of_line f)
+    (λ f. pos (cond (nat_lt initial f.order.order) f.quantity 0)) facts k
 
 -- the number of these rows
 abbrev pub ordered_lines : ℕ → List OrderLineFact → StockId → Option ℤ
-ordered_lines initial facts k = sum_of same_stock (λ f. stock_of_line f) (λ f. pos (cond (nat_lt initial f.order.order) 1 0)) facts k
+ordered_lines initial facts k = sum_of same_stock (λ f. stock_of_line f)
+    (λ f. pos (cond (nat_lt initial f.order.order) 1 0)) facts k
 
 -- the number of those of another warehouse's order
 abbrev pub ordered_remotes : ℕ → List OrderLineFact → StockId → Option ℤ
-ordered_remotes initial facts k = sum_of same_stock (λ f. stock_of_line f) (λ f. pos (cond (nat_lt initial f.order.order) (cond (nat_eq f.supply f.order.warehouse) 0 1) 0)) facts k
+ordered_remotes initial facts k = sum_of same_stock (λ f. stock_of_line f)
+    (λ f. pos (cond (nat_lt initial f.order.order) (cond (nat_eq f.supply f.order.warehouse) 0 1) 0)) facts k
 
 -- the number of ORDER-LINE rows by OL_SUPPLY_W_ID and OL_I_ID
 abbrev pub lines_of_stock : List OrderLineFact → StockId → Option ℤ
@@ -197,7 +202,8 @@ orders_of_customer facts k = sum_of same_customer (λ f. customer_of_order f) (�
 
 -- the number of those that have an O_CARRIER_ID and that the population had not delivered
 abbrev pub deliveries_to_customer : ℕ → List OrderFact → CustomerId → Option ℤ
-deliveries_to_customer initial facts k = sum_of same_customer (λ f. customer_of_order f) (λ f. pos (cond (f.is_delivered && nat_lt (delivered_of initial) f.key.order) 1 0)) facts k
+deliveries_to_customer initial facts k = sum_of same_customer (λ f. customer_of_order f)
+    (λ f. pos (cond (f.is_delivered && nat_lt (delivered_of initial) f.key.order) 1 0)) facts k
 
 -- 1 where the order has an O_CARRIER_ID, and 0 where it has none
 abbrev pub is_delivered : List OrderFact → OrderId → Option ℤ

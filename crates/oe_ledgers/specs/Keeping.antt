@@ -64,13 +64,21 @@ abbrev pub district_sums : DistrictFact → DistrictSums
 district_sums f = record { ytd = f.ytd; next_order = f.next_order; rows = 1 }
 
 abbrev pub customer_sums : CustomerFact → CustomerSums
-customer_sums f = record { balance = f.balance; ytd_payment = f.ytd_payment; payments = f.payments; deliveries = f.deliveries; rows = 1 }
+customer_sums f = record
+    { balance = f.balance; ytd_payment = f.ytd_payment; payments = f.payments; deliveries = f.deliveries; rows = 1 }
 
 abbrev pub new_order_sums : NewOrderFact → NewOrderSums
 new_order_sums f = record { least = f.key.order; greatest = f.key.order; rows = 1 }
 
 abbrev pub order_sums : OrderFact → OrderSums
-order_sums f = record { customer = f.customer; line_count = f.line_count; rows = 1; is_delivered = f.is_delivered; is_all_local = f.is_all_local }
+order_sums f = record {
+  customer = f.customer;
+  line_count = f.line_count;
+  rows = 1;
+  is_delivered = f.is_delivered;
+  is_all_local =
+      f.is_all_local;
+}
 
 abbrev pub order_sums_of_district : OrderFact → DistrictOrders
 order_sums_of_district f = record { lines = f.line_count; greatest = f.key.order; rows = 1 }
@@ -182,7 +190,8 @@ order_customer_entry initial f = (customer_of_order f, order_sums_of_customer in
 pub record KeepsOrders (facts : List OrderFact) (kept : Orders) : Type 0 where
   pub by_order : Keeps same_order orders_joined order_entry facts kept.by_order
   pub by_district : Keeps same_district district_orders_joined order_district_entry facts kept.by_district
-  pub by_customer : Keeps same_customer customer_orders_joined (order_customer_entry kept.initial) facts kept.by_customer
+  pub by_customer : Keeps same_customer customer_orders_joined (order_customer_entry kept.initial) facts
+      kept.by_customer
 
 -- what an ORDER-LINE row brings to its order
 abbrev pub line_entry : OrderLineFact → OrderId × LineSums

@@ -11,8 +11,10 @@ use Rattle.oe_ledgers.specs.declared.orders.CustomerOrders.{CustomerOrders}
 use Rattle.oe_ledgers.specs.declared.order_lines.LineSums.{LineSums}
 use Rattle.oe_ledgers.specs.declared.order_lines.SupplySums.{SupplySums}
 use Rattle.oe_ledgers.specs.declared.stocks.StockSums.{StockSums}
-use Rattle.oe_ledgers.specs.ColumnLaws.{capped_associative, capped_commutative, max_associative, max_commutative, min_associative, min_commutative}
-use Rattle.oe_ledgers.specs.ColumnLaws.{int_max_associative, int_max_commutative, wrapped_associative, wrapped_commutative, either_associative, either_commutative}
+use Rattle.oe_ledgers.specs.ColumnLaws.{capped_associative, capped_commutative, max_associative, max_commutative}
+use Rattle.oe_ledgers.specs.ColumnLaws.{min_associative, min_commutative}
+use Rattle.oe_ledgers.specs.ColumnLaws.{int_max_associative, int_max_commutative, wrapped_associative}
+use Rattle.oe_ledgers.specs.ColumnLaws.{wrapped_commutative, either_associative, either_commutative}
 use Rattle.oe_ledgers.specs.Sums.{most, greatest_sum}
 use Rattle.oe_ledgers.specs.Sums.{takings_joined, warehouses_joined, districts_joined, customers_joined}
 use Rattle.oe_ledgers.specs.Sums.{new_orders_joined, orders_joined, district_orders_joined, customer_orders_joined}

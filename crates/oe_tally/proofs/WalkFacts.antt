@@ -35,7 +35,8 @@ module _ {K : Type 0} {cmp : K → K → Ordering} (order : IsTotalOrder cmp) wh
   unfolding IsStrictlySortedBy
   all-greater key e es less up = (less, all-less key e.0 (keys_of es) less up.0)
 
-module _ {K A B F : Type 0} (cmp : K → K → Ordering) (order : IsTotalOrder cmp) (judge : Option A → Option B → Option F) where
+module _ {K A B F : Type 0} (cmp : K → K → Ordering) (order : IsTotalOrder cmp)
+    (judge : Option A → Option B → Option F) where
   abbrev Above : K → List (K × F) → Type 0
   Above key found = AllByRecursion (λ y. cmp key y ≡ Less) (keys_of found)
 
@@ -52,21 +53,25 @@ module _ {K A B F : Type 0} (cmp : K → K → Ordering) (order : IsTotalOrder c
   above-map key [] h = tt
   above-map key (f ∷ fs) h = above-cons key f.0 (judge None (Some f.1)) _ h.0 (above-map key fs h.1)
 
-  above-order : (r : Ordering) (key : K) (e : K × A) (rest : List (K × B) → List (Pair K A B)) (f : K × B) (fs : List (K × B))
+  above-order : (r : Ordering) (key : K) (e : K × A) (rest : List (K × B) → List (Pair K A B)) (f : K × B)
+      (fs : List (K × B))
       → cmp key e.0 ≡ Less → cmp key f.0 ≡ Less → Above key (judged (rest (f ∷ fs))) → Above key (judged (rest fs))
       → Above key (judged (placed cmp e rest fs))
-      → Above key (judged (match_ordering r (of_left e ∷ rest (f ∷ fs)) (of_both e f ∷ rest fs) (of_right f ∷ placed cmp e rest fs)))
+      → Above key (judged (match_ordering r (of_left e ∷ rest (f ∷ fs)) (of_both e f ∷ rest fs)
+      (of_right f ∷ placed cmp e rest fs)))
   above-order Less key e rest f fs p q x y z = above-cons key e.0 (judge (Some e.1) None) _ p x
   above-order Equal key e rest f fs p q x y z = above-cons key e.0 (judge (Some e.1) (Some f.1)) _ p y
   above-order Greater key e rest f fs p q x y z = above-cons key f.0 (judge None (Some f.1)) _ q z
 
-  above-placed : (key : K) (e : K × A) (rest : List (K × B) → List (Pair K A B)) (fs : List (K × B)) → cmp key e.0 ≡ Less
+  above-placed : (key : K) (e : K × A) (rest : List (K × B) → List (Pair K A B)) (fs : List (K × B)) → cmp key e.0
+      ≡ Less
       → AllByRecursion (λ y. cmp key y ≡ Less) (keys_of fs)
       → ((gs : List (K × B)) → AllByRecursion (λ y. cmp key y ≡ Less) (keys_of gs) → Above key (judged (rest gs)))
       → Above key (judged (placed cmp e rest fs))
   above-placed key e rest [] p h more = above-cons key e.0 (judge (Some e.1) None) _ p (more [] tt)
   above-placed key e rest (f ∷ fs) p h more =
-      above-order (cmp e.0 f.0) key e rest f fs p h.0 (more (f ∷ fs) h) (more fs h.1) (above-placed key e rest fs p h.1 more)
+      above-order (cmp e.0 f.0) key e rest f fs p h.0 (more (f ∷ fs) h) (more fs h.1)
+      (above-placed key e rest fs p h.1 more)
 
   above-merged : (key : K) (es : List (K × A)) (fs : List (K × B)) → AllByRecursion (λ y. cmp key y ≡ Less) (keys_of es)
       → AllByRecursion (λ y. cmp key y ≡ Less) (keys_of fs) → Above key (judged (merged cmp es fs))
@@ -89,12 +94,16 @@ module _ {K A B F : Type 0} (cmp : K → K → Ordering) (order : IsTotalOrder c
       → IsSettled cmp (e ∷ es) → IsSettled cmp (f ∷ fs)
       → ((gs : List (K × B)) → IsSettled cmp gs → IsSettled cmp (judged (merged cmp es gs)))
       → IsSettled cmp (judged (placed cmp e (merged cmp es) fs))
-      → IsSettled cmp (judged (match_ordering r (of_left e ∷ merged cmp es (f ∷ fs)) (of_both e f ∷ merged cmp es fs) (of_right f ∷ placed cmp e (merged cmp es) fs)))
+      → IsSettled cmp (judged
+      (match_ordering r (of_left e ∷ merged cmp es (f ∷ fs)) (of_both e f ∷ merged cmp es fs)
+      (of_right f ∷ placed cmp e (merged cmp es) fs)))
   unfolding IsStrictlySortedBy
   ordered-order Less e es f fs is up ups more rest =
-      ordered-cons e.0 (judge (Some e.1) None) _ (above-merged e.0 es (f ∷ fs) up.0 (is, all-less order e.0 f.0 (keys_of fs) is ups.0)) (more (f ∷ fs) ups)
+      ordered-cons e.0 (judge (Some e.1) None) _
+      (above-merged e.0 es (f ∷ fs) up.0 (is, all-less order e.0 f.0 (keys_of fs) is ups.0)) (more (f ∷ fs) ups)
   ordered-order Equal e es f fs is up ups more rest =
-      ordered-cons e.0 (judge (Some e.1) (Some f.1)) _ (above-merged e.0 es fs up.0 (all-tied order e.0 f.0 (keys_of fs) is ups.0)) (more fs ups.1)
+      ordered-cons e.0 (judge (Some e.1) (Some f.1)) _
+      (above-merged e.0 es fs up.0 (all-tied order e.0 f.0 (keys_of fs) is ups.0)) (more fs ups.1)
   ordered-order Greater e es f fs is up ups more rest =
       let first : cmp f.0 e.0 ≡ Less = less order e.0 f.0 is in
       ordered-cons f.0 (judge None (Some f.1)) _
@@ -203,10 +212,13 @@ module _ {K A B F : Type 0} (cmp : K → K → Ordering) (order : IsTotalOrder c
       → IsSettled cmp (e ∷ es) → IsSettled cmp (f ∷ fs)
       → ((gs : List (K × B)) → IsSettled cmp gs → at (findings_of judge (merged cmp es gs)) ≡ of es gs)
       → at (findings_of judge (placed cmp e (merged cmp es) fs)) ≡ of (e ∷ es) fs
-      → at (findings_of judge (match_ordering r (of_left e ∷ merged cmp es (f ∷ fs)) (of_both e f ∷ merged cmp es fs) (of_right f ∷ placed cmp e (merged cmp es) fs))) ≡ of (e ∷ es) (f ∷ fs)
+      → at (findings_of judge
+      (match_ordering r (of_left e ∷ merged cmp es (f ∷ fs)) (of_both e f ∷ merged cmp es fs)
+      (of_right f ∷ placed cmp e (merged cmp es) fs))) ≡ of (e ∷ es) (f ∷ fs)
   unfolding IsStrictlySortedBy
   at-order Less e es f fs is up ups more rest =
-      left-step (same e.0 k) e es (f ∷ fs) _ refl up.0 (is, all-less order e.0 f.0 (keys_of fs) is ups.0) (more (f ∷ fs) ups)
+      left-step (same e.0 k) e es (f ∷ fs) _ refl up.0 (is, all-less order e.0 f.0 (keys_of fs) is ups.0)
+      (more (f ∷ fs) ups)
   at-order Equal e es f fs is up ups more rest =
       both-step (same e.0 k) e f es fs _ refl
       (ties f.0 k ∙ ap is_eq (sym (order.congr e.0 f.0 k is)) ∙ sym (ties e.0 k)) up.0 ups.0 (more fs ups.1)

@@ -32,7 +32,8 @@ module _ {K A B : Type 0} (cmp : K → K → Ordering) where
   merged (e ∷ es) fs = placed e (merged es) fs
 
 -- a walk gives the first of what it has left, or has nothing left
-abbrev pub GivesFirst : {K A B : Type 0} → (K → K → Ordering) → List (K × A) × List (K × B) → List (K × A) × List (K × B)
+abbrev pub GivesFirst : {K A B : Type 0} → (K → K → Ordering) → List (K × A) × List (K × B) → List (K × A)
+    × List (K × B)
     → Option (Pair K A B) → Type 0
 GivesFirst cmp old new given =
     MatchOption given (merged cmp old.0 old.1 ≡ []) (λ p. merged cmp old.0 old.1 ≡ p ∷ merged cmp new.0 new.1)
@@ -54,6 +55,7 @@ abbrev pub wrong_at : {K A B F : Type 0} → (K → K → Bool) → (A → A →
 wrong_at same add join judge es fs k = judge (total same add es k) (total same join fs k)
 
 -- the list has the keys at which something is wrong, all of them and no others, in their order, each with what is wrong
-pub record AreAll {K F : Type 0} (cmp : K → K → Ordering) (same : K → K → Bool) (wrong : K → Option F) (found : List (K × F)) : Type 0 where
+pub record AreAll {K F : Type 0} (cmp : K → K → Ordering) (same : K → K → Bool) (wrong : K → Option F)
+    (found : List (K × F)) : Type 0 where
   pub ordered : IsSettled cmp found
   pub exact : (k : K) → lookup (λ x. same x k) found ≡ wrong k

@@ -11,5 +11,6 @@ returns c of_warehouses of_districts kept_of_warehouses kept_of_districts few_of
       ordered = all.ordered;
       exact = λ k. all.exact k ∙ alike_of_two against
           (w_ytd-kept of_warehouses c.args.warehouses.now kept_of_warehouses k)
-          (d_ytd_of_warehouse-kept of_districts c.args.districts.now kept_of_districts few_of_districts amounts_of_districts k);
+          (d_ytd_of_warehouse-kept of_districts c.args.districts.now kept_of_districts few_of_districts
+          amounts_of_districts k);
     })

@@ -11,5 +11,6 @@ returns c of_warehouses of_histories kept_of_warehouses kept_of_histories few_of
       ordered = all.ordered;
       exact = λ k. all.exact k ∙ alike_of_two against
           (w_ytd-kept of_warehouses c.args.warehouses.now kept_of_warehouses k)
-          (paid_in_warehouse-kept of_histories c.args.histories.now kept_of_histories few_of_histories amounts_of_histories k);
+          (paid_in_warehouse-kept of_histories c.args.histories.now kept_of_histories few_of_histories
+          amounts_of_histories k);
     })

@@ -11,5 +11,6 @@ returns c of_districts of_histories kept_of_districts kept_of_histories few_of_h
       ordered = all.ordered;
       exact = λ k. all.exact k ∙ alike_of_two against
           (d_ytd-kept of_districts c.args.districts.now kept_of_districts k)
-          (paid_in_district-kept of_histories c.args.histories.now kept_of_histories few_of_histories amounts_of_histories k);
+          (paid_in_district-kept of_histories c.args.histories.now kept_of_histories few_of_histories
+          amounts_of_histories k);
     })

@@ -13,10 +13,12 @@ use Rattle.oe_checks.proofs.deliveries.tally_of.Goals as goal
 
 pub loop-entry-preserved : goal.loop-entry-preserved
 loop-entry-preserved c k =
-    let first : OrderId × Delivery = (record { warehouse = 0; district = 0; order = 0 }, record { amount = pos 0; customer = 0 }) in
+    let first : OrderId × Delivery =
+    (record { warehouse = 0; district = 0; order = 0 }, record { amount = pos 0; customer = 0 }) in
     kept_more customers_equal takings_joined takings_associative takings_commutative delivery_entry
     (take c.loop-entry.entry-index c.args.deliveries.now) (get_or c.args.deliveries.now c.loop-entry.entry-index first)
-    c.loop-entry.tally c.add.new.self c.takings.result c.takings.ensures c.loop-entry.invariant c.in_default.ensures.ok k
+    c.loop-entry.tally c.add.new.self c.takings.result c.takings.ensures c.loop-entry.invariant
+    c.in_default.ensures.ok k
     ∙ ap (λ es. total same_customer takings_joined (map delivery_entry es) k)
     (sym (take_more c.args.deliveries.now c.loop-entry.entry-index first c.loop-entry-test.true))
 

@@ -16,7 +16,9 @@ returns c ds cs kept_districts few_districts kept_customers few_customers =
     if_ok c.findings.result c.findings.ensures (λ found all. record {
       ordered = all.ordered;
       exact = λ k. all.exact k ∙ alike_of_two against
-          (mapped-twice (λ s. pos s.rows) (λ n. pos c.args.each) (total same_district districts_joined c.args.districts.now.by_district k)
-          ∙ ap (option_map (λ (n : ℤ). pos c.args.each)) (district_rows-kept ds c.args.districts.now kept_districts few_districts k))
+          (mapped-twice (λ s. pos s.rows) (λ n. pos c.args.each)
+          (total same_district districts_joined c.args.districts.now.by_district k)
+          ∙ ap (option_map (λ (n : ℤ). pos c.args.each))
+          (district_rows-kept ds c.args.districts.now kept_districts few_districts k))
           (customers_of_district-kept cs c.args.customers.now kept_customers few_customers k);
     })

@@ -14,7 +14,8 @@ returns c cs kept few = (
   c.in-Some.first.now.0,
   sym (customers_of_district-kept cs c.args.customers.now kept few c.in-Some.first.now.0)
       ∙ ap (option_map (λ (s : Count). pos s.rows))
-      (first-total same_district counts_joined c.args.customers.now.by_district c.in-Some.first.now c.in-Some._others.now
+      (first-total same_district counts_joined c.args.customers.now.by_district c.in-Some.first.now
+      c.in-Some._others.now
       (sym c.entries.ensures.value ∙ c.in-Some.ensures.cases.0) (c.entries.ensures.sums c.requires.by_district)),
 )
 

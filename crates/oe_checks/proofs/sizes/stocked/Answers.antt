@@ -25,13 +25,16 @@ returns c ws its ss kept_ws few_ws kept_is few_is kept_ss few_ss =
     let all = all-missing stocks items warehouses c.requires.items.by_item c.requires.warehouses.by_warehouse in
     if_ok c.missing.result c.missing.ensures (λ found is.
     let whole : found.items ≡ all_missing stocks items warehouses =
-    is ∙ ap (λ es. all_missing stocks es c.entries-there.result.now) c.entries.ensures.value ∙ ap (all_missing stocks items) c.entries-there.ensures.value in
+    is ∙ ap (λ es. all_missing stocks es c.entries-there.result.now) c.entries.ensures.value
+    ∙ ap (all_missing stocks items) c.entries-there.ensures.value in
     record {
       ordered = subst (λ es. IsSettled stock_cmp es) (sym whole) all.ordered;
       exact = λ k. ap (lookup (λ x. same_stock x k)) whole ∙ all.exact k
-          ∙ unstocked-mapped (λ (s : WarehouseSums). pos s.rows) (λ (s : Count). pos s.rows) (λ (s : StockSums). pos s.rows)
+          ∙ unstocked-mapped (λ (s : WarehouseSums). pos s.rows) (λ (s : Count). pos s.rows)
+          (λ (s : StockSums). pos s.rows)
           (total nat_eq warehouses_joined warehouses k.warehouse) (total nat_eq counts_joined items k.item)
           (total same_stock stocks_joined stocks k)
           ∙ alike_of_three unstocked (warehouse_rows-kept ws c.args.warehouses.now kept_ws few_ws k.warehouse)
-          (item_rows-kept its c.args.items.now kept_is few_is k.item) (stock_rows-kept ss c.args.stocks.now kept_ss few_ss k);
+          (item_rows-kept its c.args.items.now kept_is few_is k.item)
+          (stock_rows-kept ss c.args.stocks.now kept_ss few_ss k);
     })

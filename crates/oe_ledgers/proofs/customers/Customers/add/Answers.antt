@@ -9,8 +9,11 @@ use Rattle.oe_ledgers.proofs.customers.Customers.add.Goals as goal
 pub returns : goal.returns
 returns c =
     on_ok c.add-2.result (λ added facts kept. record {
-      by_customer = kept_more customers_equal customers_joined customers_associative customers_commutative customer_entry facts c.args.fact.now
+      by_customer = kept_more customers_equal customers_joined customers_associative customers_commutative
+          customer_entry facts c.args.fact.now
           c.args.self.now.by_customer c.add.new.self _ c.of.ensures kept.by_customer c.in_default.ensures.ok;
-      by_district = kept_more districts_equal counts_joined counts_associative counts_commutative customer_district_entry facts c.args.fact.now
-          c.args.self.now.by_district c.add-2.new.self _ (λ i. record { rows = c.one.ensures i }) kept.by_district added;
+      by_district = kept_more districts_equal counts_joined counts_associative counts_commutative
+          customer_district_entry facts c.args.fact.now
+          c.args.self.now.by_district c.add-2.new.self _ (λ i. record { rows = c.one.ensures i }) kept.by_district
+          added;
     }) c.add-2.ensures.ok
