@@ -1,0 +1,4 @@
+-- What the clauses of this crate cite.
+pub mod Numbers
+pub mod NumberLaws
+pub mod Blocks
