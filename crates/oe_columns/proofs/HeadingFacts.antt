@@ -1,6 +1,8 @@
 -- A heading is read field by field.
-use Rattle.std.proofs.Common.{◌≡◌, ℕ, zero, suc, ◌+◌, ◌-◌, ◌<◌, ◌≤◌, ◌↔◌, Bool, true, false, cond, List, [], ◌∷◌, ◌++◌, length, map}
-use Rattle.std.proofs.Common.{drop, get_or, Some, None, Result, Ok, Err, sym, ap, ◌∙◌, refl, arith, append_assoc, append-nil}
+use Rattle.std.proofs.Common.{◌≡◌, ℕ, zero, suc, ◌+◌, ◌-◌, ◌<◌, ◌≤◌, ◌↔◌, Bool, true, false, cond, List, [], ◌∷◌}
+use Rattle.std.proofs.Common.{◌++◌, length, map}
+use Rattle.std.proofs.Common.{drop, get_or, Some, None, Result, Ok, Err, sym, ap, ◌∙◌, refl, arith, append_assoc}
+use Rattle.std.proofs.Common.{append-nil}
 use Rattle.std.specs.Char.{to_ascii_lowercase}
 use Rattle.std.specs.Prelude.{slice_get, IsTrue}
 use Rattle.std.proofs.lemmas.List.{drop_more, drop_all}
@@ -14,7 +16,8 @@ use Rattle.oe_columns.specs.declared.columns.Column.{Column}
 use Rattle.oe_columns.specs.declared.headings.LayoutFault.{LayoutFault}
 use Rattle.oe_columns.specs.declared.headings.Named.{Named}
 use Rattle.oe_columns.specs.declared.headings.Named.TheVariants as stands
-use Rattle.oe_columns.specs.Headings.{◌>>=◌, bare, is_name, places_from, only, named, again, named_by, placed, placed_from}
+use Rattle.oe_columns.specs.Headings.{◌>>=◌, bare, is_name, places_from, only, named, again, named_by, placed}
+use Rattle.oe_columns.specs.Headings.{placed_from}
 use Rattle.oe_columns.specs.Headings.{heading_places, prepended}
 use Rattle.std.specs.Str.{bytes_eq}
 
@@ -125,12 +128,14 @@ placed_at : (t : Table) (cs : List Column) (fields : List (List ℕ)) (ps : List
 placed_at t cs fields ps k d h so =
     so ∙ ap (λ (rest : List Column). prepended ps (placed_from (names_in rest) k fields)) (drop_more cs k d h)
 
-pub placed_more : (t : Table) (cs : List Column) (fields : List (List ℕ)) (ps : List ℕ) (k p : ℕ) (d : Column) (found : Named)
+pub placed_more : (t : Table) (cs : List Column) (fields : List (List ℕ)) (ps : List ℕ) (k p : ℕ) (d : Column)
+    (found : Named)
     → k < length cs → found ≡ named (get_or cs k d).name.now fields → placed k found ≡ Ok p → PlacedSo t cs fields ps k
     → PlacedSo t cs fields (ps ++ p ∷ []) (k + 1)
 placed_more t cs fields ps k p d found h is e so =
     let rest = placed_from (names_in (drop (k + 1) cs)) (k + 1) fields in
-    placed_at t cs fields ps k d h so ∙ ap (λ r. prepended ps (r >>= λ p. rest >>= λ qs. Ok (p ∷ qs))) (ap (placed k) (sym is) ∙ e)
+    placed_at t cs fields ps k d h so
+    ∙ ap (λ r. prepended ps (r >>= λ p. rest >>= λ qs. Ok (p ∷ qs))) (ap (placed k) (sym is) ∙ e)
     ∙ one_prepended ps p rest
 
 pub placed_fault : (t : Table) (cs : List Column) (fields : List (List ℕ)) (ps : List ℕ) (k : ℕ) (e : LayoutFault)
@@ -139,7 +144,8 @@ pub placed_fault : (t : Table) (cs : List Column) (fields : List (List ℕ)) (ps
     → PlacedSo t cs fields ps k → heading_places t fields ≡ Err e
 placed_fault t cs fields ps k f d found h is e so =
     let rest = placed_from (names_in (drop (k + 1) cs)) (k + 1) fields in
-    placed_at t cs fields ps k d h so ∙ ap (λ r. prepended ps (r >>= λ p. rest >>= λ qs. Ok (p ∷ qs))) (ap (placed k) (sym is) ∙ e)
+    placed_at t cs fields ps k d h so
+    ∙ ap (λ r. prepended ps (r >>= λ p. rest >>= λ qs. Ok (p ∷ qs))) (ap (placed k) (sym is) ∙ e)
 
 pub placed_all : (t : Table) (cs : List Column) (fields : List (List ℕ)) (ps : List ℕ) (k : ℕ) → length cs ≤ k
     → PlacedSo t cs fields ps k → heading_places t fields ≡ Ok ps

@@ -178,7 +178,8 @@ none_behind (x ∷ xs) zero m h e = absurd (cc)
 none_behind (x ∷ xs) (suc n) zero h e = absurd (omega (arith, h))
 none_behind (x ∷ xs) (suc n) (suc m) h e = none_behind xs n m (omega (arith, h)) e
 
-pub at_mapped : {A B : Type 0} (f : A → B) (xs : List A) (n : ℕ) → slice_get (map f xs) n ≡ option_map f (slice_get xs n)
+pub at_mapped : {A B : Type 0} (f : A → B) (xs : List A) (n : ℕ)
+    → slice_get (map f xs) n ≡ option_map f (slice_get xs n)
 at_mapped f [] n = refl
 at_mapped f (x ∷ xs) zero = refl
 at_mapped f (x ∷ xs) (suc n) = at_mapped f xs n

@@ -123,7 +123,8 @@ module _ (line_step : ℕ → Reading → List ℕ → Reading × Says) where
 
   module _ {L : Type 0} (holds : L → List Fact → Type 0) (start : lines.SoFar L) where
     next_stands : (r : Read) (line : List ℕ) (old now : lines.SoFar L) (t : Table) (n : ℕ) (s : Says)
-        → t ≡ now.reading.table → n ≡ capped (old.count + 1) → now.reading ≡ (line_step n old.reading line).0 → now.count ≡ n
+        → t ≡ now.reading.table → n ≡ capped (old.count + 1) → now.reading ≡ (line_step n old.reading line).0
+        → now.count ≡ n
         → s ≡ (line_step n old.reading line).1
         → ((start : taken.Taken L) (rows : List (Table × List Value)) (faults : List SourceFault)
         → Got holds start rows faults old.taken
@@ -150,7 +151,8 @@ module _ (line_step : ℕ → Reading → List ℕ → Reading × Says) where
         }
 
     pub line_stands : (ls : List (List ℕ)) (line : List ℕ) (old now : lines.SoFar L) (t : Table) (n : ℕ) (s : Says)
-        → t ≡ now.reading.table → n ≡ capped (old.count + 1) → now.reading ≡ (line_step n old.reading line).0 → now.count ≡ n
+        → t ≡ now.reading.table → n ≡ capped (old.count + 1) → now.reading ≡ (line_step n old.reading line).0
+        → now.count ≡ n
         → s ≡ (line_step n old.reading line).1
         → ((start : taken.Taken L) (rows : List (Table × List Value)) (faults : List SourceFault)
         → Got holds start rows faults old.taken
@@ -159,7 +161,8 @@ module _ (line_step : ℕ → Reading → List ℕ → Reading × Says) where
     line_stands ls line old now t n s of_table h reading count said takes stands =
         subst (λ r. Stands line_step holds start r now)
         (sym (all_push (begun_read start.reading start.count) ls line))
-        (next_stands (all_next line_step (begun_read start.reading start.count) ls) line old now t n s of_table h reading count
+        (next_stands (all_next line_step (begun_read start.reading start.count) ls) line old now t n s of_table h
+        reading count
         said takes stands)
 
     pub begins : StandsBehind line_step holds start [] start

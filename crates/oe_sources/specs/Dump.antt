@@ -26,7 +26,8 @@ abbrev pub opened_by : Table → List ℕ → Result (List ℕ) LayoutFault → 
 opened_by t text (Ok places) = (begun_at t Tabs (Known places), Nothing)
 opened_by t text (Err e) = (begun_at t Tabs Lost, fault_says (wrong.Layout e) text)
 
--- a section of the table is open, whose columns the statement names; where they can't be told, its lines are passed over
+-- a section of the table is open, whose columns the statement names; where they can't be told, its lines are passed
+-- over
 abbrev pub opened : Table → List ℕ → List ℕ → Reading × Says
 opened t columns text = opened_by t text (heading_places t (fields_of Commas columns))
 

@@ -24,7 +24,8 @@ faults_said t n Nothing = []
 faults_said t n (Row u vs) = []
 faults_said t n (Fault w text) = record { table = t; line = n; wrong = w; text = text } ∷ []
 
--- From the beginning on the ledger got, in order, exactly the facts that these rows spell, and exactly these faults were
+-- From the beginning on the ledger got, in order, exactly the facts that these rows spell, and exactly these faults
+-- were
 -- told.
 pub record Got {L : Type 0} (holds : L → List Fact → Type 0) (start : taken.Taken L) (rows : List (Table × List Value))
     (faults : List SourceFault) (now : taken.Taken L) : Type 0 where
