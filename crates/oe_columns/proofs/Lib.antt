@@ -1,1 +1,2 @@
 pub mod HeadingFacts
+pub mod RowFacts

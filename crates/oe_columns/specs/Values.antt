@@ -44,6 +44,10 @@ found_at k (Some v) = Ok v
 unfoldable pub column : Kind → ℕ → Placed → Result Value Misfit
 column f k r = found_at k (field_at r k >>= value_of f)
 
+-- the value of a column that has this number, or none
+abbrev pub number_found : ℕ → ℕ → ℕ → Option ℕ → Result Value Misfit
+number_found low high k n = found_at k (option_map (λ n. Number n) (n >>= within low high))
+
 -- what was read, as a value of a column
 abbrev pub read_as : {A : Type 0} → (A → Value) → Result A Misfit → Result Value Misfit
 read_as f (Ok x) = Ok (f x)

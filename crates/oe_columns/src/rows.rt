@@ -5,11 +5,12 @@
 ghost use Rattle.std.specs.Prelude.{◌≡◌, ◌≤◌, IfOk};
 ghost use Rattle.std.specs.Option.{option_copied};
 ghost use Rattle.oe_columns.specs.Columns.{id, district_id, line_number, small, counter};
-ghost use Rattle.oe_columns.specs.Values.{Number, Quantity, Money, Presence, Flag, field_at, column, read_as};
+ghost use Rattle.oe_columns.specs.Values.{Number, Quantity, Money, Presence, Flag, field_at, column, number_found, read_as};
 ghost use Rattle.oe_fields.specs.Parting.{fields_of};
+ghost use Rattle.oe_fields.specs.Spelling.{number_in};
 ghost use Rattle.oe_columns.specs.declared.columns.Kind.TheVariants as kind;
 
-use oe_fields::{Fields, Format, amount, flag, is_null, number, quantity};
+use oe_fields::{Fields, Format, amount, flag, is_null, quantity};
 use std::marker::Model;
 
 /// The first column, by its number among those that a fact needs, whose field does not spell what
@@ -17,6 +18,18 @@ use std::marker::Model;
 #[derive(Clone, Copy)]
 pub struct Misfit {
     pub column: usize,
+}
+
+/// Gives a column's number, if it is there and in the range.
+#[inline]
+fn ranged(at: usize, low: u64, high: u64, n: Option<u64>) -> Result<u64, Misfit>
+    ensures value { read_as (λ n. Number n) result ≡ number_found low high at n }
+    ensures range { IfOk result (λ n. (low ≤ n) × (n ≤ high)) }
+{
+    match n {
+        Some(n) if low <= n && n <= high => Ok(n),
+        _ => Err(Misfit { column: at }),
+    }
 }
 
 /// A line, and the places of the columns that are read.
@@ -63,22 +76,29 @@ impl<'a> Row<'a> {
         }
     }
 
+    /// Gives the whole number of a column's field, if it is there and spells one.
+    #[inline]
+    #[tactic(auto, unfolding(crate::specs::Values::field_at))]
+    fn whole(&mut self, at: usize) -> Option<u64>
+        ensures same { self.new ≡ self.old }
+        ensures value { result ≡ number_in (field_at self.old at) }
+    {
+        match self.places.get(at) {
+            Some(place) => self.fields.number_at(*place),
+            None => None,
+        }
+    }
+
     /// Reads a number in its range.
     #[inline]
-    #[tactic(auto, unfolding(crate::specs::Values::column, crate::specs::Values::value_of))]
     fn number(&mut self, at: usize, low: u64, high: u64) -> Result<u64, Misfit>
         ensures same { self.new ≡ self.old }
         ensures value { read_as (λ n. Number n) result
             ≡ column (kind.Number low high) at self.old }
         ensures range { IfOk result (λ n. (low ≤ n) × (n ≤ high)) }
     {
-        let Some(field) = self.field(at) else {
-            return Err(Misfit { column: at });
-        };
-        match number(field) {
-            Some(n) if low <= n && n <= high => Ok(n),
-            _ => Err(Misfit { column: at }),
-        }
+        let n = self.whole(at);
+        ranged(at, low, high, n)
     }
 
     /// Reads the number of a warehouse, a customer, an order or an item.

@@ -112,7 +112,7 @@ at_separator format a m b s n i j first e is =
 
 -- ---- the fields that are left
 
-next_left : {A : Type 0} (xs : List A) (n : ℕ) (x : A) (ys : List A) → x ∷ ys ≡ drop n xs
+pub next_left : {A : Type 0} (xs : List A) (n : ℕ) (x : A) (ys : List A) → x ∷ ys ≡ drop n xs
     → (ys ≡ drop (suc n) xs) × (Some x ≡ slice_get xs n)
 next_left [] zero x ys e = absurd (cc)
 next_left [] (suc n) x ys e = absurd (cc)

@@ -71,6 +71,11 @@ number_of s =
       if are_zeros d then Some w.0 else None)
     else None
 
+-- the whole number of a field, if it is there
+abbrev pub number_in : Option (List ℕ) → Option ℕ
+number_in None = None
+number_in (Some s) = number_of s
+
 -- up to 10^15
 abbrev pub within_most : ℕ → Option ℕ
 within_most n = if nat_le n (10 ^ 15) then Some n else None

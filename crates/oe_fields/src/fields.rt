@@ -5,10 +5,13 @@
 //! and a field that begins and ends with a quote stands without these two. What is passed over is
 //! not looked at any further. A line is seen as the list of its fields, and the place of the next.
 //! By the invariant what is left of the line has the fields from that place on. Nothing can fail.
-ghost use Rattle.std.specs.Prelude.{◌≡◌, ◌+◌, ◌<◌, ◌≤◌, ◌^◌, Bool, true, false, length, drop, is_some, slice_get, OnSome, IfNone, None, if◌then◌else◌};
+ghost use Rattle.std.specs.Prelude.{◌≡◌, ◌+◌, ◌<◌, ◌≤◌, ◌^◌, Bool, true, false, length, drop, is_some, slice_get, OnSome, IfSome, Some, IfNone, None, if◌then◌else◌};
 ghost use Rattle.std.specs.Option.{option_copied, option_map};
+ghost use Rattle.oe_fields.specs.Front.{BeginsWithNumber};
+ghost use Rattle.oe_fields.specs.Spelling.{number_in};
 ghost use Rattle.oe_fields.specs.Parting.{separator, mark, held_behind, end_from, is_quoted, text_of, parted_of, fields_of};
 
+use crate::numbers::{number, whole};
 use memchr::memchr2;
 use std::marker::Model;
 
@@ -116,6 +119,25 @@ fn text_of(format: Format, field: &[u8]) -> &[u8]
     }
 }
 
+/// Reads the number of the field at the front, where that has digits alone and 64 bits hold their
+/// number, and gives what is left behind the field. `None` tells nothing of the field.
+#[inline]
+fn number_front(format: Format, rest: &[u8]) -> Option<(u64, Option<&[u8]>)>
+    ensures { IfSome result (λ p. BeginsWithNumber format rest.now p.0 (option_copied p.1)) }
+{
+    let (n, behind) = whole(rest)?;
+    if behind.len() == rest.len() {
+        return None;
+    }
+    let [first, left @ ..] = behind else {
+        return Some((n, None));
+    };
+    if *first != separator(format) {
+        return None;
+    }
+    Some((n, Some(left)))
+}
+
 /// A line's fields.
 #[derive(Drop)]
 pub struct Fields<'a> {
@@ -186,6 +208,51 @@ impl<'a> Fields<'a> {
             self.rest = Some(self.line);
             self.place = 0;
         }
+    }
+
+    /// Takes the next field, where digits alone are left of it and 64 bits hold their number. `None`
+    /// tells nothing of the field.
+    #[inline]
+    fn take_digits(&mut self) -> Option<u64>
+        ensures format { self.new.format ≡ self.old.format }
+        ensures text { self.new.text ≡ self.old.text }
+        ensures value { IfSome result (λ n. Some n
+            ≡ number_in (slice_get (fields_of self.old.format self.old.text) self.old.place)) }
+        ensures none { IfNone result (self.new ≡ self.old) }
+    {
+        let rest = self.rest?;
+        let (n, left) = number_front(self.format, rest)?;
+        self.rest = left;
+        self.place += 1;
+        Some(n)
+    }
+
+    /// Reads the whole number at that place, without a sign, of up to 64 bits.
+    #[inline]
+    pub fn number_at(&mut self, place: usize) -> Option<u64>
+        ensures format { self.new.format ≡ self.old.format }
+        ensures text { self.new.text ≡ self.old.text }
+        ensures value { result
+            ≡ number_in (slice_get (fields_of self.old.format self.old.text) place) }
+    {
+        if place == self.place {
+            if let Some(n) = self.take_digits() {
+                return Some(n);
+            }
+        }
+        self.slow_number_at(place)
+    }
+
+    /// Reads the whole number at that place, by its field.
+    #[inline(never)]
+    fn slow_number_at(&mut self, place: usize) -> Option<u64>
+        ensures format { self.new.format ≡ self.old.format }
+        ensures text { self.new.text ≡ self.old.text }
+        ensures value { result
+            ≡ number_in (slice_get (fields_of self.old.format self.old.text) place) }
+    {
+        let field = self.at(place)?;
+        number(field)
     }
 
     /// Passes over fields up to that place. `None` where there are none at it.

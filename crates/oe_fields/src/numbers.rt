@@ -45,7 +45,7 @@ fn digits_from(start: u64, text: &[u8]) -> Option<(u64, &[u8])>
 /// Gives the number that the digits at the front spell, and what follows them.
 #[inline]
 #[tactic(auto, using(crate::proofs::DigitFacts::whole_is))]
-fn whole(text: &[u8]) -> Option<(u64, &[u8])>
+pub(crate) fn whole(text: &[u8]) -> Option<(u64, &[u8])>
     ensures { option_map (λ p. (p.0, p.1.now)) result ≡ whole_of text.now }
 {
     digits_from(0, text)
