@@ -1,4 +1,4 @@
-//! Facts of rows, as an audit of files keeps them, and the columns that a fact needs. Clause numbers
+//! Keys and facts of rows, as an audit of files keeps them, and the nine tables. Clause numbers
 //! are TPC Benchmark C 5.11's.
 #![tactic(auto)]
 

@@ -1,6 +1,6 @@
 //! The fields of a line, found one after another or by their places.
 //!
-//! A tab or a comma parts two fields. Between tabs a backslash takes the byte behind it: a tab there
+//! A tab or a comma parts two fields. Between tabs a backslash takes the next byte: a tab there
 //! is of the field. Between commas a quote opens or ends quotes: a comma in quotes is of the field,
 //! and a field that begins and ends with a quote stands without these two. What is passed over is
 //! not looked at any further. A line is seen as the list of its fields, and the place of the next.
@@ -210,7 +210,7 @@ impl<'a> Fields<'a> {
         }
     }
 
-    /// Takes the next field, where digits alone are left of it and 64 bits hold their number. `None`
+    /// Takes the next field, where it has digits alone and 64 bits hold their number. `None`
     /// tells nothing of the field.
     #[inline]
     fn take_digits(&mut self) -> Option<u64>

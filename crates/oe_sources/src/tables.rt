@@ -1,4 +1,4 @@
-//! A table's file: each line is taken in turn, and what it says goes to the ledger or to the faults.
+//! A table's file: each line is taken in turn, and what it says goes to the ledger or the faults.
 ghost use Rattle.std.specs.Prelude.{IfOk};
 ghost use Rattle.oe_sources.specs.Tables.{TableTaken, TableRead};
 
