@@ -1,5 +1,6 @@
 -- A field of digits alone, read without a search for its end.
-use Rattle.std.proofs.Common.{◌≡◌, ◌≢◌, ℕ, suc, ◌+◌, ◌<◌, ◌≤◌, List, [], ◌∷◌, ◌++◌, length, drop, Bool, true, false, cond}
+use Rattle.std.proofs.Common.{◌≡◌, ◌≢◌, ℕ, suc, ◌+◌, ◌<◌, ◌≤◌, List, [], ◌∷◌, ◌++◌, length, drop, Bool, true, false}
+use Rattle.std.proofs.Common.{cond}
 use Rattle.std.proofs.Common.{nat_lt, ◌^◌, Option, Some, None, eqb, ◌&&◌, sym, ap, ◌∙◌, refl, arith}
 use Rattle.std.specs.Prelude.{slice_get, slice_range, nat_le}
 use Rattle.std.specs.Option.{IfSome}
@@ -12,7 +13,8 @@ use Rattle.std.proofs.lemmas.Bool.Decides.{nat_tests}
 use Rattle.std.proofs.lemmas.Bool.{lt-ltb, ltb-true}
 use Rattle.oe_fields.specs.declared.fields.Format.{Format}
 use Rattle.oe_fields.specs.declared.fields.Format.TheVariants.{Tabs, Commas}
-use Rattle.oe_fields.specs.Parting.{separator, held_behind, parts, before_first, parted_from, left_of, is_quoted, text_of, fields_of}
+use Rattle.oe_fields.specs.Parting.{separator, held_behind, parts, before_first, parted_from, left_of, is_quoted}
+use Rattle.oe_fields.specs.Parting.{text_of, fields_of}
 use Rattle.oe_fields.specs.Spelling.{digits_of, behind_digits, begins_with_digit, sum_of_digits, whole_of}
 use Rattle.oe_fields.specs.Spelling.{number_of, number_in}
 use Rattle.oe_fields.proofs.PartFacts.{next_left, at_mapped}
@@ -139,7 +141,8 @@ digits_text Commas (b ∷ s) h =
     let other : eqb b 34 ≡ false = grind (arith, nat_tests) in
     let first : is_quoted (b ∷ s) ≡ (nat_le 2 (length (b ∷ s)) && false) =
     ap (λ t. nat_le 2 (length (b ∷ s)) && (t && eqb (get_or (b ∷ s) (length (b ∷ s) - 1) 0) 34)) other in
-    ap (λ t. cond t (slice_range (b ∷ s) 1 (length (b ∷ s) - 1)) (b ∷ s)) (first ∙ and_false (nat_le 2 (length (b ∷ s))))
+    ap (λ t. cond t (slice_range (b ∷ s) 1 (length (b ∷ s) - 1)) (b ∷ s))
+    (first ∙ and_false (nat_le 2 (length (b ∷ s))))
 
 left_short : (format : Format) (left : Option (List ℕ)) (s behind : List ℕ) → behind ≡ behind_digits s
     → behind ≡ ended_by format left → IfSome left (λ t. length t < length s)
