@@ -104,18 +104,18 @@ impl Held {
 
     /// Takes a name, or raises its mode, and answers the mode before.
     #[inline(never)]
-    pub(crate) fn take(&mut self, name: Name, mode: Mode) -> Result<Option<Mode>, AllocError>
-        ensures before { IfOk result (λ was. was ≡ lookup (ghosts.eq name) self.old) }
-        ensures own { OnOk result (Changes self.old self.new name
-            (Some (risen mode (lookup (ghosts.eq name) self.old)))) }
-        ensures order { OnOk result (keys_of self.new ≡ taken_names (keys_of self.old) name) }
-        ensures absent { OnErr result (lookup (ghosts.eq name) self.old ≡ None) }
+    pub(crate) fn take(&mut self, name: &Name, mode: Mode) -> Result<Option<Mode>, AllocError>
+        ensures before { IfOk result (λ was. was ≡ lookup (ghosts.eq name.now) self.old) }
+        ensures own { OnOk result (Changes self.old self.new name.now
+            (Some (risen mode (lookup (ghosts.eq name.now) self.old)))) }
+        ensures order { OnOk result (keys_of self.new ≡ taken_names (keys_of self.old) name.now) }
+        ensures absent { OnErr result (lookup (ghosts.eq name.now) self.old ≡ None) }
         ensures err { OnErr result (self.new ≡ self.old) }
     {
-        if let Some(was) = self.stays(&name, mode) {
+        if let Some(was) = self.stays(name, mode) {
             return Ok(Some(was));
         }
-        match self.names.insert(name, mode) {
+        match self.names.insert(*name, mode) {
             Ok(was) => Ok(was),
             Err(_) => Err(AllocError),
         }

@@ -151,7 +151,7 @@ impl Locks {
         }
         self.busy = self.busy.with(terminal);
         self.holders.note(mark_of(&name), terminal);
-        let Ok(was) = self.held.at_mut(terminal).take(name, mode) else {
+        let Ok(was) = self.held.at_mut(terminal).take(&name, mode) else {
             return Err(Refusal::NoMemory);
         };
         Ok(was)

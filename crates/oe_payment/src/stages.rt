@@ -2,13 +2,16 @@
 //! payment reads there.
 ghost use Rattle.std.specs.Prelude.{◌≡◌, suc, true, List, ℕ};
 ghost use Rattle.oe_rows.specs.declared.keys.Key.TheVariants as row_key;
+ghost use Rattle.oe_rows.specs.Credit.{credit_entry};
 ghost use Rattle.oe_rows.specs.declared.locks.Name.TheVariants as name_of;
 ghost use Rattle.oe_requests.specs.declared.requests.Request.{Request};
 ghost use Rattle.oe_requests.specs.declared.refusals.Refusal.TheVariants.{Overflow};
 ghost use Rattle.oe_model.specs.Changes.{Change};
+ghost use Rattle.oe_model.specs.Keys.{customer_in};
 ghost use Rattle.oe_model.specs.Locks.{governs};
 ghost use Rattle.oe_model.specs.Payment.{behind_district, history_data, paid_reply};
 ghost use Rattle.oe_model.specs.Positions.{PaymentPosition, PaymentWarehouse, PaymentDistrict, PaymentNames, PaymentCustomer, PaymentHistory, PaymentEnd, InPayment};
+ghost use Rattle.oe_formulas.specs.Checks.{credit_ids};
 ghost use Rattle.oe_change.specs.declared.writes.Write.TheVariants as write_of;
 ghost use Rattle.oe_change.specs.Writes.{key_written};
 ghost use Rattle.oe_engine.specs.View.{view_of, IsOpen};
@@ -139,12 +142,14 @@ fn pay_warehouse(
             return Progress::Refused(warehouse_fails(engine, tx, key, Some(column)));
         }
     };
-    *warehouse = row.name.copied();
+    let name = row.name.copied();
     let write = WarehouseYtd {
         warehouse: *key,
         ytd,
     };
-    go(engine, tx, &write, stage, Stage::District)
+    let done = go(engine, tx, &write, stage, Stage::District);
+    *warehouse = name;
+    done
 }
 
 // The stage behind the district's: a payment by number goes on with its customer.
@@ -195,12 +200,14 @@ fn pay_district(
             return Progress::Refused(district_fails(engine, tx, key, Some(column)));
         }
     };
-    *district = row.name.copied();
+    let name = row.name.copied();
     let write = DistrictYtd {
         district: *key,
         ytd,
     };
-    go(engine, tx, &write, stage, stage_behind(&request.customer))
+    let done = go(engine, tx, &write, stage, stage_behind(&request.customer));
+    *district = name;
+    done
 }
 
 // Who has the last name is held beside others from here on, and the customer in the middle is
@@ -253,23 +260,25 @@ fn keep_reply(reply: &mut PaymentReply, number: CustomerNumber, row: &Customer, 
 // as one customer in ten has bad credit.
 #[inline(never)]
 fn pay_bad_credit(
-    key: &CustomerKey,
+    request: &PaymentRequest,
+    number: CustomerNumber,
     account: &Account,
-    entry: &Text<0, 90>,
     stage: &mut Stage,
     engine: &mut Engine,
     tx: &Tx,
 ) -> Progress
     requires open { IsOpen engine.old tx.now }
-    ensures does { (q : PaymentRequest) (p p' : PaymentPosition) (c : Change)
-        → IsStage q tx.now engine.old p (write_of.BadCredit key.now account.now entry.now) c p'
-        → Does q tx.now engine.old p result engine.new p' }
+    ensures does { (p p' : PaymentPosition) (c : Change)
+        → IsStage request.now tx.now engine.old p
+        (write_of.BadCredit (customer_in request.now.customer_district number) account.now
+        (credit_entry (credit_ids number request.now) request.now.amount)) c p'
+        → Does request.now tx.now engine.old p result engine.new p' }
     ensures stage { stage.new ≡ stage_after Stage.History result stage.old }
 {
     let write = BadCredit {
-        customer: *key,
+        customer: request.customer_district.customer(number),
         account: *account,
-        entry: entry.copied(),
+        entry: bad_credit_entry(number, request),
     };
     go(engine, tx, &write, stage, Stage::History)
 }
@@ -311,10 +320,7 @@ fn pay_customer(
             };
             go(engine, tx, &write, stage, Stage::History)
         }
-        Credit::Bad => {
-            let entry = bad_credit_entry(number, request);
-            pay_bad_credit(key, &account, &entry, stage, engine, tx)
-        }
+        Credit::Bad => pay_bad_credit(request, number, &account, stage, engine, tx),
     }
 }
 
@@ -356,10 +362,11 @@ pub fn carry_out(
             pay_warehouse(request, &mut position.stage, name, engine, tx)
         }
         Stage::District => {
+            let name = &mut position.district;
+            let done = pay_district(request, &mut position.stage, name, engine, tx);
             let customer = number_given(&request.customer, position.reply.customer);
             position.reply.customer = customer;
-            let name = &mut position.district;
-            pay_district(request, &mut position.stage, name, engine, tx)
+            done
         }
         Stage::Names => {
             let number = &mut position.reply.customer;

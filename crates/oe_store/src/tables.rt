@@ -146,6 +146,7 @@ impl Tables {
     }
 
     /// Gives the WAREHOUSE row of a key, if it has one.
+    #[inline(always)]
     pub fn warehouse(&self, key: WarehouseKey) -> Option<&Warehouse>
         ensures { option_copied result ≡ get (rows self.now).warehouses key }
     {
@@ -153,6 +154,7 @@ impl Tables {
     }
 
     /// Gives the DISTRICT row of a key, if it has one.
+    #[inline(always)]
     pub fn district(&self, key: DistrictKey) -> Option<&District>
         ensures { option_copied result ≡ get (rows self.now).districts key }
     {
@@ -160,6 +162,7 @@ impl Tables {
     }
 
     /// Gives the CUSTOMER row of a key, if it has one.
+    #[inline(always)]
     pub fn customer(&self, key: CustomerKey) -> Option<&Customer>
         ensures { option_copied result ≡ get (rows self.now).customers key }
     {

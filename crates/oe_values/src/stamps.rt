@@ -118,6 +118,10 @@ fn read_seconds(text: &[u8]) -> Option<u64>
     ensures some { IfSome result (SaysStamp text.now) }
     ensures none { IsNone result → (n : ℕ) → SaysStamp text.now n → ⊥ }
 {
+    // So that no step of the reading asks how many bytes are left.
+    if text.len() != 19 {
+        return None;
+    }
     let (date, time) = numbers(text)?;
     count(date, time)
 }

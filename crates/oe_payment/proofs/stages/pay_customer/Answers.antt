@@ -5,7 +5,8 @@ use Rattle.oe_model.specs.Changes.{UpdateCustomer}
 use Rattle.oe_model.specs.Positions.{PaymentCustomer, PaymentHistory}
 use Rattle.oe_model.specs.Payment.{history_data}
 use Rattle.oe_store.specs.Places.{rows}
-use Rattle.oe_formulas.specs.Checks.{paid_with}
+use Rattle.oe_rows.specs.Credit.{credit_entry}
+use Rattle.oe_formulas.specs.Checks.{paid_with, credit_ids}
 use Rattle.oe_engine.specs.View.{view_of}
 use Rattle.oe_payment.proofs.StageFacts.{absent_stops, customer_asks, customer_fails, good_stage, bad_stage}
 use Rattle.oe_payment.proofs.stages.pay_customer.Goals.{In-Some}
@@ -63,8 +64,8 @@ returns-in-Bad-clause-does c = λ w d.
     let n = c.args.reply.now.customer in
     let k = customer_in q.customer_district n in
     let row = there (goal.at.returns-in-Bad-clause-does c).In-Some in
-    c.pay_bad_credit.ensures.does q (PaymentCustomer w d n) (PaymentHistory (history_data w d) c.keep_reply.new.reply)
+    c.pay_bad_credit.ensures.does (PaymentCustomer w d n) (PaymentHistory (history_data w d) c.keep_reply.new.reply)
     (UpdateCustomer k (paid_with n q c.in-Some.row.now c.in-Ok.account))
-    (rw (c.customer.ensures, c.keep_reply.ensures)
+    (rw c.keep_reply.ensures
     (bad_stage q c.args.tx.now s w d n c.in-Some.row.now row c.in-Ok.account (c.in-Ok.ensures n)
-    c.bad_credit_entry-entry.result c.in-Bad.is c.bad_credit_entry-entry.ensures))
+    (credit_entry (credit_ids n q) q.amount) c.in-Bad.is refl))

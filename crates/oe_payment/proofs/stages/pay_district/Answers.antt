@@ -12,9 +12,9 @@ returns-clause-does c = λ w.
     let k = c.args.request.now.district in
     let found : get (view_of c.args.engine.now).rows.districts k ≡ Some c.in-Some.row.now =
     ap (λ r. get r.districts k) (sym c.tables.ensures) ∙ sym c.in-Some.ensures in
-    c.go.ensures.does c.args.request.now (PaymentDistrict w)
-    (behind_district c.args.request.now.customer w c.copied.result)
+    c.go-done.ensures.does c.args.request.now (PaymentDistrict w)
+    (behind_district c.args.request.now.customer w c.copied-name.result)
     (UpdateDistrict k (record c.in-Some.row.now { ytd = c.in-Ok.ytd }))
-    (rw c.copied.ensures
+    (rw c.copied-name.ensures
     (district_stage c.args.request.now c.args.tx.now c.args.engine.now w c.in-Some.row.now c.in-Ok.ytd found
     c.in-Ok.ensures))

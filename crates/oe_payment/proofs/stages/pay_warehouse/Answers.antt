@@ -15,8 +15,8 @@ returns-clause-does c =
     ap (λ r. get r.warehouses k) (sym c.tables.ensures)
     ∙ (ap (λ j. get (rows c.tables.result.now).warehouses j) (sym c.warehouse_key.ensures)
     ∙ sym c.in-Some.ensures) in
-    c.go.ensures.does c.args.request.now PaymentWarehouse (PaymentDistrict c.copied.result)
+    c.go-done.ensures.does c.args.request.now PaymentWarehouse (PaymentDistrict c.copied-name.result)
     (UpdateWarehouse k (record c.in-Some.row.now { ytd = c.in-Ok.ytd }))
-    (rw (c.warehouse_key.ensures, c.copied.ensures)
+    (rw (c.warehouse_key.ensures, c.copied-name.ensures)
     (warehouse_stage c.args.request.now c.args.tx.now c.args.engine.now c.in-Some.row.now c.in-Ok.ytd found
     c.in-Ok.ensures))
