@@ -2,7 +2,7 @@
 mod RowSums
 mod PaymentMore
 mod NewOrderMore
-mod DeliveryMore
+pub mod DeliveryMore
 pub mod RenameMore
 pub mod KeptMore
 pub mod PopulationMore

@@ -77,10 +77,11 @@ and_second false b e = let no : ⊥ = cc in absurd no
 
 module _ (s : Scale) (r : Rows) (sc : IsScale s) (p : IsPopulated s r) where
   -- the row of a key is the formula's
-  order_row : (k : OrderKey) (x : Order) → get r.orders k ≡ Some x → (has_order s k ≡ true) × (order_of s k.order ≡ x)
+  pub order_row : (k : OrderKey) (x : Order) → get r.orders k ≡ Some x
+      → (has_order s k ≡ true) × (order_of s k.order ≡ x)
   order_row k x e = (held s r sc p _ x (order_is s r sc p k) e, same_there _ _ x (sym (order_get s r sc p k) ∙ e))
 
-  line_row : (l : OrderLineKey) (y : OrderLine) → get r.order_lines l ≡ Some y
+  pub line_row : (l : OrderLineKey) (y : OrderLine) → get r.order_lines l ≡ Some y
       → (has_line s l ≡ true) × (line_of s l ≡ y)
   line_row l y e = (held s r sc p _ y (line_is s r sc p l) e, same_there _ _ y (sym (line_get s r sc p l) ∙ e))
 
@@ -141,7 +142,7 @@ module _ (s : Scale) (r : Rows) (sc : IsScale s) (p : IsPopulated s r) where
       (dated_alike (is_delivered s l.order) _ _))
 
   -- each HISTORY row is of the customer that it counts, in the customer's district
-  history_row : (k : HistoryKey) (y : History) → get r.histories k ≡ Some y
+  pub history_row : (k : HistoryKey) (y : History) → get r.histories k ≡ Some y
       → (has_customer s (counted_customer s k.number) ≡ true) × (history_of (counted_customer s k.number) ≡ y)
       × (history_key s (counted_customer s k.number) ≡ k)
   history_row k y e =
@@ -154,7 +155,7 @@ module _ (s : Scale) (r : Rows) (sc : IsScale s) (p : IsPopulated s r) where
             (is_same history_total exact_history k (history_key s c) there.1),
       )
 
-  history_at : (c : CustomerKey) → has_customer s c ≡ true → get r.histories (history_key s c) ≡ Some (history_of c)
+  pub history_at : (c : CustomerKey) → has_customer s c ≡ true → get r.histories (history_key s c) ≡ Some (history_of c)
   history_at c t =
       history_get s r sc p (history_key s c)
       ∙ subst (λ (d : CustomerKey). where_there

@@ -3,6 +3,7 @@ pub mod AnswerFacts
 pub mod DeedFacts
 pub mod PassFacts
 pub mod AuditFacts
+pub mod MovementFacts
 pub mod MomentFacts
 pub mod ReadFacts
 pub mod RewindFacts

@@ -4,7 +4,7 @@ use Rattle.std.specs.List.{flat_map}
 use Rattle.oe_theory.specs.Machine.{Outcome, Here, Missing}
 use Rattle.oe_theory.specs.World.{World, counts_at, horizon, newest, at, tables}
 use Rattle.oe_theory.specs.Next as theory
-use Rattle.oe_theory.specs.Next.{Next}
+use Rattle.oe_theory.specs.Next.{Next, IsQuiet}
 use Rattle.oe_theory.specs.Theorems.{IsReached, opened}
 use Rattle.oe_rows.specs.declared.scales.Scale.{Scale}
 use Rattle.oe_requests.specs.declared.refusals.Refusal.{Refusal}
@@ -31,6 +31,7 @@ use Rattle.oe_lines.specs.Grammar.{Says}
 use Rattle.oe_lines.specs.declared.commands.Command.TheVariants as command
 use Rattle.oe_lines.specs.declared.commands.MomentChoice.{MomentChoice}
 use Rattle.oe_lines.specs.declared.commands.MomentChoice.TheVariants as moment
+use Rattle.oe_movements.specs.Movements.{Movements}
 use Rattle.oe_runs.specs.Run.{Ran}
 use Rattle.oe_texts.specs.Answer.{answer_line, audit_line}
 use Rattle.oe_script.specs.declared.session.ScriptFault.TheVariants as fault
@@ -172,6 +173,15 @@ pub record Scripts_are_runs : Type 0 where
   -- from each world that steps led to
   pub from_world : (w : World system) (es : List Entry) (s : State) → IsReached system w → Passed (Some w) es s
       → (w' : World system) × (s ≡ Some w') × Ran w (steps_of es) (answers_of es) w'
+
+-- A script opens a population of the formulas, which has as many orders in each district as customers, and of which
+-- the seven movements hold. So between any two lines they hold of the version of each moment, and of the tables where
+-- nothing is open
+pub record Movements_hold : Type 0 where
+  pub of_versions : (es : List Entry) (w : World system) (r : IsOneRun es w) (m : ℕ)
+      → Movements r.scale.customers (at system w m)
+  pub when_quiet : (es : List Entry) (w : World system) (r : IsOneRun es w) → IsQuiet system w
+      → Movements r.scale.customers (tables system w)
 
 -- each line that asks a query is answered so
 pub record Reads_are_of_moments : Type 0 where

@@ -3,7 +3,7 @@
 #![tactic(auto)]
 
 ghost use Rattle.oe_headline.specs.Beside.{Others_see_nothing};
-ghost use Rattle.oe_headline.specs.Laws.{Lines_are_deeds, Worlds_are_reached, Audits_hold, More_audits_hold, Reads_are_of_moments, Scripts_are_runs, Lines_without_rollback, Outputs_without_rollback, Answers_are_determined, Rewinds_restore, Faults_cut_outputs};
+ghost use Rattle.oe_headline.specs.Laws.{Lines_are_deeds, Worlds_are_reached, Audits_hold, More_audits_hold, Movements_hold, Reads_are_of_moments, Scripts_are_runs, Lines_without_rollback, Outputs_without_rollback, Answers_are_determined, Rewinds_restore, Faults_cut_outputs};
 ghost use Rattle.oe_model.specs.System.{system};
 
 /// Of each line that is answered it is known what it was: none of the forms, an opening, one that
@@ -31,6 +31,12 @@ pub fn audits_hold()
 /// answered that the condition holds.
 pub fn more_audits_hold()
     ensures { More_audits_hold }
+{}
+
+/// Between any two lines what New-Order, Payment and Delivery keep besides (`Movements` of
+/// `oe_movements`) holds of the version of each moment, and of the tables where nothing is open.
+pub fn movements_hold()
+    ensures { Movements_hold }
 {}
 
 /// Each line that asks a query of a moment that is kept is answered what is found in the version of

@@ -18,6 +18,9 @@ use Rattle.oe_model.specs.System.{system}
 use Rattle.oe_model.proofs.SystemLaws.{laws}
 use Rattle.oe_model.proofs.ConsistencyFacts.{consistent}
 use Rattle.oe_consistency.proofs.KeptMore.{kept, base_more}
+use Rattle.oe_movements.specs.Kept.{HasMovements}
+use Rattle.oe_movements.proofs.KeptMoves as movements
+use Rattle.oe_movements.proofs.KeptMoves.{base_moves}
 use Rattle.oe_core.specs.Steps.{step_in, answer_in}
 use Rattle.oe_runs.specs.Run.{Served, steps_in, answers_in, PastBy, AreWhole, Ran}
 
@@ -125,6 +128,15 @@ more_along w w' (i ∷ is) (a ∷ ys) r more h =
     more_along h.0 w' is ys (still_reached w h.0 (step_in i) (answer_in i a) r h.1)
     (base_more w h.0 (step_in i) (answer_in i a) r more h.1) h.2
 
+movements_along : (initial : ℕ) (w w' : World system) (is : List Step) (ys : List Answer) → IsReached system w
+    → HasMovements initial w.base → Served w is ys w' → HasMovements initial w'.base
+movements_along initial w w' [] [] r m h = subst (λ (z : World system). HasMovements initial z.base) h m
+movements_along initial w w' [] (a ∷ ys) r m h = absurd h
+movements_along initial w w' (i ∷ is) [] r m h = absurd h
+movements_along initial w w' (i ∷ is) (a ∷ ys) r m h =
+    movements_along initial h.0 w' is ys (still_reached w h.0 (step_in i) (answer_in i a) r h.1)
+    (base_moves initial w h.0 (step_in i) (answer_in i a) r m h.1) h.2
+
 pub ran_so : (w w' : World system) (is : List Step) (ys : List Answer) → IsReached system w → Served w is ys w'
     → Ran w is ys w'
 ran_so w w' is ys r h =
@@ -142,4 +154,6 @@ ran_so w w' is ys r h =
       conditions = (consistent w' reached).of_versions;
       when_quiet = (consistent w' reached).when_quiet;
       more = λ more m. holds_from_base system laws More kept w' reached (more_along w w' is ys r more h) m;
+      movements = λ initial m k. holds_from_base system laws (HasMovements initial) (movements.kept initial) w' reached
+          (movements_along initial w w' is ys r m h) k;
     }

@@ -12,6 +12,7 @@ use Rattle.oe_requests.specs.declared.answers.Answer.{Answer}
 use Rattle.oe_model.specs.Headline.{Conditions, Is_consistent}
 use Rattle.oe_model.specs.FurtherConditions.{More}
 use Rattle.oe_model.specs.System.{system}
+use Rattle.oe_movements.specs.Kept.{HasMovements}
 use Rattle.oe_core.specs.Steps.{step_in, answer_in}
 
 -- these steps, one after another, were answered so, and left the last world
@@ -76,3 +77,5 @@ pub record Ran (w : World system) (is : List Step) (ys : List Answer) (w' : Worl
   -- conditions 5 to 10 and 12 (clauses 3.3.2.5 to 3.3.2.10 and 3.3.2.12) hold of the version of each moment, where they
   -- held of the base that the run began on
   pub more : More w.base → (m : ℕ) → More (at system w' m)
+  -- and so do the seven movements beside them, after a population of so many orders in each district
+  pub movements : (initial : ℕ) → HasMovements initial w.base → (m : ℕ) → HasMovements initial (at system w' m)

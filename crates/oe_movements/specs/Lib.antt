@@ -1,0 +1,3 @@
+-- What the clauses of this crate cite.
+pub mod Movements
+pub mod Kept
