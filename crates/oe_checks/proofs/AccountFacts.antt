@@ -52,35 +52,35 @@ abs_sub a b = omega (arith, ints)
 
 -- a sum of fewer than 2^32 amounts is within this
 abbrev IsBounded : Option ℤ → Type 0
-IsBounded s = IfSome s (λ y. unsigned_abs y ≤ 10 ^ 15 * 2 ^ 32)
+IsBounded s = IfSome s (λ y. unsigned_abs y ≤ 2 ^ 63 * 2 ^ 32)
 
 module _ {F K : Type 0} (same : K → K → Bool) (key : F → K) (column : F → ℤ) where
-  bound-step : (b : Bool) (x : ℤ) (s : Option ℤ) (n : ℕ) → unsigned_abs x ≤ 10 ^ 15
-      → IfSome s (λ y. unsigned_abs y ≤ 10 ^ 15 * n)
-      → IfSome (together (λ p q. p +ℤ q) (cond b (Some x) None) s) (λ y. unsigned_abs y ≤ 10 ^ 15 * suc n)
+  bound-step : (b : Bool) (x : ℤ) (s : Option ℤ) (n : ℕ) → unsigned_abs x ≤ 2 ^ 63
+      → IfSome s (λ y. unsigned_abs y ≤ 2 ^ 63 * n)
+      → IfSome (together (λ p q. p +ℤ q) (cond b (Some x) None) s) (λ y. unsigned_abs y ≤ 2 ^ 63 * suc n)
   bound-step true x None n h g = omega arith
   bound-step true x (Some y) n h g = omega (arith, abs_add x y, g)
   bound-step false x None n h g = tt
   bound-step false x (Some y) n h g = omega (arith, g)
 
-  bounded-by : (facts : List F) (k : K) → AllByRecursion (λ f. unsigned_abs (column f) ≤ 10 ^ 15) facts
-      → IfSome (of_key same key (λ p q. p +ℤ q) column facts k) (λ y. unsigned_abs y ≤ 10 ^ 15 * length facts)
+  bounded-by : (facts : List F) (k : K) → AllByRecursion (λ f. unsigned_abs (column f) ≤ 2 ^ 63) facts
+      → IfSome (of_key same key (λ p q. p +ℤ q) column facts k) (λ y. unsigned_abs y ≤ 2 ^ 63 * length facts)
   bounded-by [] k h = tt
   bounded-by (f ∷ facts) k h =
       bound-step (same (key f) k) (column f) (of_key same key (λ p q. p +ℤ q) column facts k) (length facts) h.0
       (bounded-by facts k h.1)
 
-  wider : (s : Option ℤ) (n : ℕ) → n < 2 ^ 32 → IfSome s (λ y. unsigned_abs y ≤ 10 ^ 15 * n) → IsBounded s
+  wider : (s : Option ℤ) (n : ℕ) → n < 2 ^ 32 → IfSome s (λ y. unsigned_abs y ≤ 2 ^ 63 * n) → IsBounded s
   wider None n few h = tt
   wider (Some y) n few h = omega (arith, h)
 
-  bounded : (facts : List F) (k : K) → AreFew facts → AllByRecursion (λ f. unsigned_abs (column f) ≤ 10 ^ 15) facts
+  bounded : (facts : List F) (k : K) → AreFew facts → AllByRecursion (λ f. unsigned_abs (column f) ≤ 2 ^ 63) facts
       → IsBounded (of_key same key (λ p q. p +ℤ q) column facts k)
   bounded facts k few h =
       wider (of_key same key (λ p q. p +ℤ q) column facts k) (length facts) few (bounded-by facts k h)
 
-within-amounts : (ls : List OrderLineFact) → AllByRecursion (λ (f : OrderLineFact). unsigned_abs f.amount ≤ 10 ^ 15) ls
-    → AllByRecursion (λ f. unsigned_abs (delivered f) ≤ 10 ^ 15) ls
+within-amounts : (ls : List OrderLineFact) → AllByRecursion (λ (f : OrderLineFact). unsigned_abs f.amount ≤ 2 ^ 63) ls
+    → AllByRecursion (λ f. unsigned_abs (delivered f) ≤ 2 ^ 63) ls
 within-amounts [] h = tt
 within-amounts (f ∷ ls) h = (omega (arith, abs_at_most f.is_delivered f.amount, h.0), within-amounts ls h.1)
 
@@ -88,15 +88,15 @@ pub delivered-bounded : (os : List OrderFact) (ls : List OrderLineFact) (c : Cus
     → AreAmounts (λ (f : OrderLineFact). f.amount) ls → IsBounded (delivered_to os ls c)
 delivered-bounded os ls c few amounts =
     bounded same_known (λ (f : OrderLineFact). customer_of os f.order) delivered ls (Some c) few
-    (within-amounts ls (recursion_from_All (λ (f : OrderLineFact). unsigned_abs f.amount ≤ 10 ^ 15) ls amounts))
+    (within-amounts ls (recursion_from_All (λ (f : OrderLineFact). unsigned_abs f.amount ≤ 2 ^ 63) ls amounts))
 
 pub paid-bounded : (hs : List HistoryFact) (c : CustomerId) → AreFew hs → AreAmounts (λ (f : HistoryFact). f.amount) hs
     → IsBounded (paid_by_customer hs c)
 paid-bounded hs c few amounts =
     bounded same_customer (λ (f : HistoryFact). f.customer) (λ (f : HistoryFact). f.amount) hs c few
-    (recursion_from_All (λ (f : HistoryFact). unsigned_abs f.amount ≤ 10 ^ 15) hs amounts)
+    (recursion_from_All (λ (f : HistoryFact). unsigned_abs f.amount ≤ 2 ^ 63) hs amounts)
 
-wrapped-less-is : (a b : ℤ) → unsigned_abs a ≤ 10 ^ 15 * 2 ^ 32 → unsigned_abs b ≤ 10 ^ 15 * 2 ^ 32
+wrapped-less-is : (a b : ℤ) → unsigned_abs a ≤ 2 ^ 63 * 2 ^ 32 → unsigned_abs b ≤ 2 ^ 63 * 2 ^ 32
     → wrapped_less a b ≡ a -ℤ b
 wrapped-less-is a b h g =
     int_wrap_fits w128 (a -ℤ b) (fits_signed_from_abs w128 (a -ℤ b) (omega (arith, abs_sub a b)))

@@ -92,8 +92,8 @@ itself-mapped : (r : Option ℤ) → option_map (λ (z : ℤ). z) r ≡ r
 itself-mapped None = refl
 itself-mapped (Some z) = refl
 
-within-amounts : (ls : List OrderLineFact) → AllByRecursion (λ (f : OrderLineFact). unsigned_abs f.amount ≤ 10 ^ 15) ls
-    → AllByRecursion (λ f. unsigned_abs (delivered f) ≤ 10 ^ 15) ls
+within-amounts : (ls : List OrderLineFact) → AllByRecursion (λ (f : OrderLineFact). unsigned_abs f.amount ≤ 2 ^ 63) ls
+    → AllByRecursion (λ f. unsigned_abs (delivered f) ≤ 2 ^ 63) ls
 within-amounts [] h = tt
 within-amounts (f ∷ ls) h = (omega (arith, abs_at_most f.is_delivered f.amount, h.0), within-amounts ls h.1)
 
@@ -200,8 +200,8 @@ module _ (os : List OrderFact) (ls : List OrderLineFact) (kept_orders : Orders) 
         ∙ sym (itself-mapped (total same_known wrapped
         (map (λ (f : OrderLineFact). (customer_of os f.order, delivered f)) ls) (Some c)))
         ∙ summed same_known wrapped (λ (f : OrderLineFact). (customer_of os f.order, delivered f)) (λ z. z)
-        (2 ^ 127 - 1) (10 ^ 15)
+        (2 ^ 127 - 1) (2 ^ 63)
         adds-wrapped ls (Some c)
-        (within-amounts ls (recursion_from_All (λ (f : OrderLineFact). unsigned_abs f.amount ≤ 10 ^ 15) ls
+        (within-amounts ls (recursion_from_All (λ (f : OrderLineFact). unsigned_abs f.amount ≤ 2 ^ 63) ls
         amounts))
         (omega arith)

@@ -2,7 +2,7 @@
 use Rattle.std.proofs.Common.{◌≡◌, ◌≢◌, ℕ, ◌+◌, ◌<◌, ◌≤◌, Bool, true, false, List, [], ◌∷◌, ◌++◌, length, take, drop}
 use Rattle.std.proofs.Common.{◌⊎◌, inl, inr, get_or, Option, Some, None, sym, ap, subst, ◌∙◌, refl, append_assoc, arith}
 use Rattle.std.specs.Prelude.{All, ⊤, Ok}
-use Rattle.oe_ports.specs.Ports.{Source, Reads}
+use Rattle.std.specs.Io.KnownBytes.{ReadConsumes}
 use Rattle.std.specs.List.{flat_map}
 use Rattle.std.proofs.lemmas.List.{append-nil, drop_more, get_or-take, get_or_default, length-take-le, take-append-drop}
 use Rattle.std.proofs.lemmas.List.Elements.{All-push, All-append}
@@ -142,30 +142,28 @@ module _ {T : Type 0} (taken : T → List (List ℕ) → T → Type 0) (start : 
 
 -- ---- what calls of the reader gave
 
-abbrev pub ReadSoFar : Option Source → Option Source → List ℕ → Type 0
+abbrev pub ReadSoFar : Option (List ℕ) → Option (List ℕ) → List ℕ → Type 0
 ReadSoFar None now read = ⊤
 ReadSoFar (Some a) None read = ⊥
-ReadSoFar (Some a) (Some b) read = (a.remaining ≡ read ++ b.remaining) × (b.failures ≡ a.failures)
+ReadSoFar (Some a) (Some b) read = a ≡ read ++ b
 
-pub read_none : (s : Option Source) → ReadSoFar s s []
+pub read_none : (s : Option (List ℕ)) → ReadSoFar s s []
 read_none None = tt
-read_none (Some a) = (refl, refl)
+read_none (Some a) = refl
 
-pub read_more : (E : Type 0) (s now new : Option Source) (read buf : List ℕ) (n : ℕ) → ReadSoFar s now read
-    → Reads {E = E} now new (Ok n) buf → ReadSoFar s new (read ++ take n buf)
+pub read_more : (E : Type 0) (s now new : Option (List ℕ)) (read buf : List ℕ) (n : ℕ) → ReadSoFar s now read
+    → ReadConsumes {E = E} now new (Ok n) buf → ReadSoFar s new (read ++ take n buf)
 read_more E None now new read buf n h g = tt
 read_more E (Some a) None new read buf n h g = absurd h
-read_more E (Some a) (Some b) None read buf n h g = absurd g
-read_more E (Some a) (Some b) (Some d) read buf n h g = (
-  h.0 ∙ ap (λ z. read ++ z) g.0 ∙ sym (append_assoc read (take n buf) d.remaining),
-  g.1 ∙ h.1,
-)
+read_more E (Some a) (Some b) None read buf n h g = absurd g.0
+read_more E (Some a) (Some b) (Some d) read buf n h g =
+    h ∙ ap (λ z. read ++ z) g.0 ∙ sym (append_assoc read (take n buf) d)
 
-pub read_all : (E : Type 0) (s now new : Option Source) (read buf : List ℕ) → ReadSoFar s now read
-    → Reads {E = E} now new (Ok 0) buf → 0 < length buf → AreAll s new read
+pub read_all : (E : Type 0) (s now new : Option (List ℕ)) (read buf : List ℕ) → ReadSoFar s now read
+    → ReadConsumes {E = E} now new (Ok 0) buf → 0 < length buf → AreAll s new read
 read_all E None now new read buf h g room = tt
 read_all E (Some a) None new read buf h g room = absurd h
-read_all E (Some a) (Some b) None read buf h g room = absurd g
+read_all E (Some a) (Some b) None read buf h g room = absurd g.0
 read_all E (Some a) (Some b) (Some d) read buf h g room =
-    let end : d.remaining ≡ [] = g.2 refl room in
-    (h.0 ∙ ap (λ z. read ++ z) (g.0 ∙ end) ∙ append-nil read, end, g.1 ∙ h.1)
+    let end : d ≡ [] = g.1 refl room in
+    (h ∙ ap (λ z. read ++ z) (g.0 ∙ end) ∙ append-nil read, end)

@@ -2,7 +2,6 @@
 use Rattle.std.specs.Prelude.{◌≡◌, ◌≢◌, ℕ, ◌<◌, ◌≤◌, Bool, true, false, All, List, [], ◌∷◌, ◌++◌, length, ⊤}
 use Rattle.std.specs.Prelude.{Option, Some, None}
 use Rattle.std.specs.List.{flat_map}
-use Rattle.oe_ports.specs.Ports.{Source}
 
 -- byte 10 ends a line
 abbrev pub IsInLine : List ℕ → Type 0
@@ -25,11 +24,11 @@ pub record AreLines (bytes : List ℕ) (lines : List (List ℕ)) : Type 0 where
   pub tail : IsInLine last
   pub lines_are : lines ≡ with_last whole last
 
--- these were all bytes of a reader that tells them, and no call failed
-abbrev pub AreAll : Option Source → Option Source → List ℕ → Type 0
+-- these were all bytes that a reader had left, where it tells them
+abbrev pub AreAll : Option (List ℕ) → Option (List ℕ) → List ℕ → Type 0
 AreAll None new bytes = ⊤
 AreAll (Some a) None bytes = ⊥
-AreAll (Some a) (Some b) bytes = (a.remaining ≡ bytes) × (b.remaining ≡ []) × (b.failures ≡ a.failures)
+AreAll (Some a) (Some b) bytes = (a ≡ bytes) × (b ≡ [])
 
 -- the bytes of a line so far: held whole while they fit, and only known to be too many afterwards
 abbrev pub Holds : List ℕ → Bool → List ℕ → Type 0
@@ -52,5 +51,5 @@ module _ {T : Type 0} (taken : T → List (List ℕ) → T → Type 0) (start : 
   Finished input now = (lines : List (List ℕ)) × AreLines input lines × taken start lines now
 
   -- a source was read to its end, and all lines of its bytes were taken
-  abbrev pub LinesRead : Option Source → Option Source → T → Type 0
+  abbrev pub LinesRead : Option (List ℕ) → Option (List ℕ) → T → Type 0
   LinesRead old new now = (bytes : List ℕ) × AreAll old new bytes × Finished bytes now

@@ -5,8 +5,9 @@ ghost use Rattle.std.specs.Prelude.{◌≡◌, ◌<◌, ◌≤◌, ◌++◌, ◌
 ghost use Rattle.oe_filelines.specs.Lines.{Holds, Standing, Finished, LinesRead};
 
 use memchr::memchr;
-use oe_ports::ports::Intake;
 use std::alloc::{AllocError, Global};
+use std::io;
+use std::io::Read;
 use thiserror::Error;
 
 /// A line's bytes before its end are at most as many.
@@ -18,9 +19,9 @@ pub const PIECE: usize = 65_536;
 /// Why a source was not read to its end.
 #[derive(Clone, Copy, Debug, Error)]
 pub enum Stop {
-    /// A read failed.
-    #[error("can't be read")]
-    Read,
+    /// A read failed, for this cause.
+    #[error("can't be read: {0}")]
+    Read(io::Error),
     /// There was no memory.
     #[error("no memory")]
     NoMemory,
@@ -181,17 +182,17 @@ impl Held {
 }
 
 // Reads the source to its end.
-fn run<S: Intake, T: LineTaker>(held: &mut Held, source: &mut S, taker: &mut T) -> Result<(), Stop>
+fn run<S: Read, T: LineTaker>(held: &mut Held, source: &mut S, taker: &mut T) -> Result<(), Stop>
     requires line { held.old.line.items ≡ [] }
     requires over { held.old.over ≡ false }
     requires begins { T.taken taker.old [] taker.old }
-    ensures { OnOk result (LinesRead T.taken taker.old (S.source source.old) (S.source source.new)
-        taker.new) }
+    ensures { OnOk result (LinesRead T.taken taker.old (S.remaining source.old)
+        (S.remaining source.new) taker.new) }
 {
     let mut buf = [0u8; PIECE];
     for _ in 0..u64::MAX {
         match source.read(&mut buf) {
-            Err(_) => return Err(Stop::Read),
+            Err(cause) => return Err(Stop::Read(cause)),
             Ok(0) => {
                 return match held.finish(taker) {
                     Ok(()) => Ok(()),
@@ -205,20 +206,20 @@ fn run<S: Intake, T: LineTaker>(held: &mut Held, source: &mut S, taker: &mut T) 
             }
         }
     }
-    Err(Stop::Read)
+    Err(Stop::Read(io::Error::from(io::ErrorKind::Other)))
 }
 
 /// Reads a source to its end, and hands each line on.
 ///
 /// Nothing is promised of `taker` where a read fails or there is no memory.
-pub fn read_lines<S: Intake, T: LineTaker>(
+pub fn read_lines<S: Read, T: LineTaker>(
     alloc: Global,
     source: &mut S,
     taker: &mut T,
 ) -> Result<(), Stop>
     requires { T.taken taker.old [] taker.old }
-    ensures { OnOk result (LinesRead T.taken taker.old (S.source source.old) (S.source source.new)
-        taker.new) }
+    ensures { OnOk result (LinesRead T.taken taker.old (S.remaining source.old)
+        (S.remaining source.new) taker.new) }
 {
     let mut held = Held::new(alloc);
     run(&mut held, source, taker)

@@ -165,7 +165,7 @@ module _ {F K V : Type 0} (same : K → K → Bool) (join : V → V → V) (entr
       (λ a b h. adds_capped most (count a) (count b) (count (join a b)) (joins a b) h) facts k
       (all_small (λ f. count (entry f).1) 1 small facts) (omega arith)
 
-  -- a sum of fewer than 2^32 amounts, each within 10^15
+  -- a sum of fewer than 2^32 amounts, each within 2^63
   pub money : (amount : V → ℤ) → ((a b : V) → amount (join a b) ≡ int_wrap w128 (amount a +ℤ amount b))
       → (column : F → ℤ)
       → ((f : F) → unsigned_abs (amount (entry f).1) ≤ unsigned_abs (column f)) → (facts : List F) → AreFew facts
@@ -173,10 +173,10 @@ module _ {F K V : Type 0} (same : K → K → Bool) (join : V → V → V) (entr
       → option_map amount (total same join (map entry facts) k)
       ≡ of_key same (λ f. (entry f).0) (λ p q. p +ℤ q) (λ f. amount (entry f).1) facts k
   money amount joins column within facts few amounts k =
-      summed same join entry amount (2 ^ 127 - 1) (10 ^ 15)
+      summed same join entry amount (2 ^ 127 - 1) (2 ^ 63)
       (λ a b h. adds_wrapped (amount a) (amount b) (amount (join a b)) (joins a b) h) facts k
-      (all_within (λ f. unsigned_abs (amount (entry f).1)) (λ f. unsigned_abs (column f)) (10 ^ 15) within facts
-      (recursion_from_All (λ f. unsigned_abs (column f) ≤ 10 ^ 15) facts amounts)) (omega arith)
+      (all_within (λ f. unsigned_abs (amount (entry f).1)) (λ f. unsigned_abs (column f)) (2 ^ 63) within facts
+      (recursion_from_All (λ f. unsigned_abs (column f) ≤ 2 ^ 63) facts amounts)) (omega arith)
 
   -- a sum of fewer than 2^32 numbers, each below 2^32
   pub quantities : (quantity : V → ℕ) → ((a b : V) → quantity (join a b) ≡ min (quantity a + quantity b) greatest_sum)

@@ -36,9 +36,9 @@ module _ {F K : Type 0} (same : K → K → Bool) (key : F → K) (column : F �
 abbrev pub AreFew : {F : Type 0} → List F → Type 0
 AreFew facts = length facts < 2 ^ 32
 
--- amounts are within 10^15 cents either side
+-- amounts are within 2^63 cents either side, as 64 bits hold them
 abbrev pub AreAmounts : {F : Type 0} → (F → ℤ) → List F → Type 0
-AreAmounts amount facts = All (λ f. unsigned_abs (amount f) ≤ 10 ^ 15) facts
+AreAmounts amount facts = All (λ f. unsigned_abs (amount f) ≤ 2 ^ 63) facts
 
 -- numbers are below 2^32
 abbrev pub AreNumbers : {F : Type 0} → (F → ℕ) → List F → Type 0

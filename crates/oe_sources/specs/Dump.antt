@@ -1,7 +1,6 @@
 -- What the lines of a dump say: those of sections, and all others.
 use Rattle.std.specs.Prelude.{ℕ, ◌==◌, List, [], ◌++◌, length, nat_lt, Option, Some, None}
 use Rattle.std.specs.Prelude.{Result, Ok, Err, if◌then◌else◌}
-use Rattle.oe_ports.specs.Ports.{Source}
 use Rattle.oe_facts.specs.declared.tables.Table.{Table}
 use Rattle.oe_facts.specs.declared.tables.Fact.{Fact}
 use Rattle.oe_fields.specs.declared.fields.Format.TheVariants.{Tabs, Commas}
@@ -71,7 +70,7 @@ DumpTaken holds start ls now = StandsBehind line_step holds start.so_far ls now.
 
 -- A dump was read to its end: the ledger got exactly the facts of the rows that the lines of its sections spell, in
 -- order, and the faults are exactly those of its lines and its end.
-abbrev pub DumpRead : {L : Type 0} → (L → List Fact → Type 0) → L → Option Source → Option Source → taken.Taken L
+abbrev pub DumpRead : {L : Type 0} → (L → List Fact → Type 0) → L → Option (List ℕ) → Option (List ℕ) → taken.Taken L
     → Type 0
 DumpRead holds ledger old new now =
     (bytes : List ℕ) × AreAll old new bytes × (ls : List (List ℕ)) × AreLines bytes ls

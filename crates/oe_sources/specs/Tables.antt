@@ -1,6 +1,5 @@
 -- What the lines of a source say, one after another: of a table's file, or of a dump.
 use Rattle.std.specs.Prelude.{◌≡◌, ℕ, ◌+◌, ◌==◌, List, [], ◌∷◌, ◌++◌, length, nat_lt, Option, if◌then◌else◌}
-use Rattle.oe_ports.specs.Ports.{Source}
 use Rattle.oe_facts.specs.declared.tables.Table.{Table}
 use Rattle.oe_facts.specs.declared.tables.Fact.{Fact}
 use Rattle.oe_fields.specs.declared.fields.Format.{Format}
@@ -75,7 +74,7 @@ TableTaken holds start ls now = StandsBehind file_step holds start.so_far ls now
 
 -- A table's file was read to its end: the ledger got exactly the facts of the rows that its lines spell, in order, and
 -- the faults are exactly those of its lines.
-abbrev pub TableRead : {L : Type 0} → (L → List Fact → Type 0) → Table → Format → L → Option Source → Option Source
+abbrev pub TableRead : {L : Type 0} → (L → List Fact → Type 0) → Table → Format → L → Option (List ℕ) → Option (List ℕ)
     → taken.Taken L → Type 0
 TableRead holds t format ledger old new now =
     (bytes : List ℕ) × AreAll old new bytes × (ls : List (List ℕ)) × AreLines bytes ls

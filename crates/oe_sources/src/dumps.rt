@@ -16,8 +16,8 @@ use oe_columns::heading_places;
 use oe_facts::Table;
 use oe_fields::Format;
 use oe_filelines::{LineTaker, Stop, read_lines};
-use oe_ports::ports::Intake;
 use std::alloc::{AllocError, Global};
+use std::io::Read;
 
 /// The lines of a dump so far.
 #[derive(Drop)]
@@ -110,12 +110,12 @@ fn end_of(reading: &Reading) -> Said
 ///
 /// A line of a section that can't be read is a fault, and no verdict on the ledger may be given
 /// where there is one. Where a read fails or there is no memory, the ledger is lost.
-pub fn read_dump<S: Intake, L: Ledger + Drop>(
+pub fn read_dump<S: Read, L: Ledger + Drop>(
     alloc: Global,
     source: &mut S,
     ledger: L,
 ) -> Result<Taken<L>, Stop>
-    ensures { IfOk result (DumpRead L.holds ledger (S.source source.old) (S.source source.new)) }
+    ensures { IfOk result (DumpRead L.holds ledger (S.remaining source.old) (S.remaining source.new)) }
 {
     let mut lines = DumpLines {
         so_far: SoFar::new(alloc, Reading::new_ended(), ledger),

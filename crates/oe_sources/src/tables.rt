@@ -9,8 +9,8 @@ use crate::texts::text_of;
 use oe_facts::Table;
 use oe_fields::Format;
 use oe_filelines::{LineTaker, Stop, read_lines};
-use oe_ports::ports::Intake;
 use std::alloc::{AllocError, Global};
+use std::io::Read;
 
 /// The lines of a table's file so far.
 #[derive(Drop)]
@@ -42,15 +42,15 @@ impl<L: Ledger> LineTaker for TableLines<L> {
 /// lines are passed over; `\.` or a count ends the rows. A line that can't be read is a fault, and
 /// no verdict on the ledger may be given where there is one. Where a read fails or there is no
 /// memory, the ledger is lost.
-pub fn read_table<S: Intake, L: Ledger + Drop>(
+pub fn read_table<S: Read, L: Ledger + Drop>(
     alloc: Global,
     table: Table,
     format: Format,
     source: &mut S,
     ledger: L,
 ) -> Result<Taken<L>, Stop>
-    ensures { IfOk result (TableRead L.holds table format ledger (S.source source.old)
-        (S.source source.new)) }
+    ensures { IfOk result (TableRead L.holds table format ledger (S.remaining source.old)
+        (S.remaining source.new)) }
 {
     let mut lines = TableLines {
         so_far: SoFar::new(alloc, Reading::new(table, format), ledger),

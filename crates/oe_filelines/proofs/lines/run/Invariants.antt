@@ -7,6 +7,6 @@ use Rattle.oe_filelines.proofs.lines.run.Given as goal
 abbrev pub invariant-loop : goal.invariant-loop
 invariant-loop g l = record {
   room : length l.buf ≡ 65536;
-  read : (read : List ℕ) × ReadSoFar (g.S.Intake.source l.initial.source) (g.S.Intake.source l.source) read
+  read : (read : List ℕ) × ReadSoFar (g.S.Read.remaining l.initial.source) (g.S.Read.remaining l.source) read
       × Standing g.T.LineTaker.taken l.initial.taker read l.held.line.items l.held.over l.taker;
 }

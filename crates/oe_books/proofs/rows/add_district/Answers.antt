@@ -1,0 +1,10 @@
+use Rattle.oe_books.specs.Keeping.{BookDistricts}
+use Rattle.oe_books.proofs.RowFacts.{on_ok, one_more, districts_more}
+use Rattle.oe_books.proofs.rows.add_district.Goals as goal
+
+pub returns : goal.returns
+returns c =
+    on_ok c.add.result (λ takes.
+    one_more BookDistricts c.args.rows.now (record { kept = c.add.new.self; count = c.count.new.rows }) c.args.fact.now
+    c.count.ensures (districts_more c.args.rows.now.kept c.add.new.self c.args.fact.now c.within.ensures takes))
+    c.add.ensures

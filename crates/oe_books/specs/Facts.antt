@@ -1,0 +1,68 @@
+-- The facts of nine tables, each table's in the order of its rows.
+use Rattle.std.specs.Prelude.{ℕ, List, [], ◌∷◌, ◌++◌, length}
+use Rattle.std.specs.List.{fold}
+use Rattle.oe_facts.specs.declared.facts.WarehouseFact.{WarehouseFact}
+use Rattle.oe_facts.specs.declared.facts.DistrictFact.{DistrictFact}
+use Rattle.oe_facts.specs.declared.facts.CustomerFact.{CustomerFact}
+use Rattle.oe_facts.specs.declared.facts.HistoryFact.{HistoryFact}
+use Rattle.oe_facts.specs.declared.facts.NewOrderFact.{NewOrderFact}
+use Rattle.oe_facts.specs.declared.facts.OrderFact.{OrderFact}
+use Rattle.oe_facts.specs.declared.facts.OrderLineFact.{OrderLineFact}
+use Rattle.oe_facts.specs.declared.facts.ItemFact.{ItemFact}
+use Rattle.oe_facts.specs.declared.facts.StockFact.{StockFact}
+use Rattle.oe_facts.specs.declared.tables.Fact.{Fact}
+use Rattle.oe_facts.specs.declared.tables.Fact.TheVariants as fact
+use Rattle.oe_facts.specs.declared.tables.Table.{Table}
+use Rattle.oe_facts.specs.declared.tables.Table.TheVariants as table
+
+pub record Facts : Type 0 where
+  pub warehouses : List WarehouseFact
+  pub districts : List DistrictFact
+  pub customers : List CustomerFact
+  pub histories : List HistoryFact
+  pub new_orders : List NewOrderFact
+  pub orders : List OrderFact
+  pub lines : List OrderLineFact
+  pub items : List ItemFact
+  pub stocks : List StockFact
+
+abbrev pub no_facts : Facts
+no_facts = record {
+  warehouses = [];
+  districts = [];
+  customers = [];
+  histories = [];
+  new_orders = [];
+  orders = [];
+  lines = [];
+  items = [];
+  stocks = [];
+}
+
+-- one fact more
+abbrev pub with_fact : Facts → Fact → Facts
+with_fact t (fact.Warehouse f) = record t { warehouses = t.warehouses ++ f ∷ [] }
+with_fact t (fact.District f) = record t { districts = t.districts ++ f ∷ [] }
+with_fact t (fact.Customer f) = record t { customers = t.customers ++ f ∷ [] }
+with_fact t (fact.History f) = record t { histories = t.histories ++ f ∷ [] }
+with_fact t (fact.NewOrder f) = record t { new_orders = t.new_orders ++ f ∷ [] }
+with_fact t (fact.Order f) = record t { orders = t.orders ++ f ∷ [] }
+with_fact t (fact.OrderLine f) = record t { lines = t.lines ++ f ∷ [] }
+with_fact t (fact.Item f) = record t { items = t.items ++ f ∷ [] }
+with_fact t (fact.Stock f) = record t { stocks = t.stocks ++ f ∷ [] }
+
+-- these facts by their tables
+abbrev pub parted : List Fact → Facts
+parted facts = fold with_fact no_facts facts
+
+-- how many facts a table has
+abbrev pub rows_of : Facts → Table → ℕ
+rows_of t table.Warehouse = length t.warehouses
+rows_of t table.District = length t.districts
+rows_of t table.Customer = length t.customers
+rows_of t table.History = length t.histories
+rows_of t table.NewOrder = length t.new_orders
+rows_of t table.Order = length t.orders
+rows_of t table.OrderLine = length t.lines
+rows_of t table.Item = length t.items
+rows_of t table.Stock = length t.stocks

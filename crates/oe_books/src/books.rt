@@ -1,0 +1,97 @@
+//! The ledgers of all nine tables as one, which takes facts of all tables in any order.
+//!
+//! How many orders of each district the population had is asked for as soon as an ORDER or an
+//! ORDER-LINE row comes: it is given, or it is the number of CUSTOMER rows that a district has by
+//! then. Only memory can be refused; the books are lost then.
+ghost use Rattle.std.specs.Prelude.{◌≡◌, true, OnOk};
+ghost use Rattle.oe_books.specs.Facts.{Facts, no_facts, with_fact};
+ghost use Rattle.oe_books.specs.Keeping.{Keeps};
+
+use crate::rows::{
+    Lines, Rows, add_customer, add_district, add_history, add_item, add_line, add_new_order,
+    add_order, add_stock, add_warehouse,
+};
+use oe_checks::sizes::customers_of_a_district;
+use oe_facts::Fact;
+use oe_ledgers::{Customers, Districts, Histories, Items, NewOrders, Orders, Stocks, Warehouses};
+use std::alloc::{AllocError, Global};
+
+/// What is kept of the rows of nine tables.
+#[derive(Drop)]
+pub struct Books {
+    alloc: Global,
+    // How many orders of each district the population had is settled.
+    pub(crate) is_begun: bool,
+    pub(crate) warehouses: Rows<Warehouses>,
+    pub(crate) districts: Rows<Districts>,
+    pub(crate) customers: Rows<Customers>,
+    pub(crate) histories: Rows<Histories>,
+    pub(crate) new_orders: Rows<NewOrders>,
+    pub(crate) orders: Rows<Orders>,
+    pub(crate) lines: Rows<Lines>,
+    pub(crate) items: Rows<Items>,
+    pub(crate) stocks: Rows<Stocks>,
+}
+
+impl Books {
+    /// Begins without a row. `given` is the number of orders that the population had in each
+    /// district; where it is none, that is the number of the district's customers.
+    pub fn new(alloc: Global, given: Option<u32>) -> Books
+        ensures { Keeps no_facts result }
+    {
+        let initial = given.unwrap_or(0);
+        Books {
+            alloc,
+            is_begun: given.is_some(),
+            warehouses: Rows::new(Warehouses::new(alloc)),
+            districts: Rows::new(Districts::new(alloc)),
+            customers: Rows::new(Customers::new(alloc)),
+            histories: Rows::new(Histories::new(alloc)),
+            new_orders: Rows::new(NewOrders::new(alloc)),
+            orders: Rows::new(Orders::new(alloc, initial)),
+            lines: Rows::new(Lines::new(alloc, initial)),
+            items: Rows::new(Items::new(alloc)),
+            stocks: Rows::new(Stocks::new(alloc)),
+        }
+    }
+
+    // Settles how many orders of each district the population had, where that is open yet: as many
+    // as a district has customers.
+    pub(crate) fn begin(&mut self)
+        ensures kept { (t : Facts) → Keeps t self.old → Keeps t self.new }
+        ensures begun { self.new.is_begun ≡ true }
+    {
+        if self.is_begun {
+            return;
+        }
+        self.customers.kept.settle();
+        let initial = customers_of_a_district(&self.customers.kept).unwrap_or(0);
+        self.is_begun = true;
+        self.orders.kept = Orders::new(self.alloc, initial);
+        self.lines.kept = Lines::new(self.alloc, initial);
+    }
+
+    /// Takes one fact more. Where memory is refused, the books are lost.
+    pub fn take(&mut self, fact: &Fact) -> Result<(), AllocError>
+        ensures { OnOk result ((t : Facts) → Keeps t self.old →
+            Keeps (with_fact t fact.now) self.new) }
+    {
+        match fact {
+            Fact::Warehouse(fact) => add_warehouse(&mut self.warehouses, fact),
+            Fact::District(fact) => add_district(&mut self.districts, fact),
+            Fact::Customer(fact) => add_customer(&mut self.customers, fact),
+            Fact::History(fact) => add_history(&mut self.histories, fact),
+            Fact::NewOrder(fact) => add_new_order(&mut self.new_orders, fact),
+            Fact::Order(fact) => {
+                self.begin();
+                add_order(&mut self.orders, fact)
+            }
+            Fact::OrderLine(fact) => {
+                self.begin();
+                add_line(&mut self.lines, fact)
+            }
+            Fact::Item(fact) => add_item(&mut self.items, fact),
+            Fact::Stock(fact) => add_stock(&mut self.stocks, fact),
+        }
+    }
+}
