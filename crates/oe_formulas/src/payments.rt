@@ -4,7 +4,6 @@ ghost use Rattle.oe_rows.specs.Credit.{credit_entry};
 ghost use Rattle.oe_formulas.specs.Checks.{checked, row_with, with_warehouse_ytd, with_district_ytd, paid_with, credit_ids};
 ghost use Rattle.oe_model.specs.Payment.{paid_warehouse, paid_warehouse_out, paid_district, paid_district_out, paid_customer, paid_customer_out, history_data, history_row, history_key, paid_reply};
 
-use arrayvec::ArrayString;
 use oe_requests::{Column, PaymentReply, PaymentRequest};
 use oe_rows::{
     Account, Credit, CreditIds, Customer, District, History, HistoryKey, Warehouse,
@@ -84,11 +83,7 @@ pub fn account_after(row: &Customer, request: &PaymentRequest) -> Result<Account
 pub fn history_data(warehouse: &Text<0, 10>, district: &Text<0, 10>) -> Text<0, 24>
     ensures { result ≡ history_data warehouse.now district.now }
 {
-    let mut spelled = ArrayString::<24>::new();
-    spelled.push_str(warehouse.as_str());
-    spelled.push_str("    ");
-    spelled.push_str(district.as_str());
-    Text::of_printable(spelled.as_str().as_bytes())
+    Text::joined(warehouse, b"    ", district)
 }
 
 /// Gives the HISTORY row of a payment by the customer with that number.

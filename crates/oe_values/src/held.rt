@@ -62,6 +62,25 @@ pub(crate) fn join(whole: &mut [u8], first: &[u8], rest: &[u8]) -> usize
     start + kept
 }
 
+/// Writes three parts, one behind another, over the first bytes of others. Tells where they end.
+#[inline]
+fn put_parts(held: &mut [u8], first: &[u8], between: &[u8], last: &[u8]) -> usize
+    requires { length (first.now ++ between.now ++ last.now) ≤ length held.old }
+    ensures end { result ≡ length (first.now ++ between.now ++ last.now) }
+    ensures after { held.new ≡ (first.now ++ between.now ++ last.now) ++ drop result held.old }
+{
+    let middle = first.len();
+    let behind = middle + between.len();
+    let end = behind + last.len();
+    // From the last part on, so that no zeros are written a second time.
+    let (front, back) = held.split_at_mut(behind);
+    put(back, last);
+    let (start, rest) = front.split_at_mut(middle);
+    put(rest, between);
+    put(start, first);
+    end
+}
+
 /// Tells where the first zero stands.
 fn first_zero(bytes: &[u8]) -> Option<usize>
     ensures { result ≡ position (λ b. b == 0) bytes.now }
@@ -104,6 +123,21 @@ impl<const MOST: usize> Held<MOST> {
         put(&mut held, bytes);
         Held {
             length: in_two_bytes(bytes.len()),
+            bytes: held,
+        }
+    }
+
+    /// Holds three parts, one behind another, which fit and are printable.
+    #[inline]
+    pub(crate) fn of_parts(first: &[u8], between: &[u8], last: &[u8]) -> Self
+        requires fits { length (first.now ++ between.now ++ last.now) ≤ MOST }
+        requires printable { All IsPrintable (first.now ++ between.now ++ last.now) }
+        ensures { result ≡ first.now ++ between.now ++ last.now }
+    {
+        let mut held = [0; MOST];
+        let end = put_parts(&mut held, first, between, last);
+        Held {
+            length: in_two_bytes(end),
             bytes: held,
         }
     }

@@ -79,6 +79,21 @@ impl<const LEAST: usize, const MOST: usize> Text<LEAST, MOST> {
         }
     }
 
+    /// Gives a text, these bytes and another text, one behind another, which are known to be
+    /// printable and to fit: nothing is tested.
+    #[inline]
+    pub fn joined<const FIRST: usize, const LAST: usize>(
+        first: &Text<LEAST, FIRST>,
+        between: &[u8],
+        last: &Text<LEAST, LAST>,
+    ) -> Self
+        requires { IsText LEAST MOST (first.now ++ between.now ++ last.now) }
+        ensures { result ≡ first.now ++ between.now ++ last.now }
+    {
+        let held = Held::of_parts(first.held.as_slice(), between, last.held.as_slice());
+        Text { held }
+    }
+
     /// Gives the text.
     #[inline(always)]
     pub fn as_str(&self) -> &str
