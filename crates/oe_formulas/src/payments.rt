@@ -83,6 +83,9 @@ pub fn account_after(row: &Customer, request: &PaymentRequest) -> Result<Account
 pub fn history_data(warehouse: &Text<0, 10>, district: &Text<0, 10>) -> Text<0, 24>
     ensures { result ≡ history_data warehouse.now district.now }
 {
+    // These reads tell that both are texts.
+    let _warehouse = warehouse.as_str();
+    let _district = district.as_str();
     Text::joined(warehouse, b"    ", district)
 }
 
