@@ -10,13 +10,13 @@ use Rattle.oe_books.specs.declared.books.Books.{Books}
 use Rattle.oe_books.specs.declared.closing.Lack.{Lack}
 use Rattle.oe_books.specs.declared.closing.Lack.TheVariants as lack
 use Rattle.oe_books.specs.Facts.{Facts, rows_of}
-use Rattle.oe_books.specs.Keeping.{Keeps, capped}
+use Rattle.oe_books.specs.Keeping.{KeepsRows, capped}
 use Rattle.oe_books.specs.Closing.{count_of, lack_at, first_lack, without_rows, tables, IsLacking, AreFewEach}
 
 some_same : {A : Type 0} (x y : A) → Some x ≡ Some y → x ≡ y
 some_same x y e = cc
 
-counted : (t : Facts) (b : Books) → Keeps t b → (name : Table) → count_of b name ≡ capped (rows_of t name)
+counted : (t : Facts) (b : Books) → KeepsRows t b → (name : Table) → count_of b name ≡ capped (rows_of t name)
 counted t b h table.Warehouse = h.warehouses.counted
 counted t b h table.District = h.districts.counted
 counted t b h table.Customer = h.customers.counted
@@ -54,7 +54,8 @@ lacks g t name n l true e c h =
     subst (IsLacking g t) (some_same (lack.Room name) l h) (omega (arith, ltb-true (2 ^ 32 - 1) n e, c))
 lacks g t name n l false e c h = none_there g t name n l (ltb 0 n) refl c h
 
-lacks_at : (g : Option ℕ) (t : Facts) (b : Books) (l : Lack) → Keeps t b → (name : Table) → lack_at b name ≡ Some l →
+lacks_at : (g : Option ℕ) (t : Facts) (b : Books) (l : Lack) → KeepsRows t b → (name : Table)
+    → lack_at b name ≡ Some l →
     IsLacking g t l
 lacks_at g t b l h name e =
     lacks g t name (count_of b name) l (ltb (2 ^ 32 - 1) (count_of b name)) refl (counted t b h name) e
@@ -66,7 +67,8 @@ found_by F P each start before [] l e = before l e
 found_by F P each None before (name ∷ names) l e = found_by F P each (F name) (each name) names l e
 found_by F P each (Some k) before (name ∷ names) l e = found_by F P each (Some k) before names l e
 
-pub lack_is : (g : Option ℕ) (t : Facts) (b : Books) (l : Lack) → first_lack b ≡ Some l → Keeps t b → IsLacking g t l
+pub lack_is : (g : Option ℕ) (t : Facts) (b : Books) (l : Lack) → first_lack b ≡ Some l → KeepsRows t b
+    → IsLacking g t l
 lack_is g t b l e h =
     found_by (lack_at b) (IsLacking g t) (λ name l. lacks_at g t b l h name) None (λ l e. absurd (cc)) tables l e
 
@@ -77,7 +79,7 @@ few : (t : Facts) (name : Table) (n : ℕ) (many : Bool) → ltb (2 ^ 32 - 1) n 
 few t name n true e c h = absurd (cc)
 few t name n false e c h = omega (arith, ltb-false (2 ^ 32 - 1) n e, c)
 
-few_at : (t : Facts) (b : Books) → Keeps t b → (name : Table) → lack_at b name ≡ None → rows_of t name < 2 ^ 32
+few_at : (t : Facts) (b : Books) → KeepsRows t b → (name : Table) → lack_at b name ≡ None → rows_of t name < 2 ^ 32
 few_at t b h name e =
     few t name (count_of b name) (ltb (2 ^ 32 - 1) (count_of b name)) refl (counted t b h name) e
 
@@ -94,7 +96,7 @@ none_next F name names e =
     let first : F name ≡ None = none_before F (F name) names e in
     (first, ap (λ s. fold (λ found t. option_or found (F t)) s names) (sym first) ∙ e)
 
-pub each_few : (t : Facts) (b : Books) → first_lack b ≡ None → Keeps t b → AreFewEach t
+pub each_few : (t : Facts) (b : Books) → first_lack b ≡ None → KeepsRows t b → AreFewEach t
 each_few t b e h =
     let F = lack_at b in
     let n1 = none_next F table.Warehouse (table.District ∷ table.Customer ∷ table.History ∷ table.NewOrder ∷

@@ -1,6 +1,7 @@
 -- The facts of nine tables, each table's in the order of its rows.
-use Rattle.std.specs.Prelude.{ℕ, List, [], ◌∷◌, ◌++◌, length}
+use Rattle.std.specs.Prelude.{ℕ, List, [], ◌∷◌, ◌++◌, length, Option, Some, None}
 use Rattle.std.specs.List.{fold}
+use Rattle.std.specs.Option.{option_or}
 use Rattle.oe_facts.specs.declared.facts.WarehouseFact.{WarehouseFact}
 use Rattle.oe_facts.specs.declared.facts.DistrictFact.{DistrictFact}
 use Rattle.oe_facts.specs.declared.facts.CustomerFact.{CustomerFact}
@@ -15,6 +16,7 @@ use Rattle.oe_facts.specs.declared.tables.Fact.TheVariants as fact
 use Rattle.oe_facts.specs.declared.tables.Table.{Table}
 use Rattle.oe_facts.specs.declared.tables.Table.TheVariants as table
 
+-- `early` has the CUSTOMER rows that came before the first ORDER or ORDER-LINE row, once such a row came
 pub record Facts : Type 0 where
   pub warehouses : List WarehouseFact
   pub districts : List DistrictFact
@@ -25,6 +27,7 @@ pub record Facts : Type 0 where
   pub lines : List OrderLineFact
   pub items : List ItemFact
   pub stocks : List StockFact
+  pub early : Option (List CustomerFact)
 
 abbrev pub no_facts : Facts
 no_facts = record {
@@ -37,6 +40,7 @@ no_facts = record {
   lines = [];
   items = [];
   stocks = [];
+  early = None;
 }
 
 -- one fact more
@@ -46,8 +50,10 @@ with_fact t (fact.District f) = record t { districts = t.districts ++ f ∷ [] }
 with_fact t (fact.Customer f) = record t { customers = t.customers ++ f ∷ [] }
 with_fact t (fact.History f) = record t { histories = t.histories ++ f ∷ [] }
 with_fact t (fact.NewOrder f) = record t { new_orders = t.new_orders ++ f ∷ [] }
-with_fact t (fact.Order f) = record t { orders = t.orders ++ f ∷ [] }
-with_fact t (fact.OrderLine f) = record t { lines = t.lines ++ f ∷ [] }
+with_fact t (fact.Order f) =
+    record t { orders = t.orders ++ f ∷ []; early = option_or t.early (Some t.customers) }
+with_fact t (fact.OrderLine f) =
+    record t { lines = t.lines ++ f ∷ []; early = option_or t.early (Some t.customers) }
 with_fact t (fact.Item f) = record t { items = t.items ++ f ∷ [] }
 with_fact t (fact.Stock f) = record t { stocks = t.stocks ++ f ∷ [] }
 

@@ -1,5 +1,6 @@
 -- What is kept of the facts of nine tables.
-use Rattle.std.specs.Prelude.{◌≡◌, ℕ, ◌-◌, ◌^◌, min, false, List, [], length}
+use Rattle.std.specs.Prelude.{◌≡◌, ℕ, ◌<◌, ◌-◌, ◌^◌, min, List, [], length, Option, Some, None, unwrap_or, MatchOption}
+use Rattle.oe_facts.specs.declared.facts.CustomerFact.{CustomerFact}
 use Rattle.oe_facts.specs.declared.facts.DistrictFact.{DistrictFact}
 use Rattle.oe_facts.specs.declared.facts.HistoryFact.{HistoryFact}
 use Rattle.oe_facts.specs.declared.facts.OrderFact.{OrderFact}
@@ -9,11 +10,14 @@ use Rattle.oe_ledgers.specs.declared.histories.Histories.{Histories}
 use Rattle.oe_ledgers.specs.declared.orders.Orders.{Orders}
 use Rattle.oe_ledgers.specs.Keeping.{KeepsWarehouses, KeepsDistricts, KeepsCustomers, KeepsHistories, KeepsNewOrders}
 use Rattle.oe_ledgers.specs.Keeping.{KeepsOrders, KeepsOrderLines, KeepsItems, KeepsStocks}
-use Rattle.oe_ledgers.specs.Figures.{AreAmounts, AreNumbers}
+use Rattle.oe_ledgers.specs.Figures.{AreFew, AreAmounts, AreNumbers}
 use Rattle.oe_line_numbers.specs.Blocks.{KeepsLineNumbers}
 use Rattle.oe_books.specs.declared.rows.Rows.{Rows}
 use Rattle.oe_books.specs.declared.rows.Lines.{Lines}
+use Rattle.oe_checks.specs.Sizes.{IsOfSome}
 use Rattle.oe_books.specs.declared.books.Books.{Books}
+use Rattle.oe_books.specs.declared.books.Initial.{Initial}
+use Rattle.oe_books.specs.declared.books.Initial.TheVariants as initial
 use Rattle.oe_books.specs.Facts.{Facts}
 
 -- a number, as 64 bits hold it
@@ -44,9 +48,27 @@ pub record BookLines (facts : List OrderLineFact) (kept : Lines) : Type 0 where
   pub amounts : AreAmounts (λ (f : OrderLineFact). f.amount) facts
   pub quantities : AreNumbers (λ (f : OrderLineFact). f.quantity) facts
 
--- The books are of these facts. As long as no ORDER or ORDER-LINE row came, nothing is settled of how many orders the
--- population had.
-pub record Keeps (t : Facts) (b : Books) : Type 0 where
+-- the number of customers of some district; 0 where no district has one
+abbrev pub IsOfADistrict : List CustomerFact → ℕ → Type 0
+IsOfADistrict customers n = (number : Option ℕ) × IsOfSome customers number × (n ≡ unwrap_or number 0)
+
+-- a CUSTOMER row came behind the first ORDER or ORDER-LINE row
+abbrev pub AreLate : List CustomerFact → List CustomerFact → Type 0
+AreLate early customers = length early < length customers
+
+-- How many orders of each district the population had (clause 4.3.3.1): as many as were given, or else as many as some
+-- district had customers when the first ORDER or ORDER-LINE row came.
+abbrev pub IsInitial : Option ℕ → Facts → Initial → ℕ → Type 0
+IsInitial given t initial.Given n = given ≡ Some n
+IsInitial given t initial.Open n = (given ≡ None) × (t.early ≡ None) × (t.orders ≡ []) × (t.lines ≡ [])
+IsInitial given t initial.Counted n =
+    (given ≡ None) × (t.early ≡ Some t.customers) × (AreFew t.customers → IsOfADistrict t.customers n)
+IsInitial given t initial.Late n =
+    (given ≡ None) × MatchOption t.early ⊥
+    (λ early. AreLate early t.customers × (AreFew t.customers → IsOfADistrict early n))
+
+-- The ledgers are of these facts, and two of them have the same number of first orders.
+pub record KeepsRows (t : Facts) (b : Books) : Type 0 where
   pub warehouses : IsOf KeepsWarehouses t.warehouses b.warehouses
   pub districts : IsOf BookDistricts t.districts b.districts
   pub customers : IsOf KeepsCustomers t.customers b.customers
@@ -57,4 +79,27 @@ pub record Keeps (t : Facts) (b : Books) : Type 0 where
   pub items : IsOf KeepsItems t.items b.items
   pub stocks : IsOf KeepsStocks t.stocks b.stocks
   pub initial : b.orders.kept.initial ≡ b.lines.kept.sums.initial
-  pub unbegun : b.is_begun ≡ false → (t.orders ≡ []) × (t.lines ≡ [])
+
+-- the books are of these facts; so many first orders were given
+pub record Keeps (given : Option ℕ) (t : Facts) (b : Books) : Type 0 where
+  pub rows : KeepsRows t b
+  pub initial : IsInitial given t b.initial b.orders.kept.initial
+
+-- behind a further CUSTOMER row
+abbrev pub behind_customer : Initial → Initial
+behind_customer initial.Counted = initial.Late
+behind_customer initial.Given = initial.Given
+behind_customer initial.Open = initial.Open
+behind_customer initial.Late = initial.Late
+
+-- the number of first orders is known, as an ORDER or ORDER-LINE row asks for it that comes next
+abbrev pub IsKnown : Option ℕ → Facts → Initial → ℕ → Type 0
+IsKnown given t initial.Given n = given ≡ Some n
+IsKnown given t initial.Open n = ⊥
+IsKnown given t initial.Counted n =
+    (given ≡ None) × (unwrap_or t.early t.customers ≡ t.customers)
+    × (AreFew t.customers → IsOfADistrict t.customers n)
+IsKnown given t initial.Late n = IsInitial given t initial.Late n
+
+abbrev pub IsBegun : Option ℕ → Facts → Books → Type 0
+IsBegun given t b = IsKnown given t b.initial b.orders.kept.initial

@@ -3,9 +3,9 @@
 //! How many orders of each district the population had is asked for as soon as an ORDER or an
 //! ORDER-LINE row comes: it is given, or it is the number of CUSTOMER rows that a district has by
 //! then. Only memory can be refused; the books are lost then.
-ghost use Rattle.std.specs.Prelude.{◌≡◌, true, OnOk};
+ghost use Rattle.std.specs.Prelude.{◌≡◌, ℕ, Option, OnOk};
 ghost use Rattle.oe_books.specs.Facts.{Facts, no_facts, with_fact};
-ghost use Rattle.oe_books.specs.Keeping.{Keeps};
+ghost use Rattle.oe_books.specs.Keeping.{KeepsRows, Keeps, IsBegun, behind_customer};
 
 use crate::rows::{
     Lines, Rows, add_customer, add_district, add_history, add_item, add_line, add_new_order,
@@ -16,12 +16,24 @@ use oe_facts::Fact;
 use oe_ledgers::{Customers, Districts, Histories, Items, NewOrders, Orders, Stocks, Warehouses};
 use std::alloc::{AllocError, Global};
 
+// How it is known how many orders of each district the population had.
+#[derive(Clone, Copy)]
+pub(crate) enum Initial {
+    // It is given.
+    Given,
+    // No ORDER or ORDER-LINE row came, which asks for it.
+    Open,
+    // A district had as many CUSTOMER rows when the first such row came.
+    Counted,
+    // And a further CUSTOMER row came behind it.
+    Late,
+}
+
 /// What is kept of the rows of nine tables.
 #[derive(Drop)]
 pub struct Books {
     alloc: Global,
-    // How many orders of each district the population had is settled.
-    pub(crate) is_begun: bool,
+    pub(crate) initial: Initial,
     pub(crate) warehouses: Rows<Warehouses>,
     pub(crate) districts: Rows<Districts>,
     pub(crate) customers: Rows<Customers>,
@@ -33,16 +45,29 @@ pub struct Books {
     pub(crate) stocks: Rows<Stocks>,
 }
 
+// How the number is known behind a further CUSTOMER row.
+fn behind_customer(initial: Initial) -> Initial
+    ensures { result ≡ behind_customer initial }
+{
+    match initial {
+        Initial::Counted => Initial::Late,
+        _ => initial,
+    }
+}
+
 impl Books {
     /// Begins without a row. `given` is the number of orders that the population had in each
     /// district; where it is none, that is the number of the district's customers.
     pub fn new(alloc: Global, given: Option<u32>) -> Books
-        ensures { Keeps no_facts result }
+        ensures { Keeps given no_facts result }
     {
         let initial = given.unwrap_or(0);
         Books {
             alloc,
-            is_begun: given.is_some(),
+            initial: match given {
+                Some(_) => Initial::Given,
+                None => Initial::Open,
+            },
             warehouses: Rows::new(Warehouses::new(alloc)),
             districts: Rows::new(Districts::new(alloc)),
             customers: Rows::new(Customers::new(alloc)),
@@ -58,28 +83,31 @@ impl Books {
     // Settles how many orders of each district the population had, where that is open yet: as many
     // as a district has customers.
     pub(crate) fn begin(&mut self)
-        ensures kept { (t : Facts) → Keeps t self.old → Keeps t self.new }
-        ensures begun { self.new.is_begun ≡ true }
+        ensures { (given : Option ℕ) (t : Facts) → Keeps given t self.old
+            → KeepsRows t self.new × IsBegun given t self.new }
     {
-        if self.is_begun {
+        let Initial::Open = self.initial else {
             return;
-        }
+        };
         self.customers.kept.settle();
         let initial = customers_of_a_district(&self.customers.kept).unwrap_or(0);
-        self.is_begun = true;
+        self.initial = Initial::Counted;
         self.orders.kept = Orders::new(self.alloc, initial);
         self.lines.kept = Lines::new(self.alloc, initial);
     }
 
     /// Takes one fact more. Where memory is refused, the books are lost.
     pub fn take(&mut self, fact: &Fact) -> Result<(), AllocError>
-        ensures { OnOk result ((t : Facts) → Keeps t self.old →
-            Keeps (with_fact t fact.now) self.new) }
+        ensures { OnOk result ((given : Option ℕ) (t : Facts) → Keeps given t self.old
+            → Keeps given (with_fact t fact.now) self.new) }
     {
         match fact {
             Fact::Warehouse(fact) => add_warehouse(&mut self.warehouses, fact),
             Fact::District(fact) => add_district(&mut self.districts, fact),
-            Fact::Customer(fact) => add_customer(&mut self.customers, fact),
+            Fact::Customer(fact) => {
+                self.initial = behind_customer(self.initial);
+                add_customer(&mut self.customers, fact)
+            }
             Fact::History(fact) => add_history(&mut self.histories, fact),
             Fact::NewOrder(fact) => add_new_order(&mut self.new_orders, fact),
             Fact::Order(fact) => {

@@ -2,10 +2,12 @@
 //! can do without.
 ghost use Rattle.std.specs.Prelude.{◌≡◌, ◌<◌, ◌^◌, ℕ, Option, IfOk};
 ghost use Rattle.oe_books.specs.Facts.{Facts};
-ghost use Rattle.oe_books.specs.Keeping.{Keeps};
-ghost use Rattle.oe_books.specs.Closing.{count_of, lack_of, lack_at, first_lack, AreSettledBooks, IsClosed};
+ghost use Rattle.oe_ledgers.specs.Figures.{AreFew};
+ghost use Rattle.oe_ledgers.specs.Settling.{AreSettledCustomers};
+ghost use Rattle.oe_books.specs.Keeping.{KeepsRows, Keeps, IsBegun};
+ghost use Rattle.oe_books.specs.Closing.{count_of, lack_of, lack_at, first_lack, AreSettledBooks, IsSized, IsClosed};
 
-use crate::books::Books;
+use crate::books::{Books, Initial};
 use oe_checks::deliveries::deliveries;
 use oe_checks::sizes::customers_of_a_district;
 use oe_facts::Table;
@@ -21,8 +23,9 @@ pub enum Lack {
     Rows(Table),
     /// Room: this table has 2^32 rows or more.
     Room(Table),
-    /// The number of orders that the population had in each district: none was given, and an ORDER
-    /// or ORDER-LINE row stands before CUSTOMER rows.
+    /// The number of orders that the population had in each district: none was given, and behind
+    /// the first ORDER or ORDER-LINE row came CUSTOMER rows, by which a district has another
+    /// number of customers than before.
     Initial,
 }
 
@@ -102,7 +105,9 @@ impl Books {
 impl Books {
     // Puts all sums in the order of their keys.
     fn settle(&mut self)
-        ensures kept { (t : Facts) → Keeps t self.old → Keeps t self.new }
+        ensures kept { (t : Facts) → KeepsRows t self.old → KeepsRows t self.new }
+        ensures initial { self.new.initial ≡ self.old.initial }
+        ensures number { self.new.orders.kept.initial ≡ self.old.orders.kept.initial }
         ensures settled { AreSettledBooks self.new }
     {
         self.warehouses.kept.settle();
@@ -117,19 +122,37 @@ impl Books {
         self.stocks.kept.settle();
     }
 
-    /// Closes the books behind the last row. `given` is the number that they were begun with.
-    pub fn close(mut self, alloc: Global, given: Option<u32>) -> Result<Closed, AllocError>
-        ensures { (t : Facts) → Keeps t self → IfOk result (IsClosed given t) }
+    // Tells how many customers a district has; nothing where another number was counted before the
+    // last of them came.
+    fn customers_each(&self) -> Option<u32>
+        requires { AreSettledCustomers self.now.customers.kept }
+        ensures { (given : Option ℕ) (t : Facts) → KeepsRows t self.now → IsBegun given t self.now
+            → AreFew t.customers → IsSized given t self.now.orders.kept.initial result }
+    {
+        let counted = self.orders.kept.initial;
+        if let Initial::Counted = self.initial {
+            return Some(counted);
+        }
+        let each = customers_of_a_district(&self.customers.kept).unwrap_or(0);
+        if let Initial::Late = self.initial {
+            return if counted == each { Some(each) } else { None };
+        }
+        Some(each)
+    }
+
+    /// Closes the books behind the last row.
+    pub fn close(mut self, alloc: Global) -> Result<Closed, AllocError>
+        ensures { (given : Option ℕ) (t : Facts) → Keeps given t self
+            → IfOk result (IsClosed given t) }
     {
         if let Some(lack) = self.lack() {
             return Ok(Closed::Lacking(lack));
         }
         self.begin();
         self.settle();
-        let each = customers_of_a_district(&self.customers.kept).unwrap_or(0);
-        if self.orders.kept.initial != given.unwrap_or(each) {
+        let Some(each) = self.customers_each() else {
             return Ok(Closed::Lacking(Lack::Initial));
-        }
+        };
         let delivered = match deliveries(alloc, &self.orders.kept, &self.lines.kept.sums) {
             Ok(delivered) => delivered,
             Err(refused) => return Err(refused),

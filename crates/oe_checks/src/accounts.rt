@@ -72,8 +72,8 @@ fn nets(
     requires delivered { IsSettled customer_cmp delivered.now }
     requires histories { AreSettledHistories histories.now }
     ensures { IfOk result (λ found. AreAll customer_cmp same_customer
-        (wrong_at same_customer takings_joined takings_joined net delivered.now histories.now.by_customer)
-        found.items) }
+        (wrong_at same_customer takings_joined takings_joined net delivered.now
+        histories.now.by_customer) found.items) }
 {
     findings(alloc, &Net, delivered, &histories.by_customer)
 }
@@ -86,7 +86,8 @@ fn balances(
 ) -> Result<Tally<CustomerId, Takings>, AllocError>
     requires delivered { IsSettled customer_cmp delivered.now }
     requires histories { AreSettledHistories histories.now }
-    ensures sums { IfOk result (λ tally. (c : CustomerId) → total same_customer takings_joined tally c
+    ensures sums { IfOk result (λ tally. (c : CustomerId)
+        → total same_customer takings_joined tally c
         ≡ net (total same_customer takings_joined delivered.now c)
         (total same_customer takings_joined histories.now.by_customer c)) }
     ensures settled { IfOk result (IsSettled customer_cmp) }
@@ -105,12 +106,14 @@ impl Check<CustomerSums, Takings> for Condition10 {
 
     type Wrong = Apart;
 
-    ghost judged = { λ _ row sum. against (option_map (λ s. s.balance) row) (option_map (λ s. s.amount) sum) };
+    ghost judged = { λ _ row sum. against (option_map (λ s. s.balance) row)
+        (option_map (λ s. s.amount) sum) };
 
     ghost nothing = { λ _. refl };
 
     fn judge(&self, row: Option<CustomerSums>, sum: Option<Takings>) -> Option<Apart>
-        ensures { result ≡ against (option_map (λ s. s.balance) row) (option_map (λ s. s.amount) sum) }
+        ensures { result ≡ against (option_map (λ s. s.balance) row)
+            (option_map (λ s. s.amount) sum) }
     {
         let Some(row) = row else {
             return None;

@@ -63,8 +63,8 @@ fn deliveries_by_order(
     requires orders { AreSettledOrders orders.now }
     requires lines { AreSettledOrderLines lines.now }
     ensures { IfOk result (λ found. AreAll order_cmp same_order
-        (wrong_at same_order orders_joined lines_joined delivery orders.now.by_order lines.now.by_order)
-        found.items) }
+        (wrong_at same_order orders_joined lines_joined delivery orders.now.by_order
+        lines.now.by_order) found.items) }
 {
     findings(alloc, &Delivered, &orders.by_order, &lines.by_order)
 }

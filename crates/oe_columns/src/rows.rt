@@ -90,7 +90,7 @@ impl<'a> Row<'a> {
     }
 
     /// Reads a number in its range.
-    #[inline]
+    #[inline(always)]
     fn number(&mut self, at: usize, low: u64, high: u64) -> Result<u64, Misfit>
         ensures same { self.new ≡ self.old }
         ensures value { read_as (λ n. Number n) result

@@ -6,3 +6,4 @@ mod HistoryFacts
 mod TextFacts
 mod RunFacts
 mod TableFacts
+pub mod FrontFacts

@@ -10,6 +10,7 @@ use Rattle.oe_serial.specs.declared.verdicts.Decision.{Decision}
 use Rattle.oe_serial.specs.declared.verdicts.Decision.TheVariants as decision
 use Rattle.oe_serial.specs.declared.verdicts.Verdict as replies
 use Rattle.oe_serial.specs.declared.verdicts.Verdict.TheVariants as reply
+use Rattle.oe_reading.specs.declared.formats.Format.{Format}
 use Rattle.oe_loading.specs.Loading.{Nine}
 use Rattle.oe_comparison.specs.Texts.{Told}
 use Rattle.oe_comparison.specs.Runs.{LeavesRows, IsOther, TellsOther, Tells, AreTold, Compares, TellsReplies}
@@ -33,16 +34,16 @@ decided o input ours d e is made =
     (so.0, so.1)
 
 -- the report on tables, where they were compared
-pub compares : (n : ℕ) (r : Rows) (before after : Nine) (old new : Option Sink) (told : Told)
+pub compares : (format : Format) (n : ℕ) (r : Rows) (before after : Nine) (old new : Option Sink) (told : Told)
     (result : Result Verdict ComparisonFault)
-    → AreTold before after r told → Tells n told old new result → Compares n r before after old new result
-compares n r before after old new told (Ok (verdict.Replies v)) are t = t
-compares n r before after old new told (Ok verdict.Same) are t = (told, are, t.0, t.1)
-compares n r before after old new told (Ok (verdict.Differs count)) are t = (told, are, t.0, t.1, t.2)
-compares n r before after old new told (Ok (verdict.Unreadable faults)) are t = absurd t
-compares n r before after old new told (Err (stop.Short s)) are t = t
-compares n r before after old new told (Err (stop.Stopped s)) are t = absurd t
-compares n r before after old new told (Err stop.Write) are t = (told, are, t)
+    → AreTold format before after r told → Tells n told old new result → Compares format n r before after old new result
+compares format n r before after old new told (Ok (verdict.Replies v)) are t = t
+compares format n r before after old new told (Ok verdict.Same) are t = (told, are, t.0, t.1)
+compares format n r before after old new told (Ok (verdict.Differs count)) are t = (told, are, t.0, t.1, t.2)
+compares format n r before after old new told (Ok (verdict.Unreadable faults)) are t = absurd t
+compares format n r before after old new told (Err (stop.Short s)) are t = t
+compares format n r before after old new told (Err (stop.Stopped s)) are t = absurd t
+compares format n r before after old new told (Err stop.Write) are t = (told, are, t)
 
 -- replies that are not serial
 pub replies_told : (o : Origin) (input ours : List ℕ) (v : replies.Verdict) (old new : Option Sink)

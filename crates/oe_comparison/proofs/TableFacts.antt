@@ -5,6 +5,7 @@ use Rattle.oe_rows.specs.declared.keys.Key.{Key}
 use Rattle.oe_rows.specs.declared.keys.Table.{Table}
 use Rattle.oe_model.specs.Rows.{Rows}
 use Rattle.oe_ports.specs.Ports.{Source}
+use Rattle.oe_reading.specs.declared.formats.Format.{Format}
 use Rattle.oe_reading.specs.declared.lines.Numbered.{Numbered}
 use Rattle.oe_reading.specs.declared.faults.TableFault.{TableFault}
 use Rattle.oe_reading.specs.Fault as fault
@@ -14,11 +15,12 @@ use Rattle.oe_comparison.specs.Tables.{TableCompared, HomesCompared, DeedsCompar
 use Rattle.oe_comparison.specs.Tables.{KeepsHomes, KeepsDeeds, KeepsGoods}
 
 -- rows of a table that are these
-pub of_rows : {K X : Type 0} {cmp : K → K → Ordering} {key_of : K → Key} {spells : ℕ → List ℕ → K × X → Type 0}
-    {table : Table} {IsSo : List (Numbered K X) → List (K × X) → Told → Told → Type 0} {before after : Option Source}
+pub of_rows : {format : Format} {K X : Type 0} {cmp : K → K → Ordering} {key_of : K → Key}
+    {spells : ℕ → List ℕ → K × X → Type 0} {table : Table} {IsSo : List (Numbered K X) → List (K × X) → Told → Told
+    → Type 0} {before after : Option Source}
     {start faults : fault.Told TableFault} {old new : Told} (es fs : List (K × X)) → es ≡ fs
-    → TableCompared cmp key_of spells table IsSo before after start faults es old new
-    → TableCompared cmp key_of spells table IsSo before after start faults fs old new
+    → TableCompared format cmp key_of spells table IsSo before after start faults es old new
+    → TableCompared format cmp key_of spells table IsSo before after start faults fs old new
 of_rows {IsSo = IsSo} {old = old} {new = new} es fs same t = record {
   rows = t.rows;
   read = t.read;
@@ -26,17 +28,19 @@ of_rows {IsSo = IsSo} {old = old} {new = new} es fs same t = record {
 }
 
 -- files that are these
-of_files : {K X : Type 0} {cmp : K → K → Ordering} {key_of : K → Key} {spells : ℕ → List ℕ → K × X → Type 0}
-    {table : Table} {IsSo : List (Numbered K X) → List (K × X) → Told → Told → Type 0}
+of_files : {format : Format} {K X : Type 0} {cmp : K → K → Ordering} {key_of : K → Key}
+    {spells : ℕ → List ℕ → K × X → Type 0} {table : Table} {IsSo : List (Numbered K X) → List (K × X) → Told → Told
+    → Type 0}
     (before before' after after' : Option Source)
     {start faults : fault.Told TableFault} {es : List (K × X)} {old new : Told}
     → before' ≡ before → after' ≡ after
-    → TableCompared cmp key_of spells table IsSo before after start faults es old new
-    → TableCompared cmp key_of spells table IsSo before' after' start faults es old new
+    → TableCompared format cmp key_of spells table IsSo before after start faults es old new
+    → TableCompared format cmp key_of spells table IsSo before' after' start faults es old new
 of_files before before' after after' same_before same_after t = rw (same_before, same_after) t
 
-pub homes_of : (b b' a a' : Nine) (r : Rows) (start faults : fault.Told TableFault) (old new : Told) → KeepsHomes b b'
-    → KeepsHomes a a' → HomesCompared b a r start faults old new → HomesCompared b' a' r start faults old new
+pub homes_of : {format : Format} (b b' a a' : Nine) (r : Rows) (start faults : fault.Told TableFault) (old new : Told)
+    → KeepsHomes b b' → KeepsHomes a a' → HomesCompared format b a r start faults old new
+    → HomesCompared format b' a' r start faults old new
 homes_of b b' a a' r start faults old new p q h = record {
   warehouse_faults = h.warehouse_faults;
   district_faults = h.district_faults;
@@ -47,8 +51,9 @@ homes_of b b' a a' r start faults old new p q h = record {
   customers = of_files b.customer b'.customer a.customer a'.customer p.2 q.2 h.customers;
 }
 
-pub deeds_of : (b b' a a' : Nine) (r : Rows) (start faults : fault.Told TableFault) (old new : Told) → KeepsDeeds b b'
-    → KeepsDeeds a a' → DeedsCompared b a r start faults old new → DeedsCompared b' a' r start faults old new
+pub deeds_of : {format : Format} (b b' a a' : Nine) (r : Rows) (start faults : fault.Told TableFault) (old new : Told)
+    → KeepsDeeds b b' → KeepsDeeds a a' → DeedsCompared format b a r start faults old new
+    → DeedsCompared format b' a' r start faults old new
 deeds_of b b' a a' r start faults old new p q h = record {
   history_faults = h.history_faults;
   new_order_faults = h.new_order_faults;
@@ -59,8 +64,9 @@ deeds_of b b' a a' r start faults old new p q h = record {
   orders = of_files b.order b'.order a.order a'.order p.2 q.2 h.orders;
 }
 
-pub goods_of : (b b' a a' : Nine) (r : Rows) (start faults : fault.Told TableFault) (old new : Told) → KeepsGoods b b'
-    → KeepsGoods a a' → GoodsCompared b a r start faults old new → GoodsCompared b' a' r start faults old new
+pub goods_of : {format : Format} (b b' a a' : Nine) (r : Rows) (start faults : fault.Told TableFault) (old new : Told)
+    → KeepsGoods b b' → KeepsGoods a a' → GoodsCompared format b a r start faults old new
+    → GoodsCompared format b' a' r start faults old new
 goods_of b b' a a' r start faults old new p q h = record {
   order_line_faults = h.order_line_faults;
   item_faults = h.item_faults;

@@ -7,3 +7,6 @@ pub mod Walks
 pub mod Tables
 pub mod Runs
 pub mod Laws
+pub mod Names
+pub mod Forms
+pub mod Faults

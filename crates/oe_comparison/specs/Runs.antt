@@ -11,6 +11,7 @@ use Rattle.oe_serial.specs.declared.verdicts.Verdict as replies
 use Rattle.oe_serial.specs.declared.verdicts.Verdict.TheVariants as reply
 use Rattle.oe_reading.specs.declared.faults.TableFault as line
 use Rattle.oe_reading.specs.Fault as fault
+use Rattle.oe_reading.specs.declared.formats.Format.{Format}
 use Rattle.oe_loading.specs.Loading.{Nine}
 use Rattle.oe_comparison.specs.Tables.{TablesCompared}
 use Rattle.oe_comparison.specs.Texts.{Told, comparison_text}
@@ -53,25 +54,26 @@ Tells n told old new (Err stop.Write) = Cut old [] new (comparison_text n told)
 Tells n told old new (Err f) = ⊥
 
 -- the nine files have these lines and no fault
-abbrev pub AreTold : Nine → Nine → Rows → Told → Type 0
-AreTold before after r told =
-    (faults : fault.Told line.TableFault) × TablesCompared before after r faults told × (faults.count ≡ 0)
+abbrev pub AreTold : Format → Nine → Nine → Rows → Told → Type 0
+AreTold format before after r told =
+    (faults : fault.Told line.TableFault) × TablesCompared format before after r faults told × (faults.count ≡ 0)
 
 -- The lines of tables that differ were written behind the verdict on n replies; lines of the files can't be read, and
 -- nothing was written; the files were not read to their ends, and nothing was written; or a beginning was written.
-abbrev pub Compares : ℕ → Rows → Nine → Nine → Option Sink → Option Sink → Result Verdict ComparisonFault → Type 0
-Compares n r before after old new (Ok (verdict.Replies v)) = ⊥
-Compares n r before after old new (Ok verdict.Same) =
-    (told : Told) × AreTold before after r told × (told.count ≡ 0) × Sent old [] new [] (comparison_text n told)
-Compares n r before after old new (Ok (verdict.Differs count)) =
-    (told : Told) × AreTold before after r told × (told.count ≡ count) × (count ≢ 0)
+abbrev pub Compares : Format → ℕ → Rows → Nine → Nine → Option Sink → Option Sink → Result Verdict ComparisonFault
+    → Type 0
+Compares format n r before after old new (Ok (verdict.Replies v)) = ⊥
+Compares format n r before after old new (Ok verdict.Same) =
+    (told : Told) × AreTold format before after r told × (told.count ≡ 0) × Sent old [] new [] (comparison_text n told)
+Compares format n r before after old new (Ok (verdict.Differs count)) =
+    (told : Told) × AreTold format before after r told × (told.count ≡ count) × (count ≢ 0)
     × Sent old [] new [] (comparison_text n told)
-Compares n r before after old new (Ok (verdict.Unreadable faults)) =
-    (told : Told) × TablesCompared before after r faults told × (0 < faults.count) × (new ≡ old)
-Compares n r before after old new (Err (stop.Short s)) = ⊥
-Compares n r before after old new (Err (stop.Stopped s)) = new ≡ old
-Compares n r before after old new (Err stop.Write) =
-    (told : Told) × AreTold before after r told × Cut old [] new (comparison_text n told)
+Compares format n r before after old new (Ok (verdict.Unreadable faults)) =
+    (told : Told) × TablesCompared format before after r faults told × (0 < faults.count) × (new ≡ old)
+Compares format n r before after old new (Err (stop.Short s)) = ⊥
+Compares format n r before after old new (Err (stop.Stopped s)) = new ≡ old
+Compares format n r before after old new (Err stop.Write) =
+    (told : Told) × AreTold format before after r told × Cut old [] new (comparison_text n told)
 
 -- the verdict on replies that are not serial was written, or a beginning of it
 abbrev pub TellsReplies : Origin → List ℕ → Option Sink → Option Sink → Result Verdict ComparisonFault → Type 0
@@ -85,8 +87,8 @@ TellsReplies o input old new (Err (stop.Short s)) = new ≡ old
 TellsReplies o input old new (Err (stop.Stopped s)) = ⊥
 
 -- The replies are not serial, or nothing was decided; or they are, and the tables at the end were compared.
-abbrev pub ComparisonRan : Origin → List ℕ → Nine → Nine → Option Sink → Option Sink → Result Verdict ComparisonFault
-    → Type 0
-ComparisonRan o input before after old new result =
+abbrev pub ComparisonRan : Format → Origin → List ℕ → Nine → Nine → Option Sink → Option Sink
+    → Result Verdict ComparisonFault → Type 0
+ComparisonRan format o input before after old new result =
     TellsReplies o input old new result
-    ⊎ ((n : ℕ) × (r : Rows) × LeavesRows o input n r × Compares n r before after old new result)
+    ⊎ ((n : ℕ) × (r : Rows) × LeavesRows o input n r × Compares format n r before after old new result)

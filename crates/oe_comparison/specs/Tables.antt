@@ -18,10 +18,11 @@ use Rattle.oe_texts.specs.Dump.{warehouse_columns, district_columns, customer_co
 use Rattle.oe_texts.specs.Dump.{order_columns, order_line_columns, item_columns, stock_columns}
 use Rattle.oe_model.specs.Rows.{Rows}
 use Rattle.oe_ports.specs.Ports.{Source}
+use Rattle.oe_reading.specs.declared.formats.Format.{Format}
 use Rattle.oe_reading.specs.declared.lines.Numbered.{Numbered}
 use Rattle.oe_reading.specs.Fault as fault
 use Rattle.oe_reading.specs.Rows.{SpellsRow, SpellsHistory}
-use Rattle.oe_reading.specs.Tables.{TableRead}
+use Rattle.oe_reading.specs.Tables.{TableReadAs}
 use Rattle.oe_loading.specs.Loading.{Nine}
 use Rattle.oe_reading.specs.declared.faults.TableFault.{TableFault}
 use Rattle.oe_comparison.specs.Differences.{difference, theirs_shown, ours_shown, keyless}
@@ -44,61 +45,63 @@ pub record AreHistoriesTold (rows : List (Numbered HistoryKey History)) (ours : 
   pub told : new ≡ with_history (difference history_order (keyless file) (keyless order)) old
 
 -- A file was read to its end, its faults were added, and its rows compared.
-pub record TableCompared {K X : Type 0} (cmp : K → K → Ordering) (key_of : K → Key)
+pub record TableCompared (format : Format) {K X : Type 0} (cmp : K → K → Ordering) (key_of : K → Key)
     (spells : ℕ → List ℕ → K × X → Type 0) (table : Table)
     (IsSo : List (Numbered K X) → List (K × X) → Told → Told → Type 0) (before after : Option Source)
     (start faults : fault.Told TableFault) (ours : List (K × X)) (old new : Told) : Type 0 where
   pub rows : List (Numbered K X)
-  pub read : TableRead cmp key_of spells table before after start faults rows
+  pub read : TableReadAs format cmp key_of spells table before after start faults rows
   pub told : IsSo rows ours old new
 
 -- warehouses, districts and customers were compared
-pub record HomesCompared (before after : Nine) (r : Rows) (start faults : fault.Told TableFault)
+pub record HomesCompared (format : Format) (before after : Nine) (r : Rows) (start faults : fault.Told TableFault)
     (old new : Told) : Type 0 where
   pub warehouse_faults : fault.Told TableFault
   pub district_faults : fault.Told TableFault
   pub warehouse_told : Told
   pub district_told : Told
-  pub warehouses : TableCompared warehouse_cmp (λ k. key.Warehouse k) (SpellsRow warehouse_forms warehouse_values)
-      table.Warehouse (IsTold warehouse_cmp (λ k. key.Warehouse k) warehouse_columns) before.warehouse after.warehouse
+  pub warehouses : TableCompared format warehouse_cmp (λ k. key.Warehouse k)
+      (SpellsRow warehouse_forms warehouse_values) table.Warehouse (IsTold warehouse_cmp (λ k. key.Warehouse k)
+      warehouse_columns) before.warehouse after.warehouse
       start warehouse_faults (entries r.warehouses) old warehouse_told
-  pub districts : TableCompared district_cmp (λ k. key.District k) (SpellsRow district_forms district_values)
+  pub districts : TableCompared format district_cmp (λ k. key.District k) (SpellsRow district_forms district_values)
       table.District (IsTold district_cmp (λ k. key.District k) district_columns) before.district after.district
       warehouse_faults district_faults (entries r.districts) warehouse_told district_told
-  pub customers : TableCompared customer_cmp (λ k. key.Customer k) (SpellsRow customer_forms customer_values)
+  pub customers : TableCompared format customer_cmp (λ k. key.Customer k) (SpellsRow customer_forms customer_values)
       table.Customer (IsTold customer_cmp (λ k. key.Customer k) customer_columns) before.customer after.customer
       district_faults faults (entries r.customers) district_told new
 
 -- histories, orders not yet delivered and orders were compared
-pub record DeedsCompared (before after : Nine) (r : Rows) (start faults : fault.Told TableFault)
+pub record DeedsCompared (format : Format) (before after : Nine) (r : Rows) (start faults : fault.Told TableFault)
     (old new : Told) : Type 0 where
   pub history_faults : fault.Told TableFault
   pub new_order_faults : fault.Told TableFault
   pub history_told : Told
   pub new_order_told : Told
-  pub histories : TableCompared history_cmp (λ k. key.History k) SpellsHistory table.History AreHistoriesTold
+  pub histories : TableCompared format history_cmp (λ k. key.History k) SpellsHistory table.History AreHistoriesTold
       before.history after.history start history_faults (entries r.histories) old history_told
-  pub new_orders : TableCompared new_order_cmp (λ k. key.NewOrder k) (SpellsRow new_order_forms new_order_values)
+  pub new_orders : TableCompared format new_order_cmp (λ k. key.NewOrder k) (SpellsRow new_order_forms new_order_values)
       table.NewOrder (IsTold new_order_cmp (λ k. key.NewOrder k) (λ k x. new_order_columns k)) before.new_order
       after.new_order history_faults new_order_faults (entries r.new_orders) history_told new_order_told
-  pub orders : TableCompared order_cmp (λ k. key.Order k) (SpellsRow order_forms order_values) table.Order
+  pub orders : TableCompared format order_cmp (λ k. key.Order k) (SpellsRow order_forms order_values) table.Order
       (IsTold order_cmp (λ k. key.Order k) order_columns) before.order after.order new_order_faults faults
       (entries r.orders) new_order_told new
 
 -- order lines, items and stocks were compared
-pub record GoodsCompared (before after : Nine) (r : Rows) (start faults : fault.Told TableFault)
+pub record GoodsCompared (format : Format) (before after : Nine) (r : Rows) (start faults : fault.Told TableFault)
     (old new : Told) : Type 0 where
   pub order_line_faults : fault.Told TableFault
   pub item_faults : fault.Told TableFault
   pub order_line_told : Told
   pub item_told : Told
-  pub order_lines : TableCompared order_line_cmp (λ k. key.OrderLine k) (SpellsRow order_line_forms order_line_values)
-      table.OrderLine (IsTold order_line_cmp (λ k. key.OrderLine k) order_line_columns) before.order_line
+  pub order_lines : TableCompared format order_line_cmp (λ k. key.OrderLine k)
+      (SpellsRow order_line_forms order_line_values) table.OrderLine (IsTold order_line_cmp (λ k. key.OrderLine k)
+      order_line_columns) before.order_line
       after.order_line start order_line_faults (entries r.order_lines) old order_line_told
-  pub items : TableCompared item_cmp (λ k. key.Item k) (SpellsRow item_forms item_values) table.Item
+  pub items : TableCompared format item_cmp (λ k. key.Item k) (SpellsRow item_forms item_values) table.Item
       (IsTold item_cmp (λ k. key.Item k) item_columns) before.item after.item order_line_faults item_faults
       (entries r.items) order_line_told item_told
-  pub stocks : TableCompared stock_cmp (λ k. key.Stock k) (SpellsRow stock_forms stock_values) table.Stock
+  pub stocks : TableCompared format stock_cmp (λ k. key.Stock k) (SpellsRow stock_forms stock_values) table.Stock
       (IsTold stock_cmp (λ k. key.Stock k) stock_columns) before.stock after.stock item_faults faults
       (entries r.stocks) item_told new
 
@@ -113,11 +116,12 @@ abbrev pub KeepsGoods : Nine → Nine → Type 0
 KeepsGoods old new = (new.order_line ≡ old.order_line) × (new.item ≡ old.item) × (new.stock ≡ old.stock)
 
 -- the nine files were read and compared in this order
-pub record TablesCompared (before after : Nine) (r : Rows) (faults : fault.Told TableFault) (told : Told) : Type 0 where
+pub record TablesCompared (format : Format) (before after : Nine) (r : Rows) (faults : fault.Told TableFault)
+    (told : Told) : Type 0 where
   pub home_faults : fault.Told TableFault
   pub deed_faults : fault.Told TableFault
   pub home_told : Told
   pub deed_told : Told
-  pub homes : HomesCompared before after r fault.no_faults home_faults nothing_told home_told
-  pub deeds : DeedsCompared before after r home_faults deed_faults home_told deed_told
-  pub goods : GoodsCompared before after r deed_faults faults deed_told told
+  pub homes : HomesCompared format before after r fault.no_faults home_faults nothing_told home_told
+  pub deeds : DeedsCompared format before after r home_faults deed_faults home_told deed_told
+  pub goods : GoodsCompared format before after r deed_faults faults deed_told told

@@ -4,7 +4,7 @@ use Rattle.oe_rows.specs.Key.{table_of}
 use Rattle.oe_rows.specs.declared.histories.History.{History}
 use Rattle.oe_rows.specs.declared.keys.Key.{Key}
 use Rattle.oe_texts.specs.Key.{key_text}
-use Rattle.oe_inspection.specs.Columns.{column_name}
+use Rattle.oe_comparison.specs.Names.{column_name}
 use Rattle.oe_serial.specs.Verdicts.{serial_line}
 use Rattle.oe_comparison.specs.Columns.{Other}
 use Rattle.oe_comparison.specs.Differences.{Difference, Extra, Missing, Column}

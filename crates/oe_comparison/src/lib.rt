@@ -4,13 +4,17 @@
 #![tactic(auto)]
 
 mod columns;
+pub mod faults;
+pub mod forms;
 mod histories;
 pub mod laws;
+pub mod names;
 pub mod reports;
 pub mod rows;
 pub mod runs;
 mod tables;
 mod walks;
 
+pub use faults::write_faults;
 pub use laws::{differences_are_first, rows_are_told_apart};
 pub use runs::{ComparisonFault, Verdict, run_comparison, status};

@@ -3,11 +3,11 @@
 ghost use Rattle.std.specs.Prelude.{◌≡◌, ◌≤◌, ◌<◌, ◌+◌, ◌++◌, ◌∷◌, [], length, decimal, OnOk};
 ghost use Rattle.arrayvec.specs.ArrayVec.{array_vec_len};
 ghost use Rattle.oe_texts.specs.Dump.{reference_columns};
-ghost use Rattle.oe_inspection.specs.Columns.{column_name};
+ghost use Rattle.oe_comparison.specs.Names.{column_name};
 ghost use Rattle.oe_comparison.specs.Histories.{blanked, history_text};
 ghost use Rattle.oe_comparison.specs.Texts.{nothing_told, with_piece, with_line, extra_line, missing_line, column_front, column_line, often_line, last_line};
 
-use oe_inspection::columns::column_name;
+use crate::names::column_name;
 use oe_rows::{CustomerKey, DistrictKey, History, Key, Table};
 use oe_texts::columns::{money, nullable_stamp, number, small};
 use oe_texts::{LONGEST, Pending, SIZE, keys, text};

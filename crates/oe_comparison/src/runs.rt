@@ -14,7 +14,7 @@ use arrayvec::ArrayVec;
 use oe_loading::Sources;
 use oe_ports::output::{flush, write_all};
 use oe_ports::ports::{Failed, Intake, Outlet};
-use oe_reading::{Faults, Stop};
+use oe_reading::{Faults, Format, Stop};
 use oe_serial::{
     AnswerText, Decision, Origin, Shortage, Verdict as Replies, decide, write_verdict,
 };
@@ -117,19 +117,20 @@ fn tell<'a, W: Outlet>(
 // Compares tables with nine files, and tells what differs.
 fn compare<'a, S: Intake, W: Outlet>(
     alloc: Global,
+    format: Format,
     count: u128,
     tables: &Tables,
     sources: &mut Sources<S>,
     writer: &mut W,
 ) -> Result<Verdict<'a>, ComparisonFault>
-    ensures { Compares count (rows tables.now) (nine_of S.source sources.old)
+    ensures { Compares format count (rows tables.now) (nine_of S.source sources.old)
         (nine_of S.source sources.new) (W.sink writer.old) (W.sink writer.new) result }
 {
     let Ok(mut faults) = Faults::new(alloc) else {
         return Err(ComparisonFault::Stopped(Stop::NoMemory));
     };
     let mut report = Report::new(alloc);
-    if let Err(stop) = compare_tables(alloc, tables, sources, &mut faults, &mut report) {
+    if let Err(stop) = compare_tables(alloc, format, tables, sources, &mut faults, &mut report) {
         return Err(ComparisonFault::Stopped(stop));
     }
     if faults.count() > 0 {
@@ -145,13 +146,14 @@ fn compare<'a, S: Intake, W: Outlet>(
 /// are part of the verdict then.
 pub fn run_comparison<'a, S: Intake, W: Outlet>(
     alloc: Global,
+    format: Format,
     input: &'a [u8],
     origin: Origin,
     sources: &mut Sources<S>,
     writer: &mut W,
 ) -> Result<Verdict<'a>, ComparisonFault>
     requires { IsOrigin origin }
-    ensures { ComparisonRan origin input.now (nine_of S.source sources.old)
+    ensures { ComparisonRan format origin input.now (nine_of S.source sources.old)
         (nine_of S.source sources.new) (W.sink writer.old) (W.sink writer.new) result }
 {
     let mut ours: AnswerText = ArrayVec::new();
@@ -161,7 +163,7 @@ pub fn run_comparison<'a, S: Intake, W: Outlet>(
     };
     match decision {
         Decision::Serial(count, tables) => {
-            let verdict = compare(alloc, count, &tables, sources, writer);
+            let verdict = compare(alloc, format, count, &tables, sources, writer);
             tables.discard();
             verdict
         }

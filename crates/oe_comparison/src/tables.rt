@@ -18,7 +18,7 @@ use crate::walks::compare_rows;
 use oe_loading::Sources;
 use oe_ports::dumps::DumpedRow;
 use oe_ports::ports::Intake;
-use oe_reading::{Faults, RowLine, Stop, read_table};
+use oe_reading::{Faults, Format, RowLine, Stop, read_table_as};
 use oe_rows::{History, HistoryKey};
 use oe_store::Tables;
 use oe_table::shelf_walks::Rows;
@@ -28,16 +28,17 @@ use std::alloc::Global;
 // Reads a table's file, and compares its rows with the table's.
 fn compare_table<K: TableKey + Drop, R: RowLine<K> + DumpedRow<K> + ComparedRow + Drop, S: Intake>(
     alloc: Global,
+    format: Format,
     source: &mut S,
     ours: Rows<'_, K, R>,
     faults: &mut Faults,
     report: &mut Report,
 ) -> Result<(), Stop>
-    ensures { OnOk result (TableCompared K.cmp R.key_of R.spells R.own_table
+    ensures { OnOk result (TableCompared format K.cmp R.key_of R.spells R.own_table
         (IsTold K.cmp R.key_of R.columns) (S.source source.old) (S.source source.new) faults.old
         faults.new ours.entry report.old report.new) }
 {
-    let theirs = match read_table::<K, R, S>(alloc, source, faults) {
+    let theirs = match read_table_as::<K, R, S>(alloc, format, source, faults) {
         Ok(theirs) => theirs,
         Err(stop) => return Err(stop),
     };
@@ -50,16 +51,17 @@ fn compare_table<K: TableKey + Drop, R: RowLine<K> + DumpedRow<K> + ComparedRow 
 // Reads the file of HISTORY, and compares its rows with the table's.
 fn compare_history<S: Intake>(
     alloc: Global,
+    format: Format,
     source: &mut S,
     ours: Rows<'_, HistoryKey, History>,
     faults: &mut Faults,
     report: &mut Report,
 ) -> Result<(), Stop>
-    ensures { OnOk result (TableCompared history_cmp (λ k. kind.History k) SpellsHistory
+    ensures { OnOk result (TableCompared format history_cmp (λ k. kind.History k) SpellsHistory
         table.History AreHistoriesTold (S.source source.old) (S.source source.new) faults.old
         faults.new ours.entry report.old report.new) }
 {
-    let theirs = match read_table::<HistoryKey, History, S>(alloc, source, faults) {
+    let theirs = match read_table_as::<HistoryKey, History, S>(alloc, format, source, faults) {
         Ok(theirs) => theirs,
         Err(stop) => return Err(stop),
     };
@@ -72,6 +74,7 @@ fn compare_history<S: Intake>(
 // Compares warehouses, districts and customers.
 fn compare_homes<S: Intake>(
     alloc: Global,
+    format: Format,
     tables: &Tables,
     from: &mut Sources<S>,
     faults: &mut Faults,
@@ -79,19 +82,27 @@ fn compare_homes<S: Intake>(
 ) -> Result<(), Stop>
     ensures others { KeepsDeeds (nine_of S.source from.old) (nine_of S.source from.new)
         × KeepsGoods (nine_of S.source from.old) (nine_of S.source from.new) }
-    ensures compared { OnOk result (HomesCompared (nine_of S.source from.old)
+    ensures compared { OnOk result (HomesCompared format (nine_of S.source from.old)
         (nine_of S.source from.new) (rows tables.now) faults.old faults.new report.old report.new) }
 {
     let warehouses = tables.warehouses();
-    if let Err(stop) = compare_table(alloc, &mut from.warehouse, warehouses, faults, report) {
+    if let Err(stop) = compare_table(
+        alloc,
+        format,
+        &mut from.warehouse,
+        warehouses,
+        faults,
+        report,
+    ) {
         return Err(stop);
     }
     let districts = tables.districts();
-    if let Err(stop) = compare_table(alloc, &mut from.district, districts, faults, report) {
+    if let Err(stop) = compare_table(alloc, format, &mut from.district, districts, faults, report) {
         return Err(stop);
     }
     compare_table(
         alloc,
+        format,
         &mut from.customer,
         tables.customers(),
         faults,
@@ -102,6 +113,7 @@ fn compare_homes<S: Intake>(
 // Compares histories, orders not yet delivered, and orders.
 fn compare_deeds<S: Intake>(
     alloc: Global,
+    format: Format,
     tables: &Tables,
     from: &mut Sources<S>,
     faults: &mut Faults,
@@ -109,23 +121,45 @@ fn compare_deeds<S: Intake>(
 ) -> Result<(), Stop>
     ensures others { KeepsHomes (nine_of S.source from.old) (nine_of S.source from.new)
         × KeepsGoods (nine_of S.source from.old) (nine_of S.source from.new) }
-    ensures compared { OnOk result (DeedsCompared (nine_of S.source from.old)
+    ensures compared { OnOk result (DeedsCompared format (nine_of S.source from.old)
         (nine_of S.source from.new) (rows tables.now) faults.old faults.new report.old report.new) }
 {
     let histories = tables.histories();
-    if let Err(stop) = compare_history(alloc, &mut from.history, histories, faults, report) {
+    if let Err(stop) = compare_history(
+        alloc,
+        format,
+        &mut from.history,
+        histories,
+        faults,
+        report,
+    ) {
         return Err(stop);
     }
     let new_orders = tables.new_orders();
-    if let Err(stop) = compare_table(alloc, &mut from.new_order, new_orders, faults, report) {
+    if let Err(stop) = compare_table(
+        alloc,
+        format,
+        &mut from.new_order,
+        new_orders,
+        faults,
+        report,
+    ) {
         return Err(stop);
     }
-    compare_table(alloc, &mut from.order, tables.orders(), faults, report)
+    compare_table(
+        alloc,
+        format,
+        &mut from.order,
+        tables.orders(),
+        faults,
+        report,
+    )
 }
 
 // Compares order lines, items and stocks.
 fn compare_goods<S: Intake>(
     alloc: Global,
+    format: Format,
     tables: &Tables,
     from: &mut Sources<S>,
     faults: &mut Faults,
@@ -133,18 +167,32 @@ fn compare_goods<S: Intake>(
 ) -> Result<(), Stop>
     ensures others { KeepsHomes (nine_of S.source from.old) (nine_of S.source from.new)
         × KeepsDeeds (nine_of S.source from.old) (nine_of S.source from.new) }
-    ensures compared { OnOk result (GoodsCompared (nine_of S.source from.old)
+    ensures compared { OnOk result (GoodsCompared format (nine_of S.source from.old)
         (nine_of S.source from.new) (rows tables.now) faults.old faults.new report.old report.new) }
 {
     let order_lines = tables.order_lines();
-    if let Err(stop) = compare_table(alloc, &mut from.order_line, order_lines, faults, report) {
+    if let Err(stop) = compare_table(
+        alloc,
+        format,
+        &mut from.order_line,
+        order_lines,
+        faults,
+        report,
+    ) {
         return Err(stop);
     }
     let items = tables.items();
-    if let Err(stop) = compare_table(alloc, &mut from.item, items, faults, report) {
+    if let Err(stop) = compare_table(alloc, format, &mut from.item, items, faults, report) {
         return Err(stop);
     }
-    compare_table(alloc, &mut from.stock, tables.stocks(), faults, report)
+    compare_table(
+        alloc,
+        format,
+        &mut from.stock,
+        tables.stocks(),
+        faults,
+        report,
+    )
 }
 
 /// Reads nine files one after another, and compares the rows of each with a table's. A line that
@@ -153,6 +201,7 @@ fn compare_goods<S: Intake>(
 /// `Stop` where a read fails or there is no memory.
 pub(crate) fn compare_tables<S: Intake>(
     alloc: Global,
+    format: Format,
     tables: &Tables,
     from: &mut Sources<S>,
     faults: &mut Faults,
@@ -160,14 +209,14 @@ pub(crate) fn compare_tables<S: Intake>(
 ) -> Result<(), Stop>
     requires faults { faults.old ≡ no_faults }
     requires report { report.old ≡ nothing_told }
-    ensures { OnOk result (TablesCompared (nine_of S.source from.old) (nine_of S.source from.new)
-        (rows tables.now) faults.new report.new) }
+    ensures { OnOk result (TablesCompared format (nine_of S.source from.old)
+        (nine_of S.source from.new) (rows tables.now) faults.new report.new) }
 {
-    if let Err(stop) = compare_homes(alloc, tables, from, faults, report) {
+    if let Err(stop) = compare_homes(alloc, format, tables, from, faults, report) {
         return Err(stop);
     }
-    if let Err(stop) = compare_deeds(alloc, tables, from, faults, report) {
+    if let Err(stop) = compare_deeds(alloc, format, tables, from, faults, report) {
         return Err(stop);
     }
-    compare_goods(alloc, tables, from, faults, report)
+    compare_goods(alloc, format, tables, from, faults, report)
 }

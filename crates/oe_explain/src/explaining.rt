@@ -1,5 +1,5 @@
 //! Who hears of lines that are answered `BadLine`, and says why they are.
-ghost use Rattle.std.specs.Prelude.{◌≡◌, ◌≤◌, ◌+◌, ◌++◌, ℕ, List, [], length, decimal, false};
+ghost use Rattle.std.specs.Prelude.{◌≡◌, ◌≤◌, ◌+◌, ◌++◌, ℕ, List, [], length, decimal, false, None};
 ghost use Rattle.arrayvec.specs.ArrayVec.{array_vec_len};
 ghost use Rattle.oe_ports.specs.Ports.{Streams};
 ghost use Rattle.oe_script.specs.Hearing.{IsBad};
@@ -117,7 +117,7 @@ pub fn explain_script<R: Intake, W: Outlet, E: Outlet>(
     explainer: &mut Explainer<E>,
 ) -> Result<(), ScriptFault>
     requires { explainer.old.has_failed ≡ false }
-    ensures { ScriptHeard
+    ensures { ScriptHeard None
         (Said explainer.new.has_failed (E.sink explainer.old.to) (E.sink explainer.new.to))
         (R.source reader.old) (R.source reader.new)
         (W.sink writer.old) (W.sink writer.new) result }

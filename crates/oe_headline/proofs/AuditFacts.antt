@@ -49,9 +49,9 @@ consistent_state : (s : State) → IsReachedState s → IsConsistentState s
 consistent_state None l = tt
 consistent_state (Some w) l = consistent w l
 
-conditions : (n : ℕ) (lines : List (List ℕ)) (text : List ℕ) (s : State) → RunOfLines None n lines text s
-    → IsConsistentState s
-conditions n lines text s r = consistent_state s (worlds_are_reached.of_lines None n lines text s tt r)
+conditions : (begun : State) (n : ℕ) (lines : List (List ℕ)) (text : List ℕ) (s : State) → IsReachedState begun
+    → RunOfLines begun n lines text s → IsConsistentState s
+conditions begun n lines text s l r = consistent_state s (worlds_are_reached.of_lines begun n lines text s l r)
 
 -- an audit of these rows finds that the condition holds
 abbrev IsHeld : Condition → Rows → Type 0

@@ -1,7 +1,6 @@
 -- What transactions keep besides holds of each version of a script.
 use Rattle.std.proofs.Common.{ℕ, List, sym, subst}
-use Rattle.oe_theory.specs.World.{World, newest, at, tables}
-use Rattle.oe_theory.specs.Next.{IsQuiet}
+use Rattle.oe_theory.specs.World.{World, newest, at}
 use Rattle.oe_theory.proofs.Theorems.{tables_when_quiet}
 use Rattle.oe_model.specs.Rows.{Rows}
 use Rattle.oe_model.specs.System.{system}

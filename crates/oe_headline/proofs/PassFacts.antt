@@ -96,17 +96,18 @@ lines_split s n (x ∷ xs) ys text s' (next, here, more, a, r, e) =
       e ∙ (ap (λ z. here ++ z) p.5 ∙ sym (append_assoc here p.1 p.2)),
     )
 
-between : (before after : List (List ℕ)) (text : List ℕ) (s : State) → RunOfLines None 0 (before ++ after) text s
-    → (mid : State) × (first : List ℕ) × (rest : List ℕ) × RunOfLines None 0 before first mid × IsReachedState mid
+between : (begun : State) (before after : List (List ℕ)) (text : List ℕ) (s : State) → IsReachedState begun
+    → RunOfLines begun 0 (before ++ after) text s
+    → (mid : State) × (first : List ℕ) × (rest : List ℕ) × RunOfLines begun 0 before first mid × IsReachedState mid
     × RunOfLines mid (length before) after rest s × (text ≡ first ++ rest)
-between before after text s r =
-    let p = lines_split None 0 before after text s r in
+between begun before after text s l r =
+    let p = lines_split begun 0 before after text s r in
     let count : 0 + length before ≡ length before = omega arith in (
       p.0,
       p.1,
       p.2,
       p.3,
-      of_lines None 0 before p.1 p.0 tt p.3,
+      of_lines begun 0 before p.1 p.0 l p.3,
       subst (λ (z : ℕ). RunOfLines p.0 z after p.2 s) count
           p.4,
       p.5,
@@ -116,7 +117,7 @@ pub worlds_are_reached : Worlds_are_reached
 worlds_are_reached = record {
   of_lines = of_lines;
   between = between;
-  of_output = λ input out o. of_lines None 0 o.lines o.answers o.state tt o.run;
+  of_output = λ begun input out o l. of_lines begun 0 o.lines o.answers o.state l o.run;
 }
 
 -- ONE RUN

@@ -7,7 +7,7 @@ use Rattle.std.proofs.lemmas.List.Elements.{All-head, All-tail}
 use Rattle.oe_theory.specs.Next as theory
 use Rattle.oe_theory.specs.Next.{Next}
 use Rattle.oe_theory.specs.Theorems.{opened}
-use Rattle.oe_theory.specs.World.{World, tables}
+use Rattle.oe_theory.specs.World.{World}
 use Rattle.oe_theory.proofs.Determined.{determined}
 use Rattle.oe_theory.proofs.Sets.{some_inj}
 use Rattle.oe_requests.specs.declared.refusals.Refusal.TheVariants as refusal
@@ -203,12 +203,12 @@ input_once (l ∷ ls) (m ∷ ms) last end p q a b e =
     let rest = input_once ls ms last end (All-tail IsInLine l ls p) (All-tail IsInLine m ms q) a b first.1 in
     (ap (λ z. z ∷ ls) first.0 ∙ ap (λ z. m ∷ z) rest.0, rest.1)
 
-output_once : (input out out' : List ℕ) (o : Output input out) (o' : Output input out') (es fs : List Entry)
-    → IsOutputOf input out o es → IsOutputOf input out' o' fs
+output_once : (begun : State) (input out out' : List ℕ) (o : Output begun input out) (o' : Output begun input out')
+    (es fs : List Entry) → IsOutputOf begun input out o es → IsOutputOf begun input out' o' fs
     → HaveMemory es → HaveMemory fs → (out ≡ out') × (o.state ≡ o'.state)
-output_once input out out' o o' es fs t u p q =
+output_once begun input out out' o o' es fs t u p q =
     let form = input_once o.lines o'.lines o.last o'.last o.each o'.each o.tail o'.tail (sym o.whole ∙ o'.whole) in
-    let one = lines_once es fs None o.state o'.state t.passed u.passed (t.lines ∙ (form.0 ∙ sym u.lines)) p q in
+    let one = lines_once es fs begun o.state o'.state t.passed u.passed (t.lines ∙ (form.0 ∙ sym u.lines)) p q in
     let answers : o.answers ≡ o'.answers = sym t.answers ∙ (ap (texts_of 0) one.0 ∙ u.answers) in (
       o.text ∙ (ap (λ z. z ++ last_text (length o.lines + 1) o.last) answers
           ∙ (ap (λ z. o'.answers ++ last_text (length z + 1) o.last) form.0

@@ -7,7 +7,7 @@ use Rattle.std.specs.List.{All}
 use Rattle.std.proofs.lemmas.Bool.{cases_order, eqb-true, eqb-false, false≢true}
 use Rattle.std.proofs.lemmas.Fmt.{decimal_digit, decimal_step}
 use Rattle.std.proofs.lemmas.List.Elements.{All-nil, All-cons, All-head, All-tail, All-append}
-use Rattle.oe_theory.specs.World.{Open, World, tables}
+use Rattle.oe_theory.specs.World.{Open, World}
 use Rattle.oe_theory.specs.Next as theory
 use Rattle.oe_theory.specs.Next.{Next}
 use Rattle.oe_theory.specs.Erase.{is_of, is_rollback, is_commit, names}
@@ -37,6 +37,7 @@ use Rattle.oe_headline.specs.Laws.{IsReachedState, Lines_without_rollback, Outpu
 use Rattle.oe_headline.proofs.BesideFacts.{Beside, gave_way as gave_way_here, stands, beside, Own, ended as ended_here}
 use Rattle.oe_headline.proofs.BesideFacts.{was_committed, went_on, own, began}
 use Rattle.oe_headline.proofs.DeedFacts.{lines_are_deeds}
+use Rattle.oe_headline.proofs.FaultFacts.{begun_reached}
 use Rattle.oe_headline.proofs.PassFacts.{passed_split, passed_append, passed_reached, next_reached, takes_reached}
 
 -- THE LINE `next T`
@@ -422,9 +423,10 @@ lines_without_rollback s s' before after first t q l is p h =
 -- OF A WHOLE INPUT
 
 pub outputs_without_rollback : Outputs_without_rollback
-outputs_without_rollback input out o before after first t q told is h =
-    let (left, without, passed, each) = left_whole None o.state before after first t q tt is told.passed h in
-    let run = lines_are_deeds.back None 0 (before ++ left) o.state passed in
+outputs_without_rollback begun input out o before after first t q is_begun told is h =
+    let (left, without, passed, each) = left_whole begun o.state before after first t q (begun_reached begun is_begun)
+    is told.passed h in
+    let run = lines_are_deeds.back begun 0 (before ++ left) o.state passed in
     let old : All IsInLine (lines_of before ++ first.line ∷ lines_of after) =
     subst (All IsInLine) (sym told.lines ∙ lines_append before (first ∷ after)) o.each in
     let all : All IsInLine (lines_of (before ++ left)) =

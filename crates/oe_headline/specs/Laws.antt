@@ -18,6 +18,8 @@ use Rattle.oe_requests.specs.declared.audits.Condition.TheVariants as condition
 use Rattle.oe_requests.specs.declared.audits.Verdict.{Verdict}
 use Rattle.oe_requests.specs.declared.audits.Verdict.TheVariants as verdict
 use Rattle.oe_requests.specs.declared.steps.Step.TheVariants as step
+use Rattle.oe_rows.specs.declared.layouts.Layout.{Layout}
+use Rattle.oe_model.specs.Conditions.{IsPopulation}
 use Rattle.oe_model.specs.FurtherConditions.{More}
 use Rattle.oe_model.specs.Headline.{Is_consistent}
 use Rattle.oe_model.specs.Population.{IsPopulated}
@@ -61,11 +63,13 @@ pub record Worlds_are_reached : Type 0 where
   pub of_lines : (s : State) (n : ℕ) (lines : List (List ℕ)) (text : List ℕ) (s' : State) → IsReachedState s
       → RunOfLines s n lines text s' → IsReachedState s'
   -- at each place between two lines
-  pub between : (before after : List (List ℕ)) (text : List ℕ) (s : State) → RunOfLines None 0 (before ++ after) text s
-      → (mid : State) × (first : List ℕ) × (rest : List ℕ) × RunOfLines None 0 before first mid × IsReachedState mid
+  pub between : (begun : State) (before after : List (List ℕ)) (text : List ℕ) (s : State) → IsReachedState begun
+      → RunOfLines begun 0 (before ++ after) text s
+      → (mid : State) × (first : List ℕ) × (rest : List ℕ) × RunOfLines begun 0 before first mid × IsReachedState mid
       × RunOfLines mid (length before) after rest s × (text ≡ first ++ rest)
   -- at the end
-  pub of_output : (input out : List ℕ) (o : Output input out) → IsReachedState o.state
+  pub of_output : (begun : State) (input out : List ℕ) (o : Output begun input out) → IsReachedState begun
+      → IsReachedState o.state
 
 -- conditions 1 to 4 (clauses 3.3.2.1 to 3.3.2.4) hold there of the version of each moment, and of the tables where
 -- nothing is open
@@ -90,8 +94,8 @@ IsAudited w c m text =
 
 pub record Audits_hold : Type 0 where
   -- at each place between two lines
-  pub conditions : (n : ℕ) (lines : List (List ℕ)) (text : List ℕ) (s : State) → RunOfLines None n lines text s
-      → IsConsistentState s
+  pub conditions : (begun : State) (n : ℕ) (lines : List (List ℕ)) (text : List ℕ) (s : State) → IsReachedState begun
+      → RunOfLines begun n lines text s → IsConsistentState s
   -- each line that asks for an audit of one of the four
   pub answered : (w : World system) (n : ℕ) (line text : List ℕ) (s : State) (c : Condition) (m : MomentChoice)
       → IsReached system w → IsOfFour c
@@ -227,24 +231,32 @@ Lines_without_rollback =
     → is_rolled_back t after ≡ true
     → (left : List Entry) × Without t after left × Passed s (before ++ left) s'
 
+-- a script begins with nothing open, or opened on a population
+abbrev pub IsBegun : State → Type 0
+IsBegun None = Unit {0}
+IsBegun (Some w) =
+    (r : Rows) × (extents : ℕ) × (layout : Layout) × IsPopulation r × (w ≡ opened system r extents layout)
+
 -- these are the lines of an output, and its answers
-pub record IsOutputOf (input out : List ℕ) (o : Output input out) (es : List Entry) : Type 0 where
-  pub passed : Passed None es o.state
+pub record IsOutputOf (begun : State) (input out : List ℕ) (o : Output begun input out) (es : List Entry) : Type
+    0 where
+  pub passed : Passed begun es o.state
   pub lines : lines_of es ≡ o.lines
   pub answers : texts_of 0 es ≡ o.answers
 
 -- the input may be answered by this output, and leave this state
-abbrev pub OutputTo : List ℕ → List ℕ → State → Type 0
-OutputTo input out s = (o : Output input out) × (o.state ≡ s)
+abbrev pub OutputTo : State → List ℕ → List ℕ → State → Type 0
+OutputTo begun input out s = (o : Output begun input out) × (o.state ≡ s)
 
 -- a whole input and its output, without the lines of a transaction that was rolled back
 abbrev pub Outputs_without_rollback : Type 0
 Outputs_without_rollback =
-    (input out : List ℕ) (o : Output input out) (before after : List Entry) (first : Entry) (t : ℕ) (q : Request)
-    → IsOutputOf input out o (before ++ first ∷ after) → first.deed ≡ Steps 0 (step.Begin t q) answer.Begun
+    (begun : State) (input out : List ℕ) (o : Output begun input out) (before after : List Entry) (first : Entry)
+    (t : ℕ) (q : Request) → IsBegun begun
+    → IsOutputOf begun input out o (before ++ first ∷ after) → first.deed ≡ Steps 0 (step.Begin t q) answer.Begun
     → is_rolled_back t after ≡ true
     → (left : List Entry) × Without t after left
-    × OutputTo (flat_map ended (lines_of (before ++ left)) ++ o.last)
+    × OutputTo begun (flat_map ended (lines_of (before ++ left)) ++ o.last)
     (texts_of 0 (before ++ left) ++ last_text (length (lines_of (before ++ left)) + 1) o.last) o.state
 
 -- the line was not refused memory
@@ -265,39 +277,45 @@ pub record Answers_are_determined : Type 0 where
       → HaveMemory es → HaveMemory fs
       → (es ≡ fs) × (s₁ ≡ s₂)
   -- so an input determines its output
-  pub of_output : (input out out' : List ℕ) (o : Output input out) (o' : Output input out') (es fs : List Entry)
-      → IsOutputOf input out o es → IsOutputOf input out' o' fs
+  pub of_output : (begun : State) (input out out' : List ℕ) (o : Output begun input out)
+      (o' : Output begun input out') (es fs : List Entry)
+      → IsOutputOf begun input out o es → IsOutputOf begun input out' o' fs
       → HaveMemory es → HaveMemory fs → (out ≡ out') × (o.state ≡ o'.state)
 
--- An output of what was read, and what each whole line of it was. From the opening on the lines are one run of the
--- machine, whatever transactions overlap in them
-pub record IsAnswered (read : List ℕ) : Type 0 where
+-- from the opening on, or from the tables on that a script begins with, the lines are one run of the machine
+abbrev pub IsRunFrom : State → List Entry → World system → Type 0
+IsRunFrom None es w = IsOneRun es w
+IsRunFrom (Some v) es w = Ran v (steps_of es) (answers_of es) w
+
+-- An output of what was read, and what each whole line of it was. The lines are one run of the machine, whatever
+-- transactions overlap in them
+pub record IsAnswered (begun : State) (read : List ℕ) : Type 0 where
   pub out : List ℕ
-  pub output : Output read out
+  pub output : Output begun read out
   pub es : List Entry
-  pub deeds : IsOutputOf read out output es
-  pub run : (w : World system) → output.state ≡ Some w → IsOneRun es w
+  pub deeds : IsOutputOf begun read out output es
+  pub run : (w : World system) → output.state ≡ Some w → IsRunFrom begun es w
 
 -- Exactly the answers of all whole lines that were read were written, and whatever input follows, an output of all of
 -- it begins so
-pub record IsCutByReader (a b : Source) (c d : Sink) : Type 0 where
+pub record IsCutByReader (begun : State) (a b : Source) (c d : Sink) : Type 0 where
   pub read : List ℕ
   pub were_read : a.remaining ≡ read ++ b.remaining
-  pub lines : IsAnswered read
+  pub lines : IsAnswered begun read
   pub written : d.contents ≡ c.contents ++ texts_of 0 lines.es
-  pub goes_on : (more : List ℕ) → (rest : List ℕ) × Output (read ++ more) (texts_of 0 lines.es ++ rest)
+  pub goes_on : (more : List ℕ) → (rest : List ℕ) × Output begun (read ++ more) (texts_of 0 lines.es ++ rest)
 
 -- what was written is a beginning of an output of what was read
-pub record IsCutByWriter (a b : Source) (c d : Sink) : Type 0 where
+pub record IsCutByWriter (begun : State) (a b : Source) (c d : Sink) : Type 0 where
   pub read : List ℕ
   pub were_read : a.remaining ≡ read ++ b.remaining
-  pub lines : IsAnswered read
+  pub lines : IsAnswered begun read
   pub unwritten : List ℕ
   pub written : d.contents ++ unwritten ≡ c.contents ++ lines.out
 
 -- how a fault of the reader and one of the writer cut a script's output
 pub record Faults_cut_outputs : Type 0 where
-  pub by_reader : (a b : Source) (c d : Sink) → ScriptRan (Some a) (Some b) (Some c) (Some d) (Err fault.Read)
-      → IsCutByReader a b c d
-  pub by_writer : (a b : Source) (c d : Sink) → ScriptRan (Some a) (Some b) (Some c) (Some d) (Err fault.Write)
-      → IsCutByWriter a b c d
+  pub by_reader : (begun : State) (a b : Source) (c d : Sink) → IsBegun begun
+      → ScriptRan begun (Some a) (Some b) (Some c) (Some d) (Err fault.Read) → IsCutByReader begun a b c d
+  pub by_writer : (begun : State) (a b : Source) (c d : Sink) → IsBegun begun
+      → ScriptRan begun (Some a) (Some b) (Some c) (Some d) (Err fault.Write) → IsCutByWriter begun a b c d

@@ -1,20 +1,16 @@
 -- What the base of the tables keeps as rows are put.
-use Rattle.std.proofs.Common.{◌≡◌, ℕ, ◌+◌, ◌<◌, ◌≤◌, ◌⊎◌, inl, inr, Bool, true, false, cond, Option, Some, None}
-use Rattle.std.proofs.Common.{Result, OnOk, OnErr, List, [], ◌∷◌, ◌++◌, sym, ap, subst, ◌∙◌, refl, arith}
+use Rattle.std.proofs.Common.{◌≡◌, ◌⊎◌, inl, inr, Bool, true, false, cond, Option, Some, None}
+use Rattle.std.proofs.Common.{Result, OnOk, OnErr, List, sym, ap, subst, ◌∙◌, refl}
 use Rattle.std.specs.Prelude.{IsSome, is_some, option_map}
-use Rattle.std.specs.Option.{option_copied}
-use Rattle.std.specs.Borrow.{Bor}
 use Rattle.std.specs.Int.{IsInRange}
 use Rattle.std.specs.Ordering.{eq_by_cmp}
 use Rattle.std.specs.declared.cmp.Ordering.{Ordering}
-use Rattle.std.proofs.lemmas.Bool.{cases_eq}
 use Rattle.std.specs.Cmp.{IsTotalOrder, eq_by_cmp_equiv}
 use Rattle.std.specs.FinMap.{FinMap, IsAntisymmetric, get, insert, empty, get-empty, get-insert}
 use Rattle.oe_table.specs.Table.{rows_of}
 use Rattle.oe_table.proofs.TableFacts.{tied}
 use Rattle.oe_rows.specs.Key.{warehouse_cmp, district_cmp, customer_cmp, history_cmp, new_order_cmp, order_cmp}
 use Rattle.oe_rows.specs.Key.{order_line_cmp, item_cmp, stock_cmp}
-use Rattle.oe_rows.proofs.KeyFacts.{warehouse_total, exact_warehouse, district_total, exact_district}
 use Rattle.oe_rows.proofs.KeyFacts.{customer_total, exact_customer, item_total, exact_item, stock_total, exact_stock}
 use Rattle.oe_rows.specs.declared.keys.WarehouseKey.{WarehouseKey}
 use Rattle.oe_rows.specs.declared.keys.DistrictKey.{DistrictKey}
@@ -39,11 +35,11 @@ use Rattle.oe_rows.specs.declared.customers.Customer.{Customer}
 use Rattle.oe_rows.specs.declared.items.Item.{Item}
 use Rattle.oe_rows.specs.declared.items.Stock.{Stock}
 use Rattle.oe_model.specs.Keys.{warehouse_of_district, district_of_customer, warehouse_of_stock, item_of_stock}
-use Rattle.oe_model.specs.Rows.{Rows, row_at}
+use Rattle.oe_model.specs.Rows.{row_at}
 use Rattle.oe_model.proofs.PresenceFacts.{some-map}
 use Rattle.oe_store.specs.Places.{Places, rows, IsNumbered, IsSound}
 use Rattle.oe_store.proofs.SoundFacts.{by_result}
-use Rattle.oe_loading.specs.Base.{BasePlaces, IsBase, OnlyHomes, base_rows}
+use Rattle.oe_loading.specs.Base.{BasePlaces, IsBase, base_rows}
 use Rattle.oe_loading.specs.Homes.{AreHomes}
 
 -- ---- one row more

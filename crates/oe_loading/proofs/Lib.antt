@@ -3,3 +3,4 @@ pub mod PlaceFacts
 pub mod HomeFacts
 pub mod FileFacts
 pub mod LoadedFacts
+pub mod WholeFacts

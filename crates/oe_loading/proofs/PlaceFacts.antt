@@ -8,7 +8,7 @@ use Rattle.std.specs.Option.{option_copied}
 use Rattle.std.specs.Cmp.{IsTotalOrder, eq_by_cmp_equiv}
 use Rattle.std.specs.FinMap.{FinMap, IsAntisymmetric, get, insert}
 use Rattle.std.specs.declared.cmp.Ordering.{Ordering}
-use Rattle.std.specs.declared.cmp.Ordering.TheVariants.{Less, Equal}
+use Rattle.std.specs.declared.cmp.Ordering.TheVariants.{Less}
 use Rattle.std.specs.List.Sorted.{IsStrictlySortedBy}
 use Rattle.std.proofs.lemmas.List.{append-nil, length-map, get_or-map}
 use Rattle.std.proofs.lemmas.Map.Keys.{Less-from_sorted}
@@ -141,7 +141,7 @@ module _ {K X : Type 0} where
       by j e = let next : suc j ≡ j + 1 = omega arith in subst (λ (z : ℕ). (get_or (m ∷ ns) z d).key ≡ k) next e
 
 -- the next key differs from all before it, where keys ascend
-not_less : {K : Type 0} {R : K → K → Ordering} → IsTotalOrder R → (k : K) → R k k ≡ Less → ⊥
+pub not_less : {K : Type 0} {R : K → K → Ordering} → IsTotalOrder R → (k : K) → R k k ≡ Less → ⊥
 not_less {R = R} total k e = let same = tied (R k k) ((eq_by_cmp_equiv total).refl k) in let no = sym e ∙ same in cc
 
 module _ {K X : Type 0} {R : K → K → Ordering} (total : IsTotalOrder R) where

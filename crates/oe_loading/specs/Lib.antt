@@ -4,3 +4,4 @@ pub mod Homes
 pub mod Loaded
 pub mod Loading
 pub mod Placing
+pub mod Whole

@@ -9,6 +9,8 @@ mod homes;
 pub mod loading;
 pub mod places;
 mod putting;
+pub mod whole;
 
 pub use counts::RowCounts;
 pub use loading::{Apart, LoadError, Loaded, Sources, load};
+pub use whole::{NotWhole, load_whole};

@@ -1,15 +1,13 @@
 -- A HISTORY line spells what is read of it.
-use Rattle.std.proofs.Common.{◌≡◌, ℕ, ◌≤◌, inl, inr, List, length, Result, Ok, Err}
+use Rattle.std.proofs.Common.{◌≡◌, ℕ, ◌≤◌, List, Result, Ok, Err}
 use Rattle.std.proofs.Common.{sym, ap, ◌∙◌}
-use Rattle.std.proofs.lemmas.Bool.{cases_lt, cases_eq}
+use Rattle.std.proofs.lemmas.Bool.{cases_lt}
 use Rattle.std.proofs.Common.{⊎_elim}
 use Rattle.oe_rows.specs.declared.histories.History.{History}
 use Rattle.oe_rows.specs.declared.keys.HistoryKey.{HistoryKey}
 use Rattle.oe_rowlines.specs.declared.forms.LineFault.{LineFault}
-use Rattle.oe_rowlines.specs.Line.{fields_of}
-use Rattle.oe_rowlines.specs.Rows.{history_row_forms, history_row_values, key_of_line}
-use Rattle.oe_rowlines.specs.Rows.{with_key, ReadsKeyless, ReadsHistory}
-use Rattle.oe_reading.specs.Rows.{SpellsRow, SpellsHistory}
+use Rattle.oe_rowlines.specs.Rows.{key_of_line, with_key, ReadsHistory}
+use Rattle.oe_reading.specs.Rows.{SpellsHistory}
 
 with_found : (k : HistoryKey) (row : Result History LineFault) (r : HistoryKey × History) → with_key k row ≡ Ok r
     → (r.0 ≡ k) × (row ≡ Ok r.1)
@@ -19,9 +17,8 @@ with_found k (Ok h) r e =
 with_found k (Err e) r h = absurd (cc)
 
 module _ (n : ℕ) (line : List ℕ) (result : Result (HistoryKey × History) LineFault) where
-  keyless_found : ReadsKeyless n line result → (r : HistoryKey × History) → result ≡ Ok r
-      → (n ≤ 4_294_967_295) × (r.0 ≡ key_of_line n) × SpellsRow history_row_forms history_row_values n line r.1
-  keyless_found read r e =
+  pub history_found : ReadsHistory n line result → (r : HistoryKey × History) → result ≡ Ok r → SpellsHistory n line r
+  history_found read r e =
       ⊎_elim (λ large. absurd (let none = read.no_key large in cc))
       (λ small.
       let rows = read.read small in
@@ -29,16 +26,8 @@ module _ (n : ℕ) (line : List ℕ) (result : Result (HistoryKey × History) Li
       (small, f.0, rows.1.found r.1 f.1))
       (cases_lt 4_294_967_295 n)
 
-  pub history_found : ReadsHistory n line result → (r : HistoryKey × History) → result ≡ Ok r → SpellsHistory n line r
-  history_found read r e =
-      ⊎_elim
-      (λ eight. let f = keyless_found (read.keyless eight) r e in inr (eight, f.0, f.1, f.2))
-      (λ other. inl (other, (read.keyed other).found r e)) (cases_eq (length (fields_of line)) 8)
-
   pub history_finds : ReadsHistory n line result → (r : HistoryKey × History) → SpellsHistory n line r → result ≡ Ok r
-  history_finds read r (inl h) = (read.keyed h.0).finds r h.1
-  history_finds read r (inr h) =
-      let rows = (read.keyless h.0).read h.1 in
-      let found : rows.0 ≡ Ok r.1 = rows.1.finds r.1 h.3 in
-      rows.2 ∙ ap (with_key (key_of_line n)) found
-      ∙ ap (λ (k : HistoryKey). Ok (k, r.1)) (sym h.2)
+  history_finds read r h =
+      let rows = read.read h.0 in
+      let found : rows.0 ≡ Ok r.1 = rows.1.finds r.1 h.2 in
+      rows.2 ∙ ap (with_key (key_of_line n)) found ∙ ap (λ (k : HistoryKey). Ok (k, r.1)) (sym h.1)

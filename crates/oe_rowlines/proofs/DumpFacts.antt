@@ -1,8 +1,8 @@
 -- A dumped row is spelled by its line.
-use Rattle.std.proofs.Common.{◌≡◌, ℕ, suc, ◌+◌, ◌/◌, ◌%◌, ◌^◌, ◌<◌, ◌≤◌, ◌⊎◌, inl, inr, List, [], ◌∷◌, ◌++◌, Bool}
-use Rattle.std.proofs.Common.{true, false, ◌&&◌}
-use Rattle.std.proofs.Common.{cond, Option, Some, None, eqb, map, decimal, codes, sym, ap, subst, ◌∙◌, refl}
-use Rattle.std.proofs.Common.{append_assoc, arith}
+use Rattle.std.proofs.Common.{◌≡◌, ℕ, suc, ◌+◌, ◌/◌, ◌%◌, ◌^◌, ◌<◌, ◌≤◌, inl, List, [], ◌∷◌, ◌++◌, Bool}
+use Rattle.std.proofs.Common.{true, false}
+use Rattle.std.proofs.Common.{Option, Some, None, eqb, map, decimal, sym, ap, subst, ◌∙◌, refl}
+use Rattle.std.proofs.Common.{append_assoc, arith, length}
 use Rattle.std.specs.Prelude.{ℤ, pos, negsuc}
 use Rattle.std.specs.List.{All, list_all, join_with_byte}
 use Rattle.std.proofs.lemmas.Bool.{ltb-true}
@@ -17,13 +17,15 @@ use Rattle.oe_values.proofs.FrontFacts.{both}
 use Rattle.oe_rows.specs.Credit.{money_text}
 use Rattle.oe_rows.specs.declared.customers.Credit.{Credit}
 use Rattle.oe_rows.specs.declared.customers.Credit.TheVariants.{Good, Bad}
+use Rattle.oe_rows.specs.declared.histories.History.{History}
 use Rattle.oe_rows.specs.declared.items.Stock.{Stock}
+use Rattle.oe_rows.specs.declared.keys.HistoryKey.{HistoryKey}
 use Rattle.oe_rows.specs.declared.keys.OrderKey.{OrderKey}
 use Rattle.oe_rows.specs.declared.keys.OrderLineKey.{OrderLineKey}
 use Rattle.oe_rows.specs.declared.keys.StockKey.{StockKey}
 use Rattle.oe_rows.specs.declared.orders.Order.{Order}
 use Rattle.oe_rows.specs.declared.orders.OrderLine.{OrderLine}
-use Rattle.oe_texts.specs.Column.{balance_text, rate_text, credit_text, flag_text, line_of}
+use Rattle.oe_texts.specs.Column.{balance_text, credit_text, flag_text, line_of}
 use Rattle.oe_texts.specs.Dump.{order_columns, order_line_columns, stock_columns}
 use Rattle.oe_texts.specs.Stamp.{stamp_text}
 use Rattle.oe_texts.proofs.StampFacts.{stamp_text_says}
@@ -31,7 +33,8 @@ use Rattle.oe_rowlines.specs.declared.forms.Form.{Form}
 use Rattle.oe_rowlines.specs.declared.forms.Form.TheVariants as form
 use Rattle.oe_rowlines.specs.Value.{Value, Null, Number, Text, Money, Balance, Rate, Standing, Flag, Stamp, IsOf}
 use Rattle.oe_rowlines.specs.Value.{Spells}
-use Rattle.oe_rowlines.specs.Line.{joined, fields_of, before_first, AreSpelled}
+use Rattle.oe_rowlines.specs.Line.{Left, joined, fields_of, past, AreSpelled}
+use Rattle.oe_rowlines.specs.Rows.{history_forms, history_values, history_row_forms, history_row_values, behind_key}
 use Rattle.oe_rowlines.specs.Rows.{order_values, order_line_values, stock_values}
 use Rattle.oe_rowlines.specs.Dumped.{text_of, AreOf, AreReadBack}
 use Rattle.oe_rowlines.proofs.WordFacts.{is_small}
@@ -228,3 +231,34 @@ stocks_shown r =
     let s = r.1 in
     ap (λ z. decimal r.0.warehouse ∷ decimal r.0.item ∷ decimal s.quantity ∷ z)
     (texts_shown s.dist_info (Number s.ytd ∷ Number s.order_count ∷ Number s.remote_count ∷ Text s.data ∷ []))
+
+-- ---- a HISTORY row behind its key
+
+spelled_length : (fs : List Form) (vs : List Value) (ss : List (List ℕ)) → AreSpelled fs vs ss → length ss ≡ length fs
+spelled_length [] [] [] h = refl
+spelled_length (f ∷ fs) (v ∷ vs) (s ∷ ss) h = ap suc (spelled_length fs vs ss h.2)
+spelled_length [] [] (s ∷ ss) h = absurd h
+spelled_length [] (v ∷ vs) ss h = absurd h
+spelled_length (f ∷ fs) [] ss h = absurd h
+spelled_length (f ∷ fs) (v ∷ vs) [] h = absurd h
+
+not_eight : (fs : List (List ℕ)) → length fs ≡ 11
+    → behind_key fs ≡ past (past (past (record { column = 0; fields = fs })))
+not_eight fs e = rw e refl
+
+too_short : (n : ℕ) → n ≡ 11 → n < 11 → ⊥
+too_short n e h = omega (arith, e, h)
+
+pub behind_ours : (r : HistoryKey × History) (ss : List (List ℕ))
+    → AreSpelled (joined history_forms) (history_values r) ss
+    → AreSpelled (joined history_row_forms) (history_row_values r.1) (behind_key ss).fields
+behind_ours r (a ∷ b ∷ c ∷ ss) h =
+    let eleven = spelled_length (joined history_forms) (history_values r) (a ∷ b ∷ c ∷ ss) h in
+    subst (λ (l : Left). AreSpelled (joined history_row_forms) (history_row_values r.1) l.fields)
+    (sym (not_eight (a ∷ b ∷ c ∷ ss) eleven))
+    h.2.2.2
+behind_ours r (a ∷ b ∷ []) h =
+    absurd (too_short 2 (spelled_length (joined history_forms) (history_values r) (a ∷ b ∷ []) h) (omega arith))
+behind_ours r (a ∷ []) h =
+    absurd (too_short 1 (spelled_length (joined history_forms) (history_values r) (a ∷ []) h) (omega arith))
+behind_ours r [] h = absurd h

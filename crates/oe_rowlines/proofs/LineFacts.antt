@@ -1,5 +1,5 @@
 -- A line is read exactly: its values, or its first fault.
-use Rattle.std.proofs.Common.{◌≡◌, ℕ, ◌+◌, ◌⊎◌, inl, inr, List, [], ◌∷◌, ◌++◌, ◌&&◌, Bool, true, Option, Some, None}
+use Rattle.std.proofs.Common.{◌≡◌, ℕ, ◌+◌, inl, inr, List, [], ◌∷◌, ◌++◌, true, Option, Some, None}
 use Rattle.std.proofs.Common.{Result, Ok, Err}
 use Rattle.std.proofs.Common.{sym, ap, subst, ◌∙◌, refl}
 use Rattle.std.specs.List.{list_all}
@@ -7,10 +7,10 @@ use Rattle.oe_values.proofs.FrontFacts.{both}
 use Rattle.oe_rowlines.specs.declared.forms.Form.{Form}
 use Rattle.oe_rowlines.specs.declared.forms.LineFault.{LineFault}
 use Rattle.oe_rowlines.specs.declared.forms.LineFault.TheVariants.{NoForm, MissingColumn, ExtraColumn}
-use Rattle.oe_rowlines.specs.Value.{Value, IsOf, Spells}
+use Rattle.oe_rowlines.specs.Value.{Value}
 use Rattle.oe_rowlines.specs.Word.{value_of}
-use Rattle.oe_rowlines.specs.Line.{joined, fields_of, AreSpelled, HasForm, FailsAt, ReadsRow, Left, ◌>>=◌, valued}
-use Rattle.oe_rowlines.specs.Line.{column}
+use Rattle.oe_rowlines.specs.Line.{joined, fields_of, AreSpelled, FailsAt, ReadsLeft, ReadsRow, Left, ◌>>=◌}
+use Rattle.oe_rowlines.specs.Line.{column, valued}
 use Rattle.oe_rowlines.specs.Line.{columns, ended, grouped, row_as}
 use Rattle.oe_rowlines.proofs.WordFacts.{value_found, is_small, value_only}
 
@@ -155,17 +155,20 @@ rows_same : {R : Type 0} (values : R → List Value) → IsInjective values → 
 rows_same values inj (Ok a) b e = ap (λ x. Ok x) (inj a b (cc))
 rows_same values inj (Err x) b e = absurd (cc)
 
+pub left_reads : {R : Type 0} (l : Left) (forms : List (List Form)) (values : R → List Value)
+    → list_all is_small (joined forms) ≡ true → IsInjective values
+    → (r : Result R LineFault) → row_as values r ≡ grouped forms l → ReadsLeft l forms values r
+left_reads l forms values small inj r e =
+    let read = e ∙ grouped_is forms l in
+    record {
+      found = λ x h. whole_found l.column (joined forms) l.fields (values x) (sym read ∙ ap (row_as values) h);
+      finds = λ x h.
+          rows_same values inj r x (read ∙ whole_only l.column (joined forms) (values x) l.fields small h);
+      fault = λ x h. whole_fault l.column (joined forms) l.fields x small (sym read ∙ ap (row_as values) h);
+    }
+
 pub row_reads : {R : Type 0} (place : ℕ) (forms : List (List Form)) (values : R → List Value)
     → list_all is_small (joined forms) ≡ true → IsInjective values
     → (line : List ℕ) (r : Result R LineFault) → row_as values r ≡ grouped forms (left place (fields_of line))
     → ReadsRow place forms values line r
-row_reads place forms values small inj line r e =
-    let read = e ∙ grouped_is forms (left place (fields_of line)) in
-    record {
-      found = λ x h.
-          whole_found place (joined forms) (fields_of line) (values x) (sym read ∙ ap (row_as values) h);
-      finds = λ x h.
-          rows_same values inj r x (read ∙ whole_only place (joined forms) (values x) (fields_of line) small h);
-      fault = λ x h.
-          whole_fault place (joined forms) (fields_of line) x small (sym read ∙ ap (row_as values) h);
-    }
+row_reads place forms values small inj line r e = left_reads (left place (fields_of line)) forms values small inj r e

@@ -3,7 +3,7 @@ use Rattle.std.proofs.Common.{◌≡◌, ℕ, zero, suc, List, [], ◌∷◌, �
 use Rattle.std.proofs.Common.{◌∙◌, refl}
 use Rattle.std.specs.Prelude.{ℤ, pos}
 use Rattle.oe_rows.specs.declared.customers.Credit.{Credit}
-use Rattle.oe_rows.specs.declared.customers.Credit.TheVariants.{Good, Bad}
+use Rattle.oe_rows.specs.declared.customers.Credit.TheVariants.{Good}
 use Rattle.oe_rows.specs.declared.customers.Customer.{Customer}
 use Rattle.oe_rows.specs.declared.districts.District.{District}
 use Rattle.oe_rows.specs.declared.histories.History.{History}

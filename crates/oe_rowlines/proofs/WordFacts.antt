@@ -1,9 +1,9 @@
 -- What is read of a column is spelled there, and what is spelled there is read.
-use Rattle.std.proofs.Common.{◌≡◌, ℕ, zero, suc, ◌+◌, ◌-◌, ◌*◌, ◌/◌, ◌%◌, ◌^◌, ◌<◌, ◌≤◌, ◌⊎◌, inl, inr, List, [], ◌∷◌}
+use Rattle.std.proofs.Common.{◌≡◌, ℕ, zero, suc, ◌+◌, ◌*◌, ◌/◌, ◌%◌, ◌^◌, ◌<◌, ◌≤◌, ◌⊎◌, inl, inr, List, [], ◌∷◌}
 use Rattle.std.proofs.Common.{◌++◌}
-use Rattle.std.proofs.Common.{Bool, true, false, ◌&&◌, ◌||◌, cond, Option, Some, None, length, take, drop, get_or}
+use Rattle.std.proofs.Common.{Bool, true, false, ◌&&◌, ◌||◌, Option, Some, None, length, take, drop, get_or}
 use Rattle.std.proofs.Common.{set, decimal}
-use Rattle.std.proofs.Common.{codes, nat_le, nat_lt, eqb, sym, ap, subst, ◌∙◌, refl, append-nil, append_assoc, arith}
+use Rattle.std.proofs.Common.{codes, nat_le, nat_lt, eqb, sym, ap, subst, ◌∙◌, refl, append-nil, arith}
 use Rattle.std.proofs.Common.{le-leb}
 use Rattle.std.proofs.Common.{length-append}
 use Rattle.std.specs.Prelude.{ℤ, pos, negsuc, ◌==◌}
@@ -21,7 +21,6 @@ use Rattle.oe_values.specs.Text.{IsText}
 use Rattle.oe_values.specs.Stamp.{two_digits, SaysStamp}
 use Rattle.oe_values.specs.Front.{◌>>=◌, after_of, pair_of, decimal_of, alone}
 use Rattle.oe_values.proofs.FrontFacts.{bind_some, some_same, chosen, guarded, both, alone_found, after_found}
-use Rattle.oe_values.proofs.FrontFacts.{after_only}
 use Rattle.oe_values.proofs.FrontFacts.{pair_found, pair_only, decimal_found, decimal_only}
 use Rattle.oe_rows.specs.Credit.{money_text}
 use Rattle.oe_rows.specs.declared.customers.Credit.{Credit}

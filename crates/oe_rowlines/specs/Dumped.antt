@@ -1,6 +1,8 @@
 -- What a dump prints of a row is one of the row's spellings.
 use Rattle.std.specs.Prelude.{◌≡◌, ℕ, List, [], ◌∷◌, ◌++◌, codes, decimal}
 use Rattle.oe_rows.specs.Credit.{money_text}
+use Rattle.oe_rows.specs.declared.histories.History.{History}
+use Rattle.oe_rows.specs.declared.keys.HistoryKey.{HistoryKey}
 use Rattle.oe_texts.specs.Column.{balance_text, rate_text, credit_text, flag_text, line_of}
 use Rattle.oe_texts.specs.Dump.{warehouse_columns, district_columns, customer_columns, history_columns}
 use Rattle.oe_texts.specs.Dump.{new_order_columns, order_columns, order_line_columns, item_columns, stock_columns}
@@ -9,7 +11,8 @@ use Rattle.oe_rowlines.specs.declared.forms.Form.{Form}
 use Rattle.oe_rowlines.specs.Value.{Value, Null, Number, Text, Money, Balance, Rate, Standing, Flag, Stamp, IsOf}
 use Rattle.oe_rowlines.specs.Line.{joined, fields_of, AreSpelled}
 use Rattle.oe_rowlines.specs.Rows.{warehouse_forms, warehouse_values, district_forms, district_values, customer_forms}
-use Rattle.oe_rowlines.specs.Rows.{customer_values, history_forms, history_values, new_order_forms, new_order_values}
+use Rattle.oe_rowlines.specs.Rows.{customer_values, history_forms, history_values, history_row_forms}
+use Rattle.oe_rowlines.specs.Rows.{history_row_values, behind_key, new_order_forms, new_order_values}
 use Rattle.oe_rowlines.specs.Rows.{order_forms, order_values, order_line_forms, order_line_values, item_forms}
 use Rattle.oe_rowlines.specs.Rows.{item_values, stock_forms, stock_values}
 
@@ -41,7 +44,10 @@ pub record Dumps_are_read : Type 0 where
   pub warehouses : AreReadBack warehouse_forms warehouse_values (λ r. warehouse_columns r.0 r.1)
   pub districts : AreReadBack district_forms district_values (λ r. district_columns r.0 r.1)
   pub customers : AreReadBack customer_forms customer_values (λ r. customer_columns r.0 r.1)
-  pub histories : AreReadBack history_forms history_values (λ r. history_columns r.0 r.1)
+  -- of a HISTORY row the standard's columns are read back, and its key is not
+  pub histories : (r : HistoryKey × History) (line : List ℕ) → AreOf (joined history_forms) (history_values r)
+      → line_of (history_columns r.0 r.1) ≡ line ++ 10 ∷ []
+      → AreSpelled (joined history_row_forms) (history_row_values r.1) (behind_key (fields_of line)).fields
   pub new_orders : AreReadBack new_order_forms new_order_values (λ r. new_order_columns r.0)
   pub orders : AreReadBack order_forms order_values (λ r. order_columns r.0 r.1)
   pub order_lines : AreReadBack order_line_forms order_line_values (λ r. order_line_columns r.0 r.1)

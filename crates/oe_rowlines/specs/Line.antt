@@ -41,20 +41,24 @@ FailsAt n (f ∷ fs) [] e = e ≡ MissingColumn n
 FailsAt n (f ∷ fs) (s ∷ ss) e =
     ((HasForm f s → ⊥) × (e ≡ NoForm n f)) ⊎ (HasForm f s × FailsAt (n + 1) fs ss e)
 
--- A row is read exactly where the line spells its values, and else the first fault is told. Its first column has that
--- place among the columns of its table.
-pub record ReadsRow {R : Type 0} (place : ℕ) (forms : List (List Form)) (values : R → List Value) (line : List ℕ)
-    (result : Result R LineFault) : Type 0 where
-  pub found : (r : R) → result ≡ Ok r → AreSpelled (joined forms) (values r) (fields_of line)
-  pub finds : (r : R) → AreSpelled (joined forms) (values r) (fields_of line) → result ≡ Ok r
-  pub fault : (e : LineFault) → result ≡ Err e → FailsAt place (joined forms) (fields_of line) e
-
--- ---- how it is read
-
 -- what is left of a line: the fields, and the place of the first of them among the columns
 pub record Left : Type 0 where
   pub column : ℕ
   pub fields : List (List ℕ)
+
+-- A row is read exactly where what is left of a line spells its values, and else the first fault is told.
+pub record ReadsLeft {R : Type 0} (l : Left) (forms : List (List Form)) (values : R → List Value)
+    (result : Result R LineFault) : Type 0 where
+  pub found : (r : R) → result ≡ Ok r → AreSpelled (joined forms) (values r) l.fields
+  pub finds : (r : R) → AreSpelled (joined forms) (values r) l.fields → result ≡ Ok r
+  pub fault : (e : LineFault) → result ≡ Err e → FailsAt l.column (joined forms) l.fields e
+
+-- The same of a whole line. Its first column has that place among the columns of its table.
+abbrev pub ReadsRow : {R : Type 0} → ℕ → List (List Form) → (R → List Value) → List ℕ → Result R LineFault → Type 0
+ReadsRow place forms values line result =
+    ReadsLeft (record { column = place; fields = fields_of line }) forms values result
+
+-- ---- how it is read
 
 -- the fields of what is left of a line
 abbrev pub left_of : Option (List ℕ) → List (List ℕ)
@@ -68,6 +72,9 @@ first_field (s ∷ ss) = Some s
 abbrev pub past_first : Left → List (List ℕ) → Left
 past_first l [] = l
 past_first l (s ∷ ss) = record { column = l.column + 1; fields = ss }
+
+abbrev pub past : Left → Left
+past l = past_first l l.fields
 
 infixl 10 ◌>>=◌
 abbrev pub ◌>>=◌ : {A B : Type 0} → Result A LineFault → (A → Result B LineFault) → Result B LineFault

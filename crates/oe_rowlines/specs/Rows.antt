@@ -1,6 +1,7 @@
 -- The columns of each table, group by group in the order of a dump: their forms, and the values
 -- of a row (clause 1.3.1).
-use Rattle.std.specs.Prelude.{◌≡◌, ℕ, ◌<◌, ◌≤◌, List, [], ◌∷◌, ◌++◌, length, map, Option, None, Some, Result, Ok, Err}
+use Rattle.std.specs.Prelude.{◌≡◌, ℕ, ◌<◌, ◌≤◌, ◌==◌, List, [], ◌∷◌, ◌++◌, length, map, if◌then◌else◌}
+use Rattle.std.specs.Prelude.{Option, None, Some, Result, Ok, Err}
 use Rattle.oe_values.specs.declared.numbers.TheConstants.{TERMINALS}
 use Rattle.oe_rows.specs.Key.{key_columns}
 use Rattle.oe_rows.specs.declared.customers.Account.{Account}
@@ -30,7 +31,7 @@ use Rattle.oe_rowlines.specs.declared.forms.Form.{Form}
 use Rattle.oe_rowlines.specs.declared.forms.Form.TheVariants as form
 use Rattle.oe_rowlines.specs.declared.forms.LineFault.{LineFault}
 use Rattle.oe_rowlines.specs.declared.forms.LineFault.TheVariants.{NoKey}
-use Rattle.oe_rowlines.specs.Line.{fields_of, ReadsRow}
+use Rattle.oe_rowlines.specs.Line.{Left, fields_of, past, ReadsLeft}
 use Rattle.oe_rowlines.specs.Value.{Value, Null, Number, Text, Money, Balance, Rate, Standing, Flag, Stamp}
 
 -- the columns of a key
@@ -129,25 +130,27 @@ history_forms = history_key_forms ∷ history_row_forms
 abbrev pub history_values : HistoryKey × History → List Value
 history_values (k, h) = key_values (key.History k) ++ history_row_values h
 
+-- What a HISTORY line has behind our key columns, whatever stands in them. A line of eight fields lacks them.
+abbrev pub behind_key : List (List ℕ) → Left
+behind_key fs =
+    if length fs == 8 then record { column = 3; fields = fs }
+    else past (past (past (record { column = 0; fields = fs })))
+
+-- the key of the row that the n-th line spells
+abbrev pub key_of_line : ℕ → HistoryKey
+key_of_line n = record { terminal = 0; number = n; ordinal = 1 }
+
 abbrev pub with_key : HistoryKey → Result History LineFault → Result (HistoryKey × History) LineFault
 with_key k (Ok h) = Ok (k, h)
 with_key k (Err e) = Err e
 
--- the key of a row whose line, the n-th, has no key columns
-abbrev pub key_of_line : ℕ → HistoryKey
-key_of_line n = record { terminal = 0; number = n; ordinal = 1 }
-
--- the row of a line without key columns, the n-th
-pub record ReadsKeyless (n : ℕ) (line : List ℕ) (result : Result (HistoryKey × History) LineFault) : Type 0 where
+-- the row of the n-th line, and its key
+pub record ReadsHistory (n : ℕ) (line : List ℕ) (result : Result (HistoryKey × History) LineFault) : Type 0 where
   pub read : n ≤ 4_294_967_295
-      → (row : Result History LineFault) × ReadsRow 3 history_row_forms history_row_values line row
+      → (row : Result History LineFault)
+      × ReadsLeft (behind_key (fields_of line)) history_row_forms history_row_values row
       × (result ≡ with_key (key_of_line n) row)
   pub no_key : 4_294_967_295 < n → result ≡ Err NoKey
-
--- A HISTORY line has our key columns, or of its eight fields none is one.
-pub record ReadsHistory (n : ℕ) (line : List ℕ) (result : Result (HistoryKey × History) LineFault) : Type 0 where
-  pub keyed : (length (fields_of line) ≡ 8 → ⊥) → ReadsRow 0 history_forms history_values line result
-  pub keyless : length (fields_of line) ≡ 8 → ReadsKeyless n line result
 
 -- _W_ID, _D_ID, _O_ID of NEW-ORDER and ORDER rows
 abbrev pub order_key_forms : List Form

@@ -63,6 +63,13 @@ impl<'a> Fields<'a> {
         }
     }
 
+    /// Passes over the next field, if there is one.
+    pub(crate) fn pass(&mut self)
+        ensures { self.new ≡ past_first self.old self.old.fields }
+    {
+        let _field = self.next();
+    }
+
     /// Takes the next column, where its value is read at the front of what is left.
     #[inline]
     fn take_front<T: ColumnValue>(&mut self) -> Option<T>

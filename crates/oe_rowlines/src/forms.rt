@@ -35,6 +35,6 @@ pub enum LineFault {
     MissingColumn(usize),
     /// All columns have values, and there is more behind them.
     ExtraColumn,
-    /// A HISTORY line without key columns has no number that a key has.
+    /// No HISTORY key has a number as great as the line's.
     NoKey,
 }

@@ -1,8 +1,8 @@
-//! Histories. The standard leaves them without a key, and so may a line; its number stands for one.
+//! Histories. The standard leaves them without a key. A line may have our key columns before the
+//! standard's, as a dump prints them: they are passed over, and the line's number stands for the key.
 ghost use Rattle.std.specs.Prelude.{◌≡◌, ◌==◌, length, count_by};
-ghost use Rattle.oe_rows.specs.declared.keys.Key.TheVariants as kind;
-ghost use Rattle.oe_rowlines.specs.Line.{read_as, row_as, columns, grouped, fields_of, ReadsRow};
-ghost use Rattle.oe_rowlines.specs.Rows.{key_values, history_key_forms, history_row_forms, history_row_values, history_forms, history_values, with_key, key_of_line, ReadsKeyless, ReadsHistory};
+ghost use Rattle.oe_rowlines.specs.Line.{row_as, grouped, fields_of, ReadsLeft};
+ghost use Rattle.oe_rowlines.specs.Rows.{history_row_forms, history_row_values, behind_key, ReadsHistory};
 ghost use Rattle.oe_lines.specs.Words.{within};
 
 use crate::fields::Fields;
@@ -24,19 +24,18 @@ fn has_eight(line: &[u8]) -> bool
     tabs(line) == 7
 }
 
-/// Reads the terminal, the transaction's number and the row's ordinal.
-fn history_key(fields: &mut Fields<'_>) -> Result<HistoryKey, LineFault>
-    ensures { read_as (λ k. key_values (kind.History k)) fields.new result
-        ≡ columns history_key_forms fields.old }
+/// Takes what a line has behind our key columns, which a line of eight fields lacks.
+fn behind_key(line: &[u8]) -> Fields<'_>
+    ensures { result ≡ behind_key (fields_of line.now) }
 {
-    let terminal = fields.column()?;
-    let number = fields.column()?;
-    let ordinal = fields.column()?;
-    Ok(HistoryKey {
-        terminal,
-        number,
-        ordinal,
-    })
+    if has_eight(line) {
+        return Fields::of(line, 3);
+    }
+    let mut fields = Fields::of(line, 0);
+    fields.pass();
+    fields.pass();
+    fields.pass();
+    fields
 }
 
 /// Reads the columns of the standard.
@@ -68,20 +67,12 @@ fn history_row(fields: &mut Fields<'_>) -> Result<History, LineFault>
     })
 }
 
-/// Reads our key's columns, and those of the standard.
-fn history(fields: &mut Fields<'_>) -> Result<(HistoryKey, History), LineFault>
-    ensures { row_as history_values result ≡ grouped history_forms fields.old }
+/// Reads the row of a line, whatever its key columns are.
+fn row_of(line: &[u8]) -> Result<History, LineFault>
+    ensures { ReadsLeft (behind_key (fields_of line.now)) history_row_forms history_row_values
+        result }
 {
-    let key = history_key(fields)?;
-    let row = history_row(fields)?;
-    Ok((key, row))
-}
-
-/// Reads the row of a line without key columns.
-fn keyless_row(line: &[u8]) -> Result<History, LineFault>
-    ensures { ReadsRow 3 history_row_forms history_row_values line.now result }
-{
-    history_row(&mut Fields::of(line, 3))
+    history_row(&mut behind_key(line))
 }
 
 /// Gives a number as that of a transaction, where it is in the range.
@@ -91,9 +82,11 @@ fn transaction_number(number: u64) -> Option<TransactionNumber>
     Number::new(u32::try_from(number).ok()?)
 }
 
-/// Reads the row of the line of this number, which has no key columns.
-fn keyless(line: &[u8], number: u64) -> Result<(HistoryKey, History), LineFault>
-    ensures { ReadsKeyless number line.now result }
+/// Reads the HISTORY row that the line of this number spells. The line stands without its end. Its
+/// key has terminal 0, the line's number and ordinal 1, whatever key columns stand there; `NoKey`
+/// where no key has that number.
+pub fn read_history(line: &[u8], number: u64) -> Result<(HistoryKey, History), LineFault>
+    ensures { ReadsHistory number line.now result }
 {
     let (Some(terminal), Some(ordinal)) = (Number::new(0), Number::new(1)) else {
         unreachable!();
@@ -106,20 +99,8 @@ fn keyless(line: &[u8], number: u64) -> Result<(HistoryKey, History), LineFault>
         number,
         ordinal,
     };
-    match keyless_row(line) {
+    match row_of(line) {
         Ok(row) => Ok((key, row)),
         Err(fault) => Err(fault),
     }
-}
-
-/// Reads the HISTORY row that the line of this number spells, and its key. The line stands without
-/// its end. A line of eight fields has no key: the row then gets terminal 0, the line's number and
-/// ordinal 1; `NoKey` where no key has that number.
-pub fn read_history(line: &[u8], number: u64) -> Result<(HistoryKey, History), LineFault>
-    ensures { ReadsHistory number line.now result }
-{
-    if has_eight(line) {
-        return keyless(line, number);
-    }
-    history(&mut Fields::of(line, 0))
 }

@@ -24,6 +24,8 @@ use Rattle.oe_lines.specs.Grammar.{Says, HasForm}
 use Rattle.oe_lines.specs.Reading.{command_of}
 use Rattle.oe_lines.proofs.GrammarFacts.{read_is_said, said_is_read}
 use Rattle.oe_model.specs.Rows.{Rows}
+use Rattle.oe_model.specs.Conditions.{IsPopulation}
+use Rattle.oe_rows.specs.declared.layouts.Layout.{Layout}
 use Rattle.oe_model.specs.Population.{IsScale, IsPopulated}
 use Rattle.oe_model.specs.System.{system}
 use Rattle.oe_model.proofs.PopulationFacts.{population_is_one}
@@ -34,7 +36,7 @@ use Rattle.oe_core.specs.declared.advances.Advanced.TheVariants as advanced
 use Rattle.oe_ports.specs.Lines.{bad_line}
 use Rattle.oe_script.specs.Script.{State, moment_in, told, Stepped, IsAllowed, Answers, Asks, LineAnswer, RunOfLines}
 use Rattle.oe_script.specs.Script.{Holds, shown_text, RunsIn}
-use Rattle.oe_admission.specs.Programs.{IsLive}
+pub use Rattle.oe_admission.specs.Programs.{IsLive}
 use Rattle.oe_admission.proofs.LiveFacts.{next_live}
 use Rattle.oe_ports.specs.Ports.{Sink, Sent, Cut, Streams}
 use Rattle.oe_script.specs.Hearing.{Takes}
@@ -57,13 +59,17 @@ live_runs : (n : ℕ) (w : World system) (t : ℕ) (x : Answer) (w' : World syst
 live_runs zero w t x w' l r = next_live w _ _ w' l r.1
 live_runs (suc n) w t x w' l r = live_runs n r.0 t x w' (next_live w _ _ r.0 l r.1) r.2
 
+-- a core that is opened on a population is live
+pub opened_live : (r : Rows) (n : ℕ) (l : Layout) → IsPopulation r → (w : World system) → w ≡ opened system r n l
+    → IsLive (Some w)
+opened_live r n l p w is =
+    subst (λ (v : World system). IsLive (Some v)) (sym is)
+    (opening_is_reached system laws r n l (population_is_good r p), λ t. tt)
+
 live_opened : (s : Scale) (ring : RingChoice) (r : Rows) → IsScale s → IsPopulated s r
     → IsLive (Some (opened system r ring.extents (layout_of ring)))
-live_opened s ring r h p = (
-  opening_is_reached system laws r ring.extents (layout_of ring)
-      (population_is_good r (population_is_one.is_population s r h p)),
-  λ t. tt,
-)
+live_opened s ring r h p =
+    opened_live r ring.extents (layout_of ring) (population_is_one.is_population s r h p) _ refl
 
 live_stepped : (w : World system) (i : Step) (text : List ℕ) (s : State) → IsLive (Some w) → Stepped w i text s
     → IsLive s

@@ -48,9 +48,9 @@ HearsRun s n (line ∷ lines) text s' r told =
     × HearsRun r.0 (n + 1) lines r.2 s' r.4 rest × (told ≡ first ++ rest)
 
 -- what is heard of the lines that were answered so far
-abbrev pub HearsReached : (input out : List ℕ) (s : State) (n : ℕ) (line : List ℕ) → Reached input out s n line
-    → List Heard → Type 0
-HearsReached input out s n line r told = HearsRun None 0 r.lines out s r.run told
+abbrev pub HearsReached : (begun : State) (input out : List ℕ) (s : State) (n : ℕ) (line : List ℕ)
+    → Reached begun input out s n line → List Heard → Type 0
+HearsReached begun input out s n line r told = HearsRun begun 0 r.lines out s r.run told
 
 -- what is heard of a last line without its end
 abbrev pub last_heard : ℕ → List ℕ → List Heard
@@ -58,9 +58,9 @@ last_heard n [] = []
 last_heard n (b ∷ bs) = record { number = n; line = []; place = place.Unended } ∷ []
 
 -- what is heard of an input that was answered so
-abbrev pub HearsAll : (input out : List ℕ) → Output input out → List Heard → Type 0
-HearsAll input out o told =
-    (first : List Heard) × HearsRun None 0 o.lines o.answers o.state o.run first
+abbrev pub HearsAll : (begun : State) (input out : List ℕ) → Output begun input out → List Heard → Type 0
+HearsAll begun input out o told =
+    (first : List Heard) × HearsRun begun 0 o.lines o.answers o.state o.run first
     × (told ≡ first ++ last_heard (length o.lines + 1) o.last)
 
 -- a listener becomes another by hearing of each of these lines in turn
@@ -74,7 +74,7 @@ Attends hears s n line l l' r = MatchResult r
     (λ _. (told : List Heard) × HearsLine s n line told × HearsEach hears l told l') (λ _. l' ≡ l)
 
 -- of a front of the input the lines were answered, and this is known of what is heard of them
-pub record HeardFront (input : List ℕ) (IsKnown : List Heard → Type 0) : Type 0 where
+pub record HeardFront (begun : State) (input : List ℕ) (IsKnown : List Heard → Type 0) : Type 0 where
   pub front : List ℕ
   pub rest : List ℕ
   pub out : List ℕ
@@ -83,6 +83,6 @@ pub record HeardFront (input : List ℕ) (IsKnown : List Heard → Type 0) : Typ
   pub line : List ℕ
   pub told : List Heard
   pub whole : input ≡ front ++ rest
-  pub reached : Reached front out state count line
-  pub heard : HearsReached front out state count line reached told
+  pub reached : Reached begun front out state count line
+  pub heard : HearsReached begun front out state count line reached told
   pub known : IsKnown told

@@ -133,8 +133,8 @@ abbrev pub last_text : ℕ → List ℕ → List ℕ
 last_text n [] = []
 last_text n (b ∷ bs) = bad_line n
 
--- the input may be answered by this output
-pub record Output (input out : List ℕ) : Type 0 where
+-- the input may be answered by this output, where a script begins in that state: with nothing open, or opened
+pub record Output (begun : State) (input out : List ℕ) : Type 0 where
   pub lines : List (List ℕ)
   pub last : List ℕ
   pub answers : List ℕ
@@ -142,7 +142,7 @@ pub record Output (input out : List ℕ) : Type 0 where
   pub whole : input ≡ flat_map ended lines ++ last
   pub each : All IsInLine lines
   pub tail : IsInLine last
-  pub run : RunOfLines None 0 lines answers state
+  pub run : RunOfLines begun 0 lines answers state
   pub text : out ≡ answers ++ last_text (length lines + 1) last
 
 -- the bytes of a line so far: held whole while they fit, and only known to be too many afterwards
@@ -151,10 +151,10 @@ Holds held false line = (held ≡ line) × (length line ≤ 1_024)
 Holds held true line = 1_024 < length line
 
 -- of the input these lines were answered, by this output, and a beginning of the next line was read
-pub record Reached (input out : List ℕ) (state : State) (count : ℕ) (line : List ℕ) : Type 0 where
+pub record Reached (begun : State) (input out : List ℕ) (state : State) (count : ℕ) (line : List ℕ) : Type 0 where
   pub lines : List (List ℕ)
   pub whole : input ≡ flat_map ended lines ++ line
   pub each : All IsInLine lines
   pub tail : IsInLine line
   pub counted : count ≡ length lines
-  pub run : RunOfLines None 0 lines out state
+  pub run : RunOfLines begun 0 lines out state

@@ -15,32 +15,35 @@ state_of (Some c) = Some (world_of c)
 
 -- The session stands behind this input: what it has written or holds back is the output so far, and the listener heard
 -- of its lines.
-abbrev pub Standing : {L : Type 0} → (L → Heard → L → Type 0) → L → L → Option Sink → List ℕ → Option Sink → List ℕ
+abbrev pub Standing : {L : Type 0} → State → (L → Heard → L → Type 0) → L → L → Option Sink → List ℕ → Option Sink
+    → List ℕ
     → State → ℕ → List ℕ → Bool → Type 0
-Standing hears first last start input now waits state count held over =
-    (line : List ℕ) × (out : List ℕ) × (r : Reached input out state count line) × Holds held over line
+Standing begun hears first last start input now waits state count held over =
+    (line : List ℕ) × (out : List ℕ) × (r : Reached begun input out state count line) × Holds held over line
     × Sent start [] now waits out
-    × (told : List Heard) × HearsReached input out state count line r told × HearsEach hears first told last
+    × (told : List Heard) × HearsReached begun input out state count line r told × HearsEach hears first told last
 
 -- A call of the writer failed: what was written is a beginning of an output of the input, whatever more of it there is.
-abbrev pub Broken : Option Sink → List ℕ → Option Sink → Type 0
-Broken start input now = (more : List ℕ) → (out : List ℕ) × Output (input ++ more) out × Cut start [] now out
+abbrev pub Broken : State → Option Sink → List ℕ → Option Sink → Type 0
+Broken begun start input now = (more : List ℕ) → (out : List ℕ) × Output begun (input ++ more) out
+    × Cut start [] now out
 
-abbrev pub Fed : {L T E : Type 0} → (L → Heard → L → Type 0) → L → L → Option Sink → List ℕ → Option Sink → List ℕ
+abbrev pub Fed : {L T E : Type 0} → State → (L → Heard → L → Type 0) → L → L → Option Sink → List ℕ → Option Sink
+    → List ℕ
     → State → ℕ → List ℕ → Bool → Result T E → Type 0
-Fed hears first last start input now waits state count held over r =
-    MatchResult r (λ _. Standing hears first last start input now waits state count held over)
-    (λ _. Broken start input now × HeardFront input (λ told. HearsEach hears first told last))
+Fed begun hears first last start input now waits state count held over r =
+    MatchResult r (λ _. Standing begun hears first last start input now waits state count held over)
+    (λ _. Broken begun start input now × HeardFront begun input (λ told. HearsEach hears first told last))
 
 -- The input is answered whole, all of it is written, and the listener heard of it.
-abbrev pub Ended : {L T E : Type 0} → (L → Heard → L → Type 0) → L → L → Option Sink → List ℕ → Option Sink
+abbrev pub Ended : {L T E : Type 0} → State → (L → Heard → L → Type 0) → L → L → Option Sink → List ℕ → Option Sink
     → Result T E → Type 0
-Ended hears first last start input now r =
+Ended begun hears first last start input now r =
     MatchResult r
-    (λ _. (out : List ℕ) × (o : Output input out) × Sent start [] now [] out
-    × (told : List Heard) × HearsAll input out o told × HearsEach hears first told last)
-    (λ _. (out : List ℕ) × Output input out × Cut start [] now out
-    × HeardFront input (λ told. HearsEach hears first told last))
+    (λ _. (out : List ℕ) × (o : Output begun input out) × Sent start [] now [] out
+    × (told : List Heard) × HearsAll begun input out o told × HearsEach hears first told last)
+    (λ _. (out : List ℕ) × Output begun input out × Cut start [] now out
+    × HeardFront begun input (λ told. HearsEach hears first told last))
 
 -- calls gave these bytes, no more calls than bytes, and none failed
 abbrev pub ReadSoFar : Option Source → Option Source → List ℕ → ℕ → Type 0
@@ -50,23 +53,23 @@ ReadSoFar (Some a) (Some b) read calls = (a.remaining ≡ read ++ b.remaining) �
     × (calls ≤ length read)
 
 -- what was written is a beginning of an output of all that was read
-pub record Began (a b : Source) (c d : Sink) : Type 0 where
+pub record Began (begun : State) (a b : Source) (c d : Sink) : Type 0 where
   pub read : List ℕ
   pub out : List ℕ
   pub more : List ℕ
   pub were_read : a.remaining ≡ read ++ b.remaining
-  pub output : Output read out
+  pub output : Output begun read out
   pub written : d.contents ++ more ≡ c.contents ++ out
 
 -- Each whole line that was read is answered, and nothing else was written.
-pub record Answered (a b : Source) (c d : Sink) : Type 0 where
+pub record Answered (begun : State) (a b : Source) (c d : Sink) : Type 0 where
   pub read : List ℕ
   pub answers : List ℕ
   pub state : State
   pub count : ℕ
   pub line : List ℕ
   pub were_read : a.remaining ≡ read ++ b.remaining
-  pub reached : Reached read answers state count line
+  pub reached : Reached begun read answers state count line
   pub written : d.contents ≡ c.contents ++ answers
 
 -- one call of the reader failed; or none did, and the input has 2^64 - 1 bytes or more
@@ -77,33 +80,36 @@ ReadFailed a b = (b.failures ≡ a.failures + 1) ⊎ ((b.failures ≡ a.failures
 -- all of the input is read, and an output of it is written. After a fault one call failed, of the reader or the writer
 -- that it names, and none of the other; but an input of 2^64 - 1 bytes or more may end in a fault of the reader without
 -- one. After a fault of the reader the whole lines are answered.
-abbrev pub ScriptRan : Option Source → Option Source → Option Sink → Option Sink
+abbrev pub ScriptRan : State → Option Source → Option Source → Option Sink → Option Sink
     → Result (Unit {0}) ScriptFault → Type 0
-ScriptRan (Some a) (Some b) (Some c) (Some d) (Ok x) =
+ScriptRan begun (Some a) (Some b) (Some c) (Some d) (Ok x) =
     (b.failures ≡ a.failures) × (d.failures ≡ c.failures) × (b.remaining ≡ [])
-    × (out : List ℕ) × Output a.remaining out × (d.contents ≡ c.contents ++ out)
-ScriptRan (Some a) (Some b) (Some c) (Some d) (Err Read) = ReadFailed a b × (d.failures ≡ c.failures) × Answered a b c d
-ScriptRan (Some a) (Some b) (Some c) (Some d) (Err Write) = (b.failures ≡ a.failures) × (d.failures ≡ c.failures + 1)
-    × Began a b c d
-ScriptRan (Some a) (Some b) (Some c) None r = ⊥
-ScriptRan (Some a) None (Some c) d r = ⊥
-ScriptRan (Some a) b None d r = ⊤
-ScriptRan None b c d r = ⊤
+    × (out : List ℕ) × Output begun a.remaining out × (d.contents ≡ c.contents ++ out)
+ScriptRan begun (Some a) (Some b) (Some c) (Some d) (Err Read) = ReadFailed a b × (d.failures ≡ c.failures)
+    × Answered begun a b c d
+ScriptRan begun (Some a) (Some b) (Some c) (Some d) (Err Write) = (b.failures ≡ a.failures)
+    × (d.failures ≡ c.failures + 1)
+    × Began begun a b c d
+ScriptRan begun (Some a) (Some b) (Some c) None r = ⊥
+ScriptRan begun (Some a) None (Some c) d r = ⊥
+ScriptRan begun (Some a) b None d r = ⊤
+ScriptRan begun None b c d r = ⊤
 
 -- So a script ends, and this is known of what is heard of it: of the whole input without a fault, of the whole lines
 -- that were read after a fault of the reader, and of some first lines after one of the writer.
-abbrev pub ScriptHeard : (List Heard → Type 0) → Option Source → Option Source → Option Sink → Option Sink
+abbrev pub ScriptHeard : State → (List Heard → Type 0) → Option Source → Option Source → Option Sink → Option Sink
     → Result (Unit {0}) ScriptFault → Type 0
-ScriptHeard IsKnown (Some a) (Some b) (Some c) (Some d) (Ok x) =
+ScriptHeard begun IsKnown (Some a) (Some b) (Some c) (Some d) (Ok x) =
     (b.failures ≡ a.failures) × (d.failures ≡ c.failures) × (b.remaining ≡ [])
-    × (out : List ℕ) × (o : Output a.remaining out) × (d.contents ≡ c.contents ++ out)
-    × (told : List Heard) × HearsAll a.remaining out o told × IsKnown told
-ScriptHeard IsKnown (Some a) (Some b) (Some c) (Some d) (Err Read) =
-    ReadFailed a b × (d.failures ≡ c.failures) × (r : Answered a b c d)
-    × (told : List Heard) × HearsReached r.read r.answers r.state r.count r.line r.reached told × IsKnown told
-ScriptHeard IsKnown (Some a) (Some b) (Some c) (Some d) (Err Write) =
-    (b.failures ≡ a.failures) × (d.failures ≡ c.failures + 1) × (r : Began a b c d) × HeardFront r.read IsKnown
-ScriptHeard IsKnown (Some a) (Some b) (Some c) None r = ⊥
-ScriptHeard IsKnown (Some a) None (Some c) d r = ⊥
-ScriptHeard IsKnown (Some a) b None d r = ⊤
-ScriptHeard IsKnown None b c d r = ⊤
+    × (out : List ℕ) × (o : Output begun a.remaining out) × (d.contents ≡ c.contents ++ out)
+    × (told : List Heard) × HearsAll begun a.remaining out o told × IsKnown told
+ScriptHeard begun IsKnown (Some a) (Some b) (Some c) (Some d) (Err Read) =
+    ReadFailed a b × (d.failures ≡ c.failures) × (r : Answered begun a b c d)
+    × (told : List Heard) × HearsReached begun r.read r.answers r.state r.count r.line r.reached told × IsKnown told
+ScriptHeard begun IsKnown (Some a) (Some b) (Some c) (Some d) (Err Write) =
+    (b.failures ≡ a.failures) × (d.failures ≡ c.failures + 1) × (r : Began begun a b c d)
+    × HeardFront begun r.read IsKnown
+ScriptHeard begun IsKnown (Some a) (Some b) (Some c) None r = ⊥
+ScriptHeard begun IsKnown (Some a) None (Some c) d r = ⊥
+ScriptHeard begun IsKnown (Some a) b None d r = ⊤
+ScriptHeard begun IsKnown None b c d r = ⊤

@@ -1,10 +1,14 @@
 //! A script's run from its first byte to its last: lines are found in what the reader gives,
 //! answered in turn, and written at the latest before the next read.
+ghost use Rattle.std.specs.Prelude.{None, Some};
+ghost use Rattle.oe_admission.specs.Programs.{IsLive};
+ghost use Rattle.oe_core.specs.Core.{world_of};
 ghost use Rattle.oe_script.specs.Hearing.{HearsEach};
 ghost use Rattle.oe_script.specs.Session.{ScriptHeard, ScriptRan};
 
 use crate::listeners::{Listener, Quiet};
 use crate::session::{ScriptFault, Session};
+use oe_core::Core;
 use oe_ports::ports::{Intake, Outlet};
 use std::alloc::Global;
 
@@ -20,7 +24,7 @@ pub fn run_script<R: Intake, W: Outlet>(
     reader: &mut R,
     writer: &mut W,
 ) -> Result<(), ScriptFault>
-    ensures { ScriptRan (R.source reader.old) (R.source reader.new)
+    ensures { ScriptRan None (R.source reader.old) (R.source reader.new)
         (W.sink writer.old) (W.sink writer.new) result }
 {
     let mut quiet = Quiet {};
@@ -39,14 +43,33 @@ pub fn hear_script<R: Intake, W: Outlet, H: Listener>(
     writer: &mut W,
     listener: &mut H,
 ) -> Result<(), ScriptFault>
-    ensures ran { ScriptRan (R.source reader.old) (R.source reader.new)
+    ensures ran { ScriptRan None (R.source reader.old) (R.source reader.new)
         (W.sink writer.old) (W.sink writer.new) result }
-    ensures heard { ScriptHeard (λ told. HearsEach H.hears listener.old told listener.new)
+    ensures heard { ScriptHeard None (λ told. HearsEach H.hears listener.old told listener.new)
         (R.source reader.old) (R.source reader.new)
         (W.sink writer.old) (W.sink writer.new) result }
 {
     let mut session = Session::new();
     let ran = session.run(alloc, reader, writer, listener);
+    session.close();
+    ran
+}
+
+/// Answers a script that begins opened, on that core, as `run_script` does: `open` is then none of
+/// the forms. The core is given up at the end.
+pub fn run_opened_script<R: Intake, W: Outlet>(
+    alloc: Global,
+    core: Core,
+    reader: &mut R,
+    writer: &mut W,
+) -> Result<(), ScriptFault>
+    requires { IsLive (Some (world_of core)) }
+    ensures { ScriptRan (Some (world_of core)) (R.source reader.old) (R.source reader.new)
+        (W.sink writer.old) (W.sink writer.new) result }
+{
+    let mut quiet = Quiet {};
+    let mut session = Session::on(core);
+    let ran = session.run(alloc, reader, writer, &mut quiet);
     session.close();
     ran
 }

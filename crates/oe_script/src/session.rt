@@ -1,8 +1,8 @@
 //! One script's run: what is open, the line that is read, and the output that waits.
-ghost use Rattle.std.specs.Prelude.{◌≡◌, ◌<◌, ◌≤◌, ◌+◌, ◌++◌, ◌∷◌, ◌^◌, ◌⊎◌, ℕ, List, [], length, Option, None, true, false, OnOk};
+ghost use Rattle.std.specs.Prelude.{◌≡◌, ◌<◌, ◌≤◌, ◌+◌, ◌++◌, ◌∷◌, ◌^◌, ◌⊎◌, ℕ, List, [], length, Option, None, Some, true, false, OnOk};
 ghost use Rattle.oe_ports.specs.Ports.{Sink, Streams};
 ghost use Rattle.oe_script.specs.Hearing.{place_of, Attends, HearsEach};
-ghost use Rattle.oe_script.specs.Script.{Holds, last_text};
+ghost use Rattle.oe_script.specs.Script.{State, Holds, last_text};
 ghost use Rattle.oe_script.specs.Session.{state_of, Fed, Standing, Ended, ScriptHeard};
 ghost use Rattle.oe_admission.specs.Programs.{IsLive};
 ghost use Rattle.oe_script.specs.Outcome.{Replies};
@@ -58,8 +58,34 @@ impl Session {
           out = record { items = [] };
         } }
     {
+        Session::begun(None)
+    }
+
+    /// Makes a session where that core is open, and nothing read or answered.
+    pub fn on(core: Core) -> Session
+        ensures { result ≡ record {
+          core = Some core;
+          line = record { items = [] };
+          over = false;
+          count = 0;
+          out = record { items = [] };
+        } }
+    {
+        Session::begun(Some(core))
+    }
+
+    /// Makes a session where this is open, and nothing read or answered.
+    fn begun(core: Option<Core>) -> Session
+        ensures { result ≡ record {
+          core = core;
+          line = record { items = [] };
+          over = false;
+          count = 0;
+          out = record { items = [] };
+        } }
+    {
         Session {
-            core: None,
+            core,
             line: ArrayVec::new(),
             over: false,
             count: 0,
@@ -91,12 +117,13 @@ impl Session {
         writer: &mut W,
         listener: &mut H,
     ) -> Result<(), ScriptFault>
-        requires core { self.old.core ≡ None }
+        requires live { IsLive (state_of self.old.core) }
         requires line { self.old.line.items ≡ [] }
         requires over { self.old.over ≡ false }
         requires count { self.old.count ≡ 0 }
         requires out { self.old.out.items ≡ [] }
-        ensures { ScriptHeard (λ told. HearsEach H.hears listener.old told listener.new)
+        ensures { ScriptHeard (state_of self.old.core)
+            (λ told. HearsEach H.hears listener.old told listener.new)
             (R.source reader.old) (R.source reader.new)
             (W.sink writer.old) (W.sink writer.new) result }
     {
@@ -131,10 +158,11 @@ impl Session {
     ) -> Result<(), Failed>
         requires count { self.old.count + length piece.now < 2 ^ 128 }
         requires live { IsLive (state_of self.old.core) }
-        ensures fed { (first : H) (start : Option Sink) (input : List ℕ) →
-            Standing H.hears first listener.old start input (W.sink to.old) self.old.out.items
+        ensures fed { (begun : State) → IsLive begun →
+            (first : H) (start : Option Sink) (input : List ℕ) →
+            Standing begun H.hears first listener.old start input (W.sink to.old) self.old.out.items
             (state_of self.old.core) self.old.count self.old.line.items self.old.over →
-            Fed H.hears first listener.new start (input ++ piece.now) (W.sink to.new)
+            Fed begun H.hears first listener.new start (input ++ piece.now) (W.sink to.new)
             self.new.out.items (state_of self.new.core) self.new.count self.new.line.items
             self.new.over result }
         ensures written { OnOk result (self.new.out.items ≡ []) }
@@ -157,10 +185,11 @@ impl Session {
     ) -> Result<(), Failed>
         requires count { self.old.count + length piece.now < 2 ^ 128 }
         requires live { IsLive (state_of self.old.core) }
-        ensures fed { (first : H) (start : Option Sink) (input : List ℕ) →
-            Standing H.hears first listener.old start input (W.sink to.old) self.old.out.items
+        ensures fed { (begun : State) → IsLive begun →
+            (first : H) (start : Option Sink) (input : List ℕ) →
+            Standing begun H.hears first listener.old start input (W.sink to.old) self.old.out.items
             (state_of self.old.core) self.old.count self.old.line.items self.old.over →
-            Fed H.hears first listener.new start (input ++ piece.now) (W.sink to.new)
+            Fed begun H.hears first listener.new start (input ++ piece.now) (W.sink to.new)
             self.new.out.items (state_of self.new.core) self.new.count self.new.line.items
             self.new.over result }
         ensures count { self.new.count ≤ self.old.count + length piece.now }
@@ -181,10 +210,11 @@ impl Session {
     /// of a last line that has no end.
     fn finish<W: Outlet, H: Listener>(&mut self, to: &mut W, listener: &mut H) -> Result<(), Failed>
         requires { self.old.count + 1 < 2 ^ 128 }
-        ensures { (first : H) (start : Option Sink) (input : List ℕ) →
-            Standing H.hears first listener.old start input (W.sink to.old) self.old.out.items
+        ensures { (begun : State) → IsLive begun →
+            (first : H) (start : Option Sink) (input : List ℕ) →
+            Standing begun H.hears first listener.old start input (W.sink to.old) self.old.out.items
             (state_of self.old.core) self.old.count self.old.line.items self.old.over →
-            Ended H.hears first listener.new start input (W.sink to.new) result }
+            Ended begun H.hears first listener.new start input (W.sink to.new) result }
     {
         let is_begun = self.is_begun();
         let number = self.count + 1;

@@ -27,7 +27,7 @@ each_push : (fs : List SourceFault) (f : SourceFault) (t : Told)
 each_push [] f t = refl
 each_push (g ∷ fs) f t = each_push fs f (pushed g t)
 
-module _ {L : Type 0} (holds : L → List Fact → Type 0) (start : taken.Taken L) where
+module _ {L B : Type 0} (holds : B → L → List Fact → Type 0) (start : taken.Taken L) where
   pub got_as : (rows rows' : List (Table × List Value)) (faults faults' : List SourceFault) (now : taken.Taken L)
       → rows ≡ rows' → faults ≡ faults' → Got holds start rows faults now → Got holds start rows' faults' now
   got_as rows rows' faults faults' now e f g = record {
@@ -41,7 +41,7 @@ module _ {L : Type 0} (holds : L → List Fact → Type 0) (start : taken.Taken 
   got_none = record {
     facts = [];
     are = refl;
-    held = λ before h. subst (λ fs. holds start.ledger fs) (sym (append-nil before)) h;
+    held = λ begun before h. subst (λ fs. holds begun start.ledger fs) (sym (append-nil before)) h;
     told = refl;
   }
 
@@ -55,16 +55,16 @@ module _ {L : Type 0} (holds : L → List Fact → Type 0) (start : taken.Taken 
 
   pub got_row : (rows : List (Table × List Value)) (faults : List SourceFault) (old now : taken.Taken L) (t : Table)
       (n : ℕ) (s : Says) (f : Fact) → s ≡ Row (table_of f) (fact_values f) → now.faults ≡ old.faults
-      → ((facts : List Fact) → holds old.ledger facts → holds now.ledger (facts ++ f ∷ []))
+      → ((begun : B) (facts : List Fact) → holds begun old.ledger facts → holds begun now.ledger (facts ++ f ∷ []))
       → Got holds start rows faults old
       → Got holds start (rows ++ rows_said s) (faults ++ faults_said t n s) now
   got_row rows faults old now t n s f e same takes g = record {
     facts = g.facts ++ f ∷ [];
     are = map-append spelled g.facts (f ∷ []) ∙ ap (λ rs. rs ++ spelled f ∷ []) g.are
         ∙ sym (ap (λ s. rows ++ rows_said s) e);
-    held = λ before h.
-        subst (λ fs. holds now.ledger fs) (append_assoc before g.facts (f ∷ []))
-        (takes (before ++ g.facts) (g.held before h));
+    held = λ begun before h.
+        subst (λ fs. holds begun now.ledger fs) (append_assoc before g.facts (f ∷ []))
+        (takes begun (before ++ g.facts) (g.held begun before h));
     told = same ∙ g.told
         ∙ sym (ap (λ fs. each_pushed fs start.faults)
         (ap (λ s. faults ++ faults_said t n s) e ∙ append-nil faults));
@@ -80,7 +80,7 @@ module _ {L : Type 0} (holds : L → List Fact → Type 0) (start : taken.Taken 
       record {
         facts = g.facts;
         are = g.are ∙ sym (ap (λ s. rows ++ rows_said s) e ∙ append-nil rows);
-        held = λ before h. subst (λ l. holds l (before ++ g.facts)) (sym same) (g.held before h);
+        held = λ begun before h. subst (λ l. holds begun l (before ++ g.facts)) (sym same) (g.held begun before h);
         told = push ∙ ap (pushed f) g.told ∙ sym (each_push faults f start.faults)
             ∙ sym (ap (λ s. each_pushed (faults ++ faults_said t n s) start.faults) e);
       }
@@ -121,7 +121,7 @@ module _ (line_step : ℕ → Reading → List ℕ → Reading × Says) where
   all_push r [] line = refl
   all_push r (l ∷ ls) line = all_push (next line_step r l) ls line
 
-  module _ {L : Type 0} (holds : L → List Fact → Type 0) (start : lines.SoFar L) where
+  module _ {L B : Type 0} (holds : B → L → List Fact → Type 0) (start : lines.SoFar L) where
     next_stands : (r : Read) (line : List ℕ) (old now : lines.SoFar L) (t : Table) (n : ℕ) (s : Says)
         → t ≡ now.reading.table → n ≡ capped (old.count + 1) → now.reading ≡ (line_step n old.reading line).0
         → now.count ≡ n

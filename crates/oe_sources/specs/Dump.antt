@@ -64,13 +64,14 @@ dump_says lines = all_next line_step (begun_read between 0) lines
 abbrev pub dump_faults : Read → List SourceFault
 dump_faults r = r.faults ++ faults_said r.reading.table r.count (end_says r.reading)
 
-abbrev pub DumpTaken : {L : Type 0} → (L → List Fact → Type 0) → dump.DumpLines L → List (List ℕ)
+abbrev pub DumpTaken : {L B : Type 0} → (B → L → List Fact → Type 0) → dump.DumpLines L → List (List ℕ)
     → dump.DumpLines L → Type 0
 DumpTaken holds start ls now = StandsBehind line_step holds start.so_far ls now.so_far
 
 -- A dump was read to its end: the ledger got exactly the facts of the rows that the lines of its sections spell, in
 -- order, and the faults are exactly those of its lines and its end.
-abbrev pub DumpRead : {L : Type 0} → (L → List Fact → Type 0) → L → Option (List ℕ) → Option (List ℕ) → taken.Taken L
+abbrev pub DumpRead : {L B : Type 0} → (B → L → List Fact → Type 0) → L → Option (List ℕ) → Option (List ℕ)
+    → taken.Taken L
     → Type 0
 DumpRead holds ledger old new now =
     (bytes : List ℕ) × AreAll old new bytes × (ls : List (List ℕ)) × AreLines bytes ls

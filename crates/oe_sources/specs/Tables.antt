@@ -46,7 +46,7 @@ module _ (line_step : ℕ → Reading → List ℕ → Reading × Says) where
   all_next r [] = r
   all_next r (line ∷ lines) = all_next (next r line) lines
 
-  module _ {L : Type 0} (holds : L → List Fact → Type 0) (start : lines.SoFar L) where
+  module _ {L B : Type 0} (holds : B → L → List Fact → Type 0) (start : lines.SoFar L) where
     -- where reading stands behind lines that said this
     pub record Stands (r : Read) (now : lines.SoFar L) : Type 0 where
       pub reading : now.reading ≡ r.reading
@@ -68,13 +68,14 @@ file_step n reading line =
 abbrev pub table_says : Table → Format → List (List ℕ) → Read
 table_says t format lines = all_next file_step (begun_read (begun t format) 0) lines
 
-abbrev pub TableTaken : {L : Type 0} → (L → List Fact → Type 0) → table.TableLines L → List (List ℕ)
+abbrev pub TableTaken : {L B : Type 0} → (B → L → List Fact → Type 0) → table.TableLines L → List (List ℕ)
     → table.TableLines L → Type 0
 TableTaken holds start ls now = StandsBehind file_step holds start.so_far ls now.so_far
 
 -- A table's file was read to its end: the ledger got exactly the facts of the rows that its lines spell, in order, and
 -- the faults are exactly those of its lines.
-abbrev pub TableRead : {L : Type 0} → (L → List Fact → Type 0) → Table → Format → L → Option (List ℕ) → Option (List ℕ)
+abbrev pub TableRead : {L B : Type 0} → (B → L → List Fact → Type 0) → Table → Format → L → Option (List ℕ)
+    → Option (List ℕ)
     → taken.Taken L → Type 0
 TableRead holds t format ledger old new now =
     (bytes : List ℕ) × AreAll old new bytes × (ls : List (List ℕ)) × AreLines bytes ls

@@ -25,11 +25,11 @@ faults_said t n (Row u vs) = []
 faults_said t n (Fault w text) = record { table = t; line = n; wrong = w; text = text } ∷ []
 
 -- From the beginning on the ledger got, in order, exactly the facts that these rows spell, and exactly these faults
--- were
--- told.
-pub record Got {L : Type 0} (holds : L → List Fact → Type 0) (start : taken.Taken L) (rows : List (Table × List Value))
-    (faults : List SourceFault) (now : taken.Taken L) : Type 0 where
+-- were told.
+pub record Got {L B : Type 0} (holds : B → L → List Fact → Type 0) (start : taken.Taken L)
+    (rows : List (Table × List Value)) (faults : List SourceFault) (now : taken.Taken L) : Type 0 where
   pub facts : List Fact
   pub are : map spelled facts ≡ rows
-  pub held : (before : List Fact) → holds start.ledger before → holds now.ledger (before ++ facts)
+  pub held : (begun : B) (before : List Fact) → holds begun start.ledger before
+      → holds begun now.ledger (before ++ facts)
   pub told : now.faults ≡ each_pushed faults start.faults

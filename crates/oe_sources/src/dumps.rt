@@ -115,7 +115,8 @@ pub fn read_dump<S: Read, L: Ledger + Drop>(
     source: &mut S,
     ledger: L,
 ) -> Result<Taken<L>, Stop>
-    ensures { IfOk result (DumpRead L.holds ledger (S.remaining source.old) (S.remaining source.new)) }
+    ensures { IfOk result (DumpRead L.holds ledger (S.remaining source.old)
+        (S.remaining source.new)) }
 {
     let mut lines = DumpLines {
         so_far: SoFar::new(alloc, Reading::new_ended(), ledger),

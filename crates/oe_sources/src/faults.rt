@@ -71,7 +71,8 @@ impl Shown {
 
     /// Gives the bytes.
     pub fn as_slice(&self) -> &[u8]
-        ensures { result.now ≡ self.now }
+        ensures value { result.now ≡ self.now }
+        ensures most { length result.now ≤ 40 }
     {
         self.bytes.as_slice()
     }

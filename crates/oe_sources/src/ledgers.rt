@@ -15,13 +15,16 @@ use std::alloc::AllocError;
 
 /// What takes facts, one after another.
 pub trait Ledger {
-    /// It is of exactly these facts, in this order.
-    ghost holds: { Self → List Fact → Type 0 };
+    /// What a ledger is begun with, which no fact changes.
+    ghost Begun: { Type 0 };
+
+    /// Begun with that, it is of exactly these facts, in this order.
+    ghost holds: { Begun → Self → List Fact → Type 0 };
 
     /// Takes one fact more.
     fn take(&mut self, fact: &Fact) -> Result<(), AllocError>
-        ensures { OnOk result ((facts : List Fact) → holds self.old facts →
-            holds self.new (facts ++ fact.now ∷ [])) };
+        ensures { OnOk result ((begun : Begun) (facts : List Fact) → holds begun self.old facts
+            → holds begun self.new (facts ++ fact.now ∷ [])) };
 }
 
 /// A ledger with the facts that were read, and what is wrong with the lines that spell none.

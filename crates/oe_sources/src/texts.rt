@@ -1,5 +1,5 @@
 //! The text of a line, and what it says where it is no row.
-ghost use Rattle.std.specs.Prelude.{◌≡◌};
+ghost use Rattle.std.specs.Prelude.{◌≡◌, false, None};
 ghost use Rattle.std.specs.Option.{option_map};
 ghost use Rattle.oe_sources.specs.Text.{is_word, after_of, before_of, without_mark, without_return, text_of, is_end, counted_by, count_of};
 
@@ -59,10 +59,10 @@ fn without_mark(line: &[u8]) -> &[u8]
 fn without_return(line: &[u8]) -> &[u8]
     ensures { result.now ≡ without_return line.now }
 {
-    match before(line, b"\r") {
-        Some(text) => text,
-        None => line,
+    if line.is_empty() || line[line.len() - 1] != b'\r' {
+        return line;
     }
+    &line[..line.len() - 1]
 }
 
 /// Gives the text of a line: without a carriage return at its end, and the first one without a byte
@@ -96,9 +96,32 @@ fn counted_by(front: &[u8], end: &[u8], text: &[u8]) -> Option<u64>
     number(rest)
 }
 
+/// Tells whether a text may say how many rows there are, by its first byte.
+#[inline]
+fn may_count(text: &[u8]) -> bool
+    ensures { result ≡ false → count_of text.now ≡ None }
+{
+    match text {
+        [first, ..] => *first == b'r' || *first == b'(',
+        [] => false,
+    }
+}
+
 /// Reads how many rows there are: `rows N`, `(N rows)` or `(1 row)`.
-#[tactic(auto, unfolding(crate::specs::Text::count_of))]
+#[inline]
 pub(crate) fn said_count(text: &[u8]) -> Option<u64>
+    ensures { result ≡ count_of text.now }
+{
+    if may_count(text) {
+        return counted(text);
+    }
+    None
+}
+
+// Reads it where there may be one.
+#[inline(never)]
+#[tactic(auto, unfolding(crate::specs::Text::count_of))]
+fn counted(text: &[u8]) -> Option<u64>
     ensures { result ≡ count_of text.now }
 {
     if let Some(n) = counted_by(b"rows ", b"", text) {

@@ -1,15 +1,24 @@
 -- Words in their order.
-use Rattle.std.proofs.Common.{◌≡◌, ◌==◌, ℕ, ◌-◌, ◌≤◌, false, List, [], ◌∷◌, length, take, drop, map, get_or}
-use Rattle.std.proofs.Common.{slice_index, codes, Bor, refl, sym, ap, subst, ◌∙◌, inl, inr, arith}
+use Rattle.std.proofs.Common.{◌≡◌, ◌==◌, ℕ, ◌-◌, ◌<◌, ◌≤◌, true, false, List, [], ◌∷◌, length, take, drop, map, get_or}
+use Rattle.std.proofs.Common.{slice_index, codes, Bor, refl, sym, ap, subst, ◌∙◌, inl, inr, ◌⊎◌, arith}
 use Rattle.std.proofs.Common.{Bool, Option, None, Some}
 use Rattle.std.proofs.lemmas.Bool.{eq-eqb, both_ways}
 use Rattle.std.proofs.lemmas.List.{take_all}
 use Rattle.std.proofs.Common.{◌++◌}
 use Rattle.std.proofs.lemmas.List.{length-drop, take-append-drop, map-append}
+use Rattle.std.proofs.lemmas.Fmt.{decimal_injective}
 use Rattle.std.specs.Fmt.{decimal}
+use Rattle.std.specs.Int.{IsInRange}
+use Rattle.std.specs.Prelude.{MatchOption}
+use Rattle.oe_rows.specs.declared.layouts.Layout.{Layout}
+use Rattle.oe_rows.specs.declared.layouts.Layout.TheVariants.{WholeRows, ChangedColumns}
 use Rattle.oe_numbers.specs.declared.kinds.Kinds.{Kinds}
-use Rattle.oe_tasks.specs.Words.{AsksScript, AsksExplain, AsksSerial, AsksDrive, AsksAudit, NamesFile, NamesTables}
-use Rattle.oe_tasks.specs.Words.{IsPlain, AreAuditOptions, AsksLoad, AreLoadOptions}
+use Rattle.oe_tasks.specs.Words.{AsksScript, AsksExplain, AsksSerial, AsksDrive, AsksAudit, Names, NamesFile}
+use Rattle.oe_tasks.specs.Words.{IsPlain, Says, no_options, AsksLoad, AreLoadOptions, csv_words, directory_words}
+use Rattle.oe_tasks.specs.Words.{IsDirectory, AreTablesOptions, AreSerialOptions, layout_word, AsksFile, AsksLayout}
+use Rattle.oe_tasks.specs.Words.{AsksExtents, AsksOpened}
+use Rattle.oe_tasks.specs.declared.SerialOptions.{SerialOptions}
+use Rattle.oe_tasks.specs.declared.AuditOptions.{AuditOptions}
 use Rattle.oe_tasks.specs.declared.Task.{Task}
 use Rattle.oe_numbers.specs.declared.drives.DriveNumbers.{DriveNumbers}
 use Rattle.oe_numbers.specs.Words.{AreInRange, words_of}
@@ -25,23 +34,21 @@ two f (x ∷ []) b h i e = absurd (omega (arith, h))
 two f (x ∷ y ∷ []) b h i e = (ap f (sym i) ∙ e, refl)
 two f (x ∷ y ∷ z ∷ r) b h i e = absurd (omega (arith, h))
 
-pub three : {X : Type 0} (f : X → List ℕ) (ws : List X) (c : X) (name : Bor (List ℕ)) → length ws ≡ 3
-    → c ≡ get_or ws 2 c → name.now ≡ f c → IsPlain name.now → NamesFile (map f ws) name.now
-three f [] c name h j n p = absurd (omega (arith, h))
-three f (x ∷ []) c name h j n p = absurd (omega (arith, h))
-three f (x ∷ y ∷ []) c name h j n p = absurd (omega (arith, h))
-three f (x ∷ y ∷ z ∷ []) c name h j n p = inl (ap (λ t. t ∷ []) (ap f (sym j) ∙ sym n), p)
-three f (x ∷ y ∷ z ∷ w ∷ r) c name h j n p = absurd (omega (arith, h))
+-- the words behind a verb
+behind_verb : {X : Type 0} (ws : List X) → 2 ≤ length ws → take (length ws - 2) (drop 2 ws) ≡ drop 2 ws
+behind_verb [] h = absurd (omega (arith, h))
+behind_verb (x ∷ []) h = absurd (omega (arith, h))
+behind_verb (x ∷ y ∷ r) h = take_all (length (x ∷ y ∷ r) - 2) r (omega arith)
 
-pub four : {X : Type 0} (f : X → List ℕ) (ws : List X) (c d : X) (name : Bor (List ℕ)) → length ws ≡ 4
-    → c ≡ get_or ws 2 c → f c ≡ codes "--" → d ≡ get_or ws 3 d → name.now ≡ f d → NamesFile (map f ws) name.now
-four f [] c d name h j l k n = absurd (omega (arith, h))
-four f (x ∷ []) c d name h j l k n = absurd (omega (arith, h))
-four f (x ∷ y ∷ []) c d name h j l k n = absurd (omega (arith, h))
-four f (x ∷ y ∷ z ∷ []) c d name h j l k n = absurd (omega (arith, h))
-four f (x ∷ y ∷ z ∷ w ∷ []) c d name h j l k n =
-    inr (ap (λ t. t ∷ f w ∷ []) (ap f (sym j) ∙ l) ∙ ap (λ t. codes "--" ∷ t ∷ []) (ap f (sym k) ∙ sym n))
-four f (x ∷ y ∷ z ∷ w ∷ v ∷ r) c d name h j l k n = absurd (omega (arith, h))
+pub file_named : {X : Type 0} (f : X → List ℕ) (ws : List X) (r : Option (Bor (List ℕ))) → 2 ≤ length ws
+    → MatchOption r ((file : List ℕ) → Names (map f (take (length ws - 2) (drop 2 ws))) file → ⊥)
+    (λ file. Names (map f (take (length ws - 2) (drop 2 ws))) file.now)
+    → MatchOption r ((file : List ℕ) → NamesFile (map f ws) file → ⊥) (λ file. NamesFile (map f ws) file.now)
+file_named f [] r h m = absurd (omega (arith, h))
+file_named f (x ∷ []) r h m = absurd (omega (arith, h))
+file_named {X = X} f (x ∷ y ∷ ws) r h m =
+    subst (λ (ts : List X). MatchOption r ((file : List ℕ) → Names (map f ts) file → ⊥)
+    (λ file. Names (map f ts) file.now)) (behind_verb (x ∷ y ∷ ws) h) m
 
 -- a verb before a file's name
 pub named : {X : Type 0} (f : X → List ℕ) (ws : List X) (b : X) (name : Bor (List ℕ)) → 2 ≤ length ws
@@ -50,39 +57,6 @@ pub named : {X : Type 0} (f : X → List ℕ) (ws : List X) (b : X) (name : Bor 
 named f [] b name h i e n = absurd (omega (arith, h))
 named f (x ∷ []) b name h i e n = absurd (omega (arith, h))
 named f (x ∷ y ∷ r) b name h i e n = (ap f (sym i) ∙ e, n)
-
-pub serial : {X : Type 0} (f : X → List ℕ) (ws : List X) (b : X) (name : Bor (List ℕ)) → 2 ≤ length ws
-    → b ≡ get_or ws 1 b → f b ≡ codes "serial" → NamesFile (map f ws) name.now
-    → AsksSerial (map f ws) (task.Serial name None)
-serial f [] b name h i e n = absurd (omega (arith, h))
-serial f (x ∷ []) b name h i e n = absurd (omega (arith, h))
-serial f (x ∷ y ∷ r) b name h i e n = (ap f (sym i) ∙ e, n)
-
--- with a directory of tables
-pub with_tables : {X : Type 0} (f : X → List ℕ) (ws : List X) (b : X) (file directory : Bor (List ℕ)) → 2 ≤ length ws
-    → b ≡ get_or ws 1 b → f b ≡ codes "serial" → NamesTables (map f ws) file.now directory.now
-    → AsksSerial (map f ws) (task.Serial file (Some directory))
-with_tables f [] b file directory h i e n = absurd (omega (arith, h))
-with_tables f (x ∷ []) b file directory h i e n = absurd (omega (arith, h))
-with_tables f (x ∷ y ∷ r) b file directory h i e n = (ap f (sym i) ∙ e, n)
-
-pub five : {X : Type 0} (f : X → List ℕ) (ws : List X) (b c d : X) (file directory : Bor (List ℕ)) → length ws ≡ 5
-    → b ≡ get_or ws 2 b → file.now ≡ f b → c ≡ get_or ws 3 c → f c ≡ codes "--tables" → d ≡ get_or ws 4 d
-    → directory.now ≡ f d → IsPlain file.now → IsPlain directory.now
-    → NamesTables (map f ws) file.now directory.now
-five f [] b c d file directory h i n j m k o p q = absurd (omega (arith, h))
-five f (x ∷ []) b c d file directory h i n j m k o p q = absurd (omega (arith, h))
-five f (x ∷ y ∷ []) b c d file directory h i n j m k o p q = absurd (omega (arith, h))
-five f (x ∷ y ∷ z ∷ []) b c d file directory h i n j m k o p q = absurd (omega (arith, h))
-five f (x ∷ y ∷ z ∷ w ∷ []) b c d file directory h i n j m k o p q = absurd (omega (arith, h))
-five f (x ∷ y ∷ z ∷ w ∷ v ∷ []) b c d file directory h i n j m k o p q = (
-  ap (λ t. t ∷ f w ∷ f v ∷ []) (ap f (sym i) ∙ sym n)
-      ∙ (ap (λ t. file.now ∷ t ∷ f v ∷ []) (ap f (sym j) ∙ m)
-      ∙ ap (λ t. file.now ∷ codes "--tables" ∷ t ∷ []) (ap f (sym k) ∙ sym o)),
-  p,
-  q,
-)
-five f (x ∷ y ∷ z ∷ w ∷ v ∷ u ∷ r) b c d file directory h i n j m k o p q = absurd (omega (arith, h))
 
 -- and no name behind it
 pub no_script : {X : Type 0} (f : X → List ℕ) (ws : List X) → (length ws ≡ 2 → ⊥)
@@ -93,24 +67,11 @@ no_script f (x ∷ y ∷ []) h n task.Script a = h refl
 no_script f (x ∷ y ∷ z ∷ r) h n task.Script a = cc
 no_script f (x ∷ y ∷ r) h n (task.File name) a = n name.now a.1
 no_script f (x ∷ y ∷ r) h n (task.Explain name) a = a
-no_script f (x ∷ y ∷ r) h n (task.Serial name tables) a = a
+no_script f (x ∷ y ∷ r) h n (task.Serial name from tables csv) a = a
 no_script f (x ∷ y ∷ r) h n (task.Drive d) a = a
-no_script f (x ∷ y ∷ r) h n (task.Audit name first csv) a = a
+no_script f (x ∷ y ∷ r) h n (task.Opened d e l file) a = a
+no_script f (x ∷ y ∷ r) h n (task.Audit name options) a = a
 no_script f (x ∷ y ∷ r) h n (task.Load d kinds flat) a = a
-
-pub no_serial : {X : Type 0} (f : X → List ℕ) (ws : List X) → ((file : List ℕ) → NamesFile (map f ws) file → ⊥)
-    → ((file directory : List ℕ) → NamesTables (map f ws) file directory → ⊥)
-    → (t : Task) → AsksSerial (map f ws) t → ⊥
-no_serial f [] n m t a = a
-no_serial f (x ∷ []) n m t a = a
-no_serial f (x ∷ y ∷ r) n m task.Script a = a
-no_serial f (x ∷ y ∷ r) n m (task.File name) a = a
-no_serial f (x ∷ y ∷ r) n m (task.Explain name) a = a
-no_serial f (x ∷ y ∷ r) n m (task.Serial name None) a = n name.now a.1
-no_serial f (x ∷ y ∷ r) n m (task.Serial name (Some directory)) a = m name.now directory.now a.1
-no_serial f (x ∷ y ∷ r) n m (task.Drive d) a = a
-no_serial f (x ∷ y ∷ r) n m (task.Audit name first csv) a = a
-no_serial f (x ∷ y ∷ r) n m (task.Load d kinds flat) a = a
 
 -- the mark behind the verb, and a file's name behind it or none
 pub explains : {X : Type 0} (f : X → List ℕ) (ws : List X) (b d : X) → length ws ≡ 3 → b ≡ get_or ws 1 b
@@ -152,9 +113,10 @@ no_explain {X = X} f (x ∷ y ∷ z ∷ r) h n (task.Explain (Some name)) a =
     (sym (from_verb (x ∷ y ∷ z ∷ r) (omega arith))) a.2)
 no_explain f (x ∷ y ∷ z ∷ r) h n task.Script a = a
 no_explain f (x ∷ y ∷ z ∷ r) h n (task.File name) a = a
-no_explain f (x ∷ y ∷ z ∷ r) h n (task.Serial name tables) a = a
+no_explain f (x ∷ y ∷ z ∷ r) h n (task.Serial name from tables csv) a = a
 no_explain f (x ∷ y ∷ z ∷ r) h n (task.Drive d) a = a
-no_explain f (x ∷ y ∷ z ∷ r) h n (task.Audit name first csv) a = a
+no_explain f (x ∷ y ∷ z ∷ r) h n (task.Opened d e l file) a = a
+no_explain f (x ∷ y ∷ z ∷ r) h n (task.Audit name options) a = a
 no_explain f (x ∷ y ∷ z ∷ r) h n (task.Load d kinds flat) a = a
 
 pub drives : {X : Type 0} (f : X → List ℕ) (ws : List X) (b : X) (d : DriveNumbers) → 2 ≤ length ws → b ≡ get_or ws 1 b
@@ -166,24 +128,24 @@ drives f (x ∷ y ∷ r) b d h i e ranges words =
     let whole : take (length (x ∷ y ∷ r) - 2) r ≡ r = take_all (length (x ∷ y ∷ r) - 2) r (omega arith) in
     (ap f (sym i) ∙ e, ranges, ap (map f) (sym whole) ∙ words)
 
-pub audits : {X : Type 0} (f : X → List ℕ) (ws : List X) (b d : X) (name : Bor (List ℕ)) (first : Option ℕ) (csv : Bool)
-    → 3 ≤ length ws → b ≡ get_or ws 1 b → f b ≡ codes "audit" → d ≡ get_or ws 2 d → name.now ≡ f d → IsPlain name.now
-    → AreAuditOptions (map f (take (length ws - 3) (drop 3 ws))) first csv
-    → AsksAudit (map f ws) (task.Audit name first csv)
-audits f [] b d name first csv h i e j n p options = absurd (omega (arith, h))
-audits f (x ∷ []) b d name first csv h i e j n p options = absurd (omega (arith, h))
-audits f (x ∷ y ∷ []) b d name first csv h i e j n p options = absurd (omega (arith, h))
-audits {X = X} f (x ∷ y ∷ z ∷ r) b d name first csv h i e j n p options =
+pub audits : {X : Type 0} (f : X → List ℕ) (ws : List X) (b d : X) (name : Bor (List ℕ)) (options : AuditOptions)
+    → 3 ≤ length ws → b ≡ get_or ws 1 b → f b ≡ codes "audit" → d ≡ get_or ws 2 d → name.now ≡ f d
+    → (IsPlain name.now ⊎ (name.now ≡ codes "-")) → Says no_options (map f (take (length ws - 3) (drop 3 ws))) options
+    → AsksAudit (map f ws) (task.Audit name options)
+audits f [] b d name options h i e j n p said = absurd (omega (arith, h))
+audits f (x ∷ []) b d name options h i e j n p said = absurd (omega (arith, h))
+audits f (x ∷ y ∷ []) b d name options h i e j n p said = absurd (omega (arith, h))
+audits {X = X} f (x ∷ y ∷ z ∷ r) b d name options h i e j n p said =
     let whole : take (length (x ∷ y ∷ z ∷ r) - 3) r ≡ r = take_all (length (x ∷ y ∷ z ∷ r) - 3) r (omega arith) in
     let named : name.now ≡ f z = n ∙ ap f j in (
       ap f (sym i) ∙ e,
       sym named,
-      λ q. p (ap (λ t. slice_index t 0) named ∙ q),
-      subst (λ (ts : List X). AreAuditOptions (map f ts) first csv) whole options,
+      subst (λ word. IsPlain word ⊎ (word ≡ codes "-")) named p,
+      subst (λ (ts : List X). Says no_options (map f ts) options) whole said,
     )
 
 pub no_audit : {X : Type 0} (f : X → List ℕ) (ws : List X)
-    → ((first : Option ℕ) (csv : Bool) → AreAuditOptions (map f (take (length ws - 3) (drop 3 ws))) first csv → ⊥)
+    → ((options : AuditOptions) → Says no_options (map f (take (length ws - 3) (drop 3 ws))) options → ⊥)
     → (t : Task) → AsksAudit (map f ws) t → ⊥
 no_audit f [] n t a = a
 no_audit f (x ∷ []) n t a = a
@@ -191,11 +153,12 @@ no_audit f (x ∷ y ∷ []) n t a = a
 no_audit f (x ∷ y ∷ z ∷ r) n task.Script a = a
 no_audit f (x ∷ y ∷ z ∷ r) n (task.File name) a = a
 no_audit f (x ∷ y ∷ z ∷ r) n (task.Explain name) a = a
-no_audit f (x ∷ y ∷ z ∷ r) n (task.Serial name tables) a = a
+no_audit f (x ∷ y ∷ z ∷ r) n (task.Serial name from tables csv) a = a
 no_audit f (x ∷ y ∷ z ∷ r) n (task.Drive d) a = a
-no_audit {X = X} f (x ∷ y ∷ z ∷ r) n (task.Audit name first csv) a =
+no_audit f (x ∷ y ∷ z ∷ r) n (task.Opened d e l file) a = a
+no_audit {X = X} f (x ∷ y ∷ z ∷ r) n (task.Audit name options) a =
     let whole : take (length (x ∷ y ∷ z ∷ r) - 3) r ≡ r = take_all (length (x ∷ y ∷ z ∷ r) - 3) r (omega arith) in
-    n first csv (subst (λ (ts : List X). AreAuditOptions (map f ts) first csv) (sym whole) a.3)
+    n options (subst (λ (ts : List X). Says no_options (map f ts) options) (sym whole) a.3)
 no_audit f (x ∷ y ∷ z ∷ r) n (task.Load d kinds flat) a = a
 
 -- LOADS
@@ -257,9 +220,10 @@ no_load f (x ∷ []) n t a = a
 no_load f (x ∷ y ∷ r) n task.Script a = a
 no_load f (x ∷ y ∷ r) n (task.File name) a = a
 no_load f (x ∷ y ∷ r) n (task.Explain name) a = a
-no_load f (x ∷ y ∷ r) n (task.Serial name tables) a = a
+no_load f (x ∷ y ∷ r) n (task.Serial name from tables csv) a = a
 no_load f (x ∷ y ∷ r) n (task.Drive d) a = a
-no_load f (x ∷ y ∷ r) n (task.Audit name first csv) a = a
+no_load f (x ∷ y ∷ r) n (task.Opened d e l file) a = a
+no_load f (x ∷ y ∷ r) n (task.Audit name options) a = a
 no_load f (x ∷ y ∷ r) n (task.Load d kinds flat) a = n kinds flat (load_parts f (x ∷ y ∷ r) d kinds flat a).3
 
 pub single : {X : Type 0} (f : X → List ℕ) (ws : List X) (b : X) → length ws ≡ 1 → b ≡ get_or ws 0 b
@@ -284,3 +248,368 @@ triple f (x ∷ y ∷ z ∷ []) b d e h i j k =
     ap (λ t. t ∷ f y ∷ f z ∷ []) (ap f (sym i)) ∙ ap (λ t. f b ∷ t ∷ f z ∷ []) (ap f (sym j))
     ∙ ap (λ t. f b ∷ f d ∷ t ∷ []) (ap f (sym k))
 triple f (x ∷ y ∷ z ∷ w ∷ r) b d e h i j k = absurd (omega (arith, h))
+
+-- a file's name alone, or behind the mark
+pub one_name : {X : Type 0} (f : X → List ℕ) (ws : List X) (b : X) (name : Bor (List ℕ)) → length ws ≡ 1
+    → b ≡ get_or ws 0 b → name.now ≡ f b → IsPlain name.now → Names (map f ws) name.now
+one_name f ws b name h i n p = inl (single f ws b h i ∙ ap (λ t. t ∷ []) (sym n), p)
+
+pub marked_name : {X : Type 0} (f : X → List ℕ) (ws : List X) (b d : X) (name : Bor (List ℕ)) → length ws ≡ 2
+    → b ≡ get_or ws 0 b → f b ≡ codes "--" → d ≡ get_or ws 1 d → name.now ≡ f d → Names (map f ws) name.now
+marked_name f ws b d name h i l j n =
+    inr (pair f ws b d h i j ∙ ap (λ t. t ∷ f d ∷ []) l ∙ ap (λ t. codes "--" ∷ t ∷ []) (sym n))
+
+-- OPTIONS
+
+-- two words, and what stands behind them
+pub two_first : {X : Type 0} (f : X → List ℕ) (ws : List X) (b d : X) (mark : List ℕ) (word : Bor (List ℕ))
+    → 2 ≤ length ws → b ≡ get_or ws 0 b → f b ≡ mark → d ≡ get_or ws 1 d → word.now ≡ f d
+    → map f ws ≡ mark ∷ word.now ∷ map f (take (length ws - 2) (drop 2 ws))
+two_first f [] b d mark word h i m j n = absurd (omega (arith, h))
+two_first f (x ∷ []) b d mark word h i m j n = absurd (omega (arith, h))
+two_first f (x ∷ y ∷ r) b d mark word h i m j n =
+    ap (λ t. t ∷ f y ∷ map f r) (ap f (sym i) ∙ m) ∙ ap (λ t. mark ∷ t ∷ map f r) (ap f (sym j) ∙ sym n)
+    ∙ ap (λ ts. mark ∷ word.now ∷ map f ts) (sym (take_all (length (x ∷ y ∷ r) - 2) r (omega arith)))
+
+pub not_first : {X : Type 0} (f : X → List ℕ) (ws : List X) (b : X) (mark word : List ℕ) (rest : List (List ℕ))
+    → b ≡ get_or ws 0 b → (f b ≡ mark → ⊥) → map f ws ≡ mark ∷ word ∷ rest → ⊥
+not_first f [] b mark word rest i other e = cc
+not_first f (x ∷ r) b mark word rest i other e = other (ap f i ∙ head)
+  where
+    head : f x ≡ mark
+    head = cc
+
+pub not_two : {X : Type 0} (f : X → List ℕ) (ws : List X) (mark word : List ℕ) (rest : List (List ℕ)) → length ws < 2
+    → map f ws ≡ mark ∷ word ∷ rest → ⊥
+not_two f [] mark word rest h e = cc
+not_two f (x ∷ []) mark word rest h e = cc
+not_two f (x ∷ y ∷ r) mark word rest h e = omega (arith, h)
+
+pub not_none : {X : Type 0} (f : X → List ℕ) (ws : List X) → (length ws ≡ 0 → ⊥) → map f ws ≡ [] → ⊥
+not_none f [] some e = some refl
+not_none f (x ∷ r) some e = cc
+
+-- words that begin with a mark name no file
+second : (a b : List ℕ) (x y : List (List ℕ)) {m n : List ℕ} → m ∷ a ∷ x ≡ n ∷ b ∷ y → a ≡ b
+second a b x y e = cc
+
+third : (a b : List ℕ) (x y : List (List ℕ)) {m n : List ℕ} → m ∷ a ∷ x ≡ n ∷ b ∷ y → x ≡ y
+third a b x y e = cc
+
+module _ (d : List ℕ) (n : ℕ) where
+  not_file : (l : Layout) (mark w : List ℕ) (ws : List (List ℕ)) → (codes "--" ≡ mark → ⊥) → (t : Task)
+      → AsksFile d n l (mark ∷ w ∷ ws) t → ⊥
+  not_file l mark w ws other (task.Opened e k m None) a = let no = a.3 in cc
+  not_file l mark w ws other (task.Opened e k m (Some file)) a = by a.3
+    where
+      by : Names (mark ∷ w ∷ ws) file.now → ⊥
+      by (inl h) = let no = h.0 in cc
+      by (inr h) = let same : codes "--" ≡ mark = cc in other same
+  not_file l mark w ws other task.Script a = a
+  not_file l mark w ws other (task.File name) a = a
+  not_file l mark w ws other (task.Explain name) a = a
+  not_file l mark w ws other (task.Serial name from tables csv) a = a
+  not_file l mark w ws other (task.Drive e) a = a
+  not_file l mark w ws other (task.Audit name options) a = a
+  not_file l mark w ws other (task.Load e kinds flat) a = a
+
+  -- words that are some, and name no file
+  pub no_file : (l : Layout) (ws : List (List ℕ)) → (ws ≡ [] → ⊥) → ((file : List ℕ) → Names ws file → ⊥)
+      → (t : Task) → AsksFile d n l ws t → ⊥
+  no_file l ws some none (task.Opened e k m None) a = some a.3
+  no_file l ws some none (task.Opened e k m (Some file)) a = none file.now a.3
+  no_file l ws some none task.Script a = a
+  no_file l ws some none (task.File name) a = a
+  no_file l ws some none (task.Explain name) a = a
+  no_file l ws some none (task.Serial name from tables csv) a = a
+  no_file l ws some none (task.Drive e) a = a
+  no_file l ws some none (task.Audit name options) a = a
+  no_file l ws some none (task.Load e kinds flat) a = a
+
+  not_layout : (w : List ℕ) (ws : List (List ℕ)) (t : Task) → AsksLayout d n (codes "--extents" ∷ w ∷ ws) t → ⊥
+  not_layout w ws t (None, rest, e, a) =
+      not_file WholeRows (codes "--extents") w ws (λ same. cc) t
+      (subst (λ (ts : List (List ℕ)). AsksFile d n WholeRows ts t) (sym e) a)
+  not_layout w ws t (Some l, rest, e, a) = let first : codes "--extents" ≡ codes "--layout" = cc in cc
+
+  layout_same : (l m : Layout) → layout_word l ≡ layout_word m → l ≡ m
+  layout_same WholeRows WholeRows e = refl
+  layout_same WholeRows ChangedColumns e = absurd (omega (arith, ap (λ w. slice_index w 0) e))
+  layout_same ChangedColumns WholeRows e = absurd (omega (arith, ap (λ w. slice_index w 0) e))
+  layout_same ChangedColumns ChangedColumns e = refl
+
+  -- the words behind the extents, where none says the layout
+  pub without_layout : (ws : List (List ℕ)) (r : Option Task)
+      → ((word : List ℕ) (rest : List (List ℕ)) → ws ≡ codes "--layout" ∷ word ∷ rest → ⊥)
+      → MatchOption r ((t : Task) → AsksFile d n WholeRows ws t → ⊥) (AsksFile d n WholeRows ws)
+      → MatchOption r ((t : Task) → AsksLayout d n ws t → ⊥) (AsksLayout d n ws)
+  without_layout ws None none m = λ t a. by t a
+    where
+      by : (t : Task) → AsksLayout d n ws t → ⊥
+      by t (None, rest, e, a) = m t (subst (λ (ts : List (List ℕ)). AsksFile d n WholeRows ts t) (sym e) a)
+      by t (Some l, rest, e, a) = none (layout_word l) rest e
+  without_layout ws (Some t) none m = (None, ws, refl, m)
+
+  -- where a word says it
+  pub with_layout : (ws : List (List ℕ)) (word : List ℕ) (rest : List (List ℕ)) (l : Layout) (r : Option Task)
+      → ws ≡ codes "--layout" ∷ word ∷ rest → word ≡ layout_word l
+      → MatchOption r ((t : Task) → AsksFile d n l rest t → ⊥) (AsksFile d n l rest)
+      → MatchOption r ((t : Task) → AsksLayout d n ws t → ⊥) (AsksLayout d n ws)
+  with_layout ws word rest l None is named m = λ t a. by t a
+    where
+      by : (t : Task) → AsksLayout d n ws t → ⊥
+      by t (None, more, e, a) =
+          not_file WholeRows (codes "--layout") word rest (λ same. cc) t
+          (subst (λ (ts : List (List ℕ)). AsksFile d n WholeRows ts t) (sym e ∙ is) a)
+      by t (Some k, more, e, a) =
+          let both : codes "--layout" ∷ layout_word k ∷ more ≡ codes "--layout" ∷ word ∷ rest = sym e ∙ is in
+          let same : layout_word k ≡ layout_word l = second _ _ _ _ both ∙ named in
+          let behind : more ≡ rest = third _ _ _ _ both in
+          m t (subst (λ (ts : List (List ℕ)). AsksFile d n l ts t) behind
+          (subst (λ (l : Layout). AsksFile d n l more t) (layout_same k l same) a))
+  with_layout ws word rest l (Some t) is named m =
+      (Some l, rest, is ∙ ap (λ z. codes "--layout" ∷ z ∷ rest) named, m)
+
+  -- where the word is of no layout
+  pub bad_layout : (ws : List (List ℕ)) (word : List ℕ) (rest : List (List ℕ))
+      → ws ≡ codes "--layout" ∷ word ∷ rest → ((l : Layout) → word ≡ layout_word l → ⊥) → (t : Task)
+      → AsksLayout d n ws t → ⊥
+  bad_layout ws word rest is none t (None, more, e, a) =
+      not_file WholeRows (codes "--layout") word rest (λ same. cc) t
+      (subst (λ (ts : List (List ℕ)). AsksFile d n WholeRows ts t) (sym e ∙ is) a)
+  bad_layout ws word rest is none t (Some k, more, e, a) =
+      let both : codes "--layout" ∷ layout_word k ∷ more ≡ codes "--layout" ∷ word ∷ rest = sym e ∙ is in
+      none k (sym (second _ _ _ _ both))
+
+module _ (d : List ℕ) where
+  -- the words behind the directory, where none says how many extents there are
+  pub without_extents : (ws : List (List ℕ)) (n : ℕ) (r : Option Task) → n ≡ 4_096
+      → ((word : List ℕ) (rest : List (List ℕ)) → ws ≡ codes "--extents" ∷ word ∷ rest → ⊥)
+      → MatchOption r ((t : Task) → AsksLayout d n ws t → ⊥) (AsksLayout d n ws)
+      → MatchOption r ((t : Task) → AsksExtents d ws t → ⊥) (AsksExtents d ws)
+  without_extents ws n None all none m = λ t a. by t a
+    where
+      by : (t : Task) → AsksExtents d ws t → ⊥
+      by t (None, rest, range, e, a) =
+          m t (subst (λ (n : ℕ). AsksLayout d n ws t) (sym all)
+          (subst (λ (ts : List (List ℕ)). AsksLayout d 4_096 ts t) (sym e) a))
+      by t (Some k, rest, range, e, a) = none (decimal k) rest e
+  without_extents ws n (Some t) all none m =
+      (None, ws, tt, refl, subst (λ (n : ℕ). AsksLayout d n ws t) all m)
+
+  -- where a word says it
+  pub with_extents : (ws : List (List ℕ)) (word : List ℕ) (rest : List (List ℕ)) (n : ℕ) (r : Option Task)
+      → ws ≡ codes "--extents" ∷ word ∷ rest → IsInRange 2 4_096 n → word ≡ decimal n
+      → MatchOption r ((t : Task) → AsksLayout d n rest t → ⊥) (AsksLayout d n rest)
+      → MatchOption r ((t : Task) → AsksExtents d ws t → ⊥) (AsksExtents d ws)
+  with_extents ws word rest n None is range named m = λ t a. by t a
+    where
+      by : (t : Task) → AsksExtents d ws t → ⊥
+      by t (None, more, own, e, a) =
+          not_layout d 4_096 word rest t (subst (λ (ts : List (List ℕ)). AsksLayout d 4_096 ts t) (sym e ∙ is) a)
+      by t (Some k, more, own, e, a) =
+          let both : codes "--extents" ∷ decimal k ∷ more ≡ codes "--extents" ∷ word ∷ rest = sym e ∙ is in
+          let same : k ≡ n =
+          decimal_injective k n (omega (arith, own.1)) (omega (arith, range.1)) (second _ _ _ _ both ∙ named) in
+          let behind : more ≡ rest = third _ _ _ _ both in
+          m t (subst (λ (ts : List (List ℕ)). AsksLayout d n ts t) behind
+          (subst (λ (n : ℕ). AsksLayout d n more t) same a))
+  with_extents ws word rest n (Some t) is range named m =
+      (Some n, rest, range, is ∙ ap (λ z. codes "--extents" ∷ z ∷ rest) named, m)
+
+  -- where the word is no such number
+  pub bad_extents : (ws : List (List ℕ)) (word : List ℕ) (rest : List (List ℕ))
+      → ws ≡ codes "--extents" ∷ word ∷ rest → ((n : ℕ) → 2 ≤ n → n ≤ 4_096 → word ≡ decimal n → ⊥) → (t : Task)
+      → AsksExtents d ws t → ⊥
+  bad_extents ws word rest is none t (None, more, own, e, a) =
+      not_layout d 4_096 word rest t (subst (λ (ts : List (List ℕ)). AsksLayout d 4_096 ts t) (sym e ∙ is) a)
+  bad_extents ws word rest is none t (Some k, more, own, e, a) =
+      let both : codes "--extents" ∷ decimal k ∷ more ≡ codes "--extents" ∷ word ∷ rest = sym e ∙ is in
+      none k own.0 own.1 (sym (second _ _ _ _ both))
+
+-- the words behind the verb
+pub opens : {X : Type 0} (f : X → List ℕ) (ws : List X) (b : X) (directory : List ℕ) (options : List (List ℕ))
+    (r : Option Task) → 2 ≤ length ws → b ≡ get_or ws 1 b → f b ≡ codes "script" → IsPlain directory
+    → map f (take (length ws - 2) (drop 2 ws)) ≡ codes "--from" ∷ directory ∷ options
+    → MatchOption r ((t : Task) → AsksExtents directory options t → ⊥) (AsksExtents directory options)
+    → MatchOption r ((t : Task) → AsksOpened (map f ws) t → ⊥) (AsksOpened (map f ws))
+opens f [] b directory options r h i e plain is m = absurd (omega (arith, h))
+opens f (x ∷ []) b directory options r h i e plain is m = absurd (omega (arith, h))
+opens {X = X} f (x ∷ y ∷ ws) b directory options None h i e plain is m = λ t a. by t a
+  where
+    words : map f ws ≡ codes "--from" ∷ directory ∷ options
+    words = ap (map f) (sym (behind_verb (x ∷ y ∷ ws) h)) ∙ is
+
+    by : (t : Task) → AsksOpened (map f (x ∷ y ∷ ws)) t → ⊥
+    by t (verb, (d, more, own, g, a)) =
+        let both : codes "--from" ∷ d ∷ more ≡ codes "--from" ∷ directory ∷ options = sym g ∙ words in
+        m t (subst (λ (d : List ℕ). AsksExtents d options t) (second _ _ _ _ both)
+        (subst (λ (ts : List (List ℕ)). AsksExtents d ts t) (third _ _ _ _ both) a))
+opens {X = X} f (x ∷ y ∷ ws) b directory options (Some t) h i e plain is m =
+    (ap f (sym i) ∙ e, (directory, options, plain, ap (map f) (sym (behind_verb (x ∷ y ∷ ws) h)) ∙ is, m))
+
+pub opens_none : {X : Type 0} (f : X → List ℕ) (ws : List X)
+    → ((directory : List ℕ) (rest : List (List ℕ)) → IsPlain directory
+    → map f (take (length ws - 2) (drop 2 ws)) ≡ codes "--from" ∷ directory ∷ rest → ⊥)
+    → (t : Task) → AsksOpened (map f ws) t → ⊥
+opens_none f [] none t a = a
+opens_none f (x ∷ []) none t a = a
+opens_none f (x ∷ y ∷ ws) none t (verb, (d, more, plain, g, a)) =
+    none d more plain (ap (map f) (behind_verb (x ∷ y ∷ ws) (omega arith)) ∙ g)
+
+-- FILES OF REPLIES
+
+-- the options of the tables behind a directory, and without one
+pub tables_named : (ws : List (List ℕ)) (d : Bor (List ℕ)) (rest : List (List ℕ)) (csv : Bool)
+    → ws ≡ codes "--tables" ∷ d.now ∷ rest → rest ≡ csv_words csv
+    → ws ≡ directory_words (codes "--tables") (Some d) ++ csv_words csv
+tables_named ws d rest csv is e = is ∙ ap (λ z. codes "--tables" ∷ d.now ∷ z) e
+
+csv_short : (csv : Bool) (mark w : List ℕ) (ws : List (List ℕ)) → csv_words csv ≡ mark ∷ w ∷ ws → ⊥
+csv_short true mark w ws e = cc
+csv_short false mark w ws e = cc
+
+pub no_tables : (ws : List (List ℕ)) → ((d : List ℕ) (rest : List (List ℕ)) → IsPlain d
+    → ws ≡ codes "--tables" ∷ d ∷ rest → ⊥)
+    → ((csv : Bool) → ws ≡ csv_words csv → ⊥) → (tables : Option (Bor (List ℕ))) (csv : Bool)
+    → AreTablesOptions ws tables csv → ⊥
+no_tables ws none bad None csv a = bad csv a.1
+no_tables ws none bad (Some d) csv a = none d.now (csv_words csv) a.0 a.1
+
+pub bad_tables : (ws : List (List ℕ)) (d : List ℕ) (rest : List (List ℕ)) → ws ≡ codes "--tables" ∷ d ∷ rest
+    → ((csv : Bool) → rest ≡ csv_words csv → ⊥) → (tables : Option (Bor (List ℕ))) (csv : Bool)
+    → AreTablesOptions ws tables csv → ⊥
+bad_tables ws d rest is bad None csv a = csv_short csv (codes "--tables") d rest (sym a.1 ∙ is)
+bad_tables ws d rest is bad (Some e) csv a = bad csv (sym (third _ _ _ _ (sym a.1 ∙ is)))
+
+module _ (ws : List (List ℕ)) where
+  pub from_named : (d : Bor (List ℕ)) (rest : List (List ℕ)) (r : Option SerialOptions) → IsPlain d.now
+      → ws ≡ codes "--from" ∷ d.now ∷ rest
+      → MatchOption r ((o : SerialOptions) → AreTablesOptions rest o.tables o.is_csv → ⊥)
+      (λ o. (o.from ≡ Some d) × AreTablesOptions rest o.tables o.is_csv)
+      → MatchOption r ((o : SerialOptions) → AreSerialOptions ws o.from o.tables o.is_csv → ⊥)
+      (λ o. AreSerialOptions ws o.from o.tables o.is_csv)
+  from_named d rest None own is m = λ o a. by o o.from refl a
+    where
+      not_from : (tables : Option (Bor (List ℕ))) (csv : Bool)
+          → directory_words (codes "--tables") tables ++ csv_words csv ≡ codes "--from" ∷ d.now ∷ rest → ⊥
+      not_from None csv e = csv_short csv (codes "--from") d.now rest e
+      not_from (Some t) csv e = let first : codes "--tables" ≡ codes "--from" = cc in cc
+
+      by : (o : SerialOptions) (from : Option (Bor (List ℕ))) → o.from ≡ from
+          → AreSerialOptions ws o.from o.tables o.is_csv → ⊥
+      by o None e a =
+          let words : directory_words (codes "--tables") o.tables ++ csv_words o.is_csv
+          ≡ codes "--from" ∷ d.now ∷ rest =
+          sym (a.2 ∙ ap (λ z. directory_words (codes "--from") z
+          ++ directory_words (codes "--tables") o.tables ++ csv_words o.is_csv) e) ∙ is in
+          not_from o.tables o.is_csv words
+      by o (Some b) e a =
+          let words : codes "--from" ∷ b.now ∷ directory_words (codes "--tables") o.tables ++ csv_words o.is_csv
+          ≡ codes "--from" ∷ d.now ∷ rest =
+          sym (a.2 ∙ ap (λ z. directory_words (codes "--from") z
+          ++ directory_words (codes "--tables") o.tables ++ csv_words o.is_csv) e) ∙ is in
+          m o (a.1, sym (third _ _ _ _ words))
+  from_named d rest (Some o) own is m = (
+    subst IsDirectory (sym m.0) own,
+    m.1.0,
+    is ∙ ap (λ z. codes "--from" ∷ d.now ∷ z) m.1.1
+        ∙ ap (λ z. directory_words (codes "--from") z ++ directory_words (codes "--tables") o.tables
+        ++ csv_words o.is_csv) (sym m.0),
+  )
+
+  pub from_none : (r : Option SerialOptions)
+      → ((d : List ℕ) (rest : List (List ℕ)) → IsPlain d → ws ≡ codes "--from" ∷ d ∷ rest → ⊥)
+      → MatchOption r ((o : SerialOptions) → AreTablesOptions ws o.tables o.is_csv → ⊥)
+      (λ o. (o.from ≡ None) × AreTablesOptions ws o.tables o.is_csv)
+      → MatchOption r ((o : SerialOptions) → AreSerialOptions ws o.from o.tables o.is_csv → ⊥)
+      (λ o. AreSerialOptions ws o.from o.tables o.is_csv)
+  from_none None none m = λ o a. by o o.from refl a
+    where
+      by : (o : SerialOptions) (from : Option (Bor (List ℕ))) → o.from ≡ from
+          → AreSerialOptions ws o.from o.tables o.is_csv → ⊥
+      by o None e a =
+          m o (
+            a.1,
+            a.2 ∙ ap (λ z. directory_words (codes "--from") z
+                ++ directory_words (codes "--tables") o.tables ++ csv_words o.is_csv) e,
+          )
+      by o (Some b) e a =
+          none b.now (directory_words (codes "--tables") o.tables ++ csv_words o.is_csv)
+          (subst IsDirectory e a.0)
+          (a.2 ∙ ap (λ z. directory_words (codes "--from") z
+          ++ directory_words (codes "--tables") o.tables ++ csv_words o.is_csv) e)
+  from_none (Some o) none m = (
+    subst IsDirectory (sym m.0) tt,
+    m.1.0,
+    m.1.1 ∙ ap (λ z. directory_words (codes "--from") z ++ directory_words (codes "--tables") o.tables
+        ++ csv_words o.is_csv) (sym m.0),
+  )
+
+-- the verb, a file, and no options
+pub serial_file : {X : Type 0} (f : X → List ℕ) (ws : List X) (b : X) (file : Bor (List ℕ)) → 3 ≤ length ws
+    → b ≡ get_or ws 1 b → f b ≡ codes "serial" → NamesFile (map f ws) file.now
+    → AsksSerial (map f ws) (task.Serial file None None false)
+serial_file f [] b file h i e n = absurd (omega (arith, h))
+serial_file f (x ∷ []) b file h i e n = absurd (omega (arith, h))
+serial_file f (x ∷ y ∷ r) b file h i e (inl n) = (ap f (sym i) ∙ e, inl ([], n.0, n.1, (tt, tt, refl)))
+serial_file f (x ∷ y ∷ r) b file h i e (inr n) = (ap f (sym i) ∙ e, inr (n, refl, refl, refl))
+
+-- with options
+pub serial_options : {X : Type 0} (f : X → List ℕ) (ws : List X) (b c : X) (file : Bor (List ℕ))
+    (from tables : Option (Bor (List ℕ))) (csv : Bool) → 3 ≤ length ws → b ≡ get_or ws 1 b → f b ≡ codes "serial"
+    → c ≡ get_or ws 2 c → file.now ≡ f c → IsPlain file.now
+    → AreSerialOptions (map f (take (length ws - 3) (drop 3 ws))) from tables csv
+    → AsksSerial (map f ws) (task.Serial file from tables csv)
+serial_options f [] b c file from tables csv h i e j n p o = absurd (omega (arith, h))
+serial_options f (x ∷ []) b c file from tables csv h i e j n p o = absurd (omega (arith, h))
+serial_options f (x ∷ y ∷ []) b c file from tables csv h i e j n p o = absurd (omega (arith, h))
+serial_options {X = X} f (x ∷ y ∷ z ∷ r) b c file from tables csv h i e j n p o =
+    let whole : take (length (x ∷ y ∷ z ∷ r) - 3) r ≡ r = take_all (length (x ∷ y ∷ z ∷ r) - 3) r (omega arith) in (
+      ap f (sym i) ∙ e,
+      inl (
+        map f r,
+        ap (λ t. t ∷ map f r) (ap f (sym j) ∙ sym n),
+        p,
+        subst (λ (ts : List X). AreSerialOptions (map f ts) from tables csv) whole o,
+      ),
+    )
+
+pub no_serial : {X : Type 0} (f : X → List ℕ) (ws : List X) → ((file : List ℕ) → NamesFile (map f ws) file → ⊥)
+    → ((o : SerialOptions) → AreSerialOptions (map f (take (length ws - 3) (drop 3 ws))) o.from o.tables o.is_csv → ⊥)
+    → (t : Task) → AsksSerial (map f ws) t → ⊥
+no_serial f [] n m t a = a
+no_serial f (x ∷ []) n m t a = a
+no_serial f (x ∷ y ∷ r) n m task.Script a = a
+no_serial f (x ∷ y ∷ r) n m (task.File name) a = a
+no_serial f (x ∷ y ∷ r) n m (task.Explain name) a = a
+no_serial f (x ∷ y ∷ r) n m (task.Opened d e l file) a = a
+no_serial f (x ∷ y ∷ r) n m (task.Drive d) a = a
+no_serial f (x ∷ y ∷ r) n m (task.Audit name options) a = a
+no_serial f (x ∷ y ∷ r) n m (task.Load d kinds flat) a = a
+no_serial f (x ∷ y ∷ []) n m (task.Serial name from tables csv) (verb, inl (options, e, plain, o)) = cc
+no_serial {X = X} f (x ∷ y ∷ z ∷ r) n m (task.Serial name from tables csv) (verb, inl (options, e, plain, o)) =
+    let whole : take (length (x ∷ y ∷ z ∷ r) - 3) r ≡ r = take_all (length (x ∷ y ∷ z ∷ r) - 3) r (omega arith) in
+    let rest : map f r ≡ options = cc in
+    m (record { from = from; tables = tables; is_csv = csv })
+    (subst (λ (ts : List X). AreSerialOptions (map f ts) from tables csv) (sym whole)
+    (subst (λ (ts : List (List ℕ)). AreSerialOptions ts from tables csv) (sym rest) o))
+no_serial f (x ∷ y ∷ r) n m (task.Serial name from tables csv) (verb, inr h) = n name.now (inr h.0)
+
+-- a file's name that is an option stands only behind the mark
+pub no_option : {X : Type 0} (f : X → List ℕ) (ws : List X) (c : X) (file : Bor (List ℕ)) → 3 ≤ length ws
+    → ((file : List ℕ) → NamesFile (map f ws) file → ⊥) → c ≡ get_or ws 2 c → file.now ≡ f c
+    → slice_index file.now 0 ≡ 45 → (t : Task) → AsksSerial (map f ws) t → ⊥
+no_option f [] c file h n j is o t a = a
+no_option f (x ∷ []) c file h n j is o t a = a
+no_option f (x ∷ y ∷ []) c file h n j is o t a = absurd (omega (arith, h))
+no_option f (x ∷ y ∷ z ∷ r) c file h n j is o task.Script a = a
+no_option f (x ∷ y ∷ z ∷ r) c file h n j is o (task.File name) a = a
+no_option f (x ∷ y ∷ z ∷ r) c file h n j is o (task.Explain name) a = a
+no_option f (x ∷ y ∷ z ∷ r) c file h n j is o (task.Opened d e l name) a = a
+no_option f (x ∷ y ∷ z ∷ r) c file h n j is o (task.Drive d) a = a
+no_option f (x ∷ y ∷ z ∷ r) c file h n j is o (task.Audit name options) a = a
+no_option f (x ∷ y ∷ z ∷ r) c file h n j is o (task.Load d kinds flat) a = a
+no_option f (x ∷ y ∷ z ∷ r) c file h n j is o (task.Serial name from tables csv) (verb, inl (options, e, plain, m)) =
+    let first : f z ≡ name.now = cc in plain (ap (λ t. slice_index t 0) (sym first ∙ ap f (sym j) ∙ sym is) ∙ o)
+no_option f (x ∷ y ∷ z ∷ r) c file h n j is o (task.Serial name from tables csv) (verb, inr m) = n name.now (inr m.0)

@@ -1,10 +1,14 @@
 -- Which words of a command line ask for which task.
 use Rattle.std.specs.Prelude.{◌≡◌, ◌≢◌, ℕ, Bool, true, false, Option, None, Some, List, [], ◌∷◌, ◌++◌, ◌⊎◌, slice_index}
-use Rattle.std.specs.Prelude.{codes, decimal}
+use Rattle.std.specs.Prelude.{codes, decimal, unwrap_or}
+use Rattle.std.specs.Borrow.{Bor}
 use Rattle.std.specs.Int.{IsInRange}
 use Rattle.oe_numbers.specs.Words.{AreInRange, words_of}
 use Rattle.oe_numbers.specs.Kinds.{Names as NamesKinds, none_named}
 use Rattle.oe_numbers.specs.declared.kinds.Kinds.{Kinds}
+use Rattle.oe_rows.specs.declared.layouts.Layout.{Layout}
+use Rattle.oe_rows.specs.declared.layouts.Layout.TheVariants.{WholeRows, ChangedColumns}
+use Rattle.oe_tasks.specs.declared.AuditOptions.{AuditOptions}
 use Rattle.oe_tasks.specs.declared.Task.{Task}
 use Rattle.oe_tasks.specs.declared.Task.TheVariants as task
 
@@ -35,48 +39,127 @@ AsksExplain (program ∷ verb ∷ mark ∷ rest) (task.Explain (Some file)) =
     (verb ≡ codes "script") × (mark ≡ codes "--explain") × Names rest file.now
 AsksExplain words task = ⊥
 
--- the words behind a verb name a file, and behind `--tables` a directory
-abbrev pub NamesTables : List (List ℕ) → List ℕ → List ℕ → Type 0
-NamesTables (program ∷ verb ∷ rest) file directory =
-    (rest ≡ file ∷ codes "--tables" ∷ directory ∷ []) × IsPlain file × IsPlain directory
-NamesTables words file directory = ⊥
+-- the word that says that files are comma-separated values, if they are
+abbrev pub csv_words : Bool → List (List ℕ)
+csv_words true = codes "--csv" ∷ []
+csv_words false = []
 
--- the program's name, `serial`, and a file, or a file and a directory of tables
+-- the words that name a directory behind a mark, if any, which is not taken for an option
+abbrev pub directory_words : List ℕ → Option (Bor (List ℕ)) → List (List ℕ)
+directory_words mark None = []
+directory_words mark (Some directory) = mark ∷ directory.now ∷ []
+
+abbrev pub IsDirectory : Option (Bor (List ℕ)) → Type 0
+IsDirectory None = Unit {0}
+IsDirectory (Some directory) = IsPlain directory.now
+
+-- the words name the directory of tables, if any, and say whether its files are comma-separated values
+abbrev pub AreTablesOptions : List (List ℕ) → Option (Bor (List ℕ)) → Bool → Type 0
+AreTablesOptions words tables csv =
+    IsDirectory tables × (words ≡ directory_words (codes "--tables") tables ++ csv_words csv)
+
+-- the same behind the directory that a file of replies begins from, if any
+abbrev pub AreSerialOptions : List (List ℕ) → Option (Bor (List ℕ)) → Option (Bor (List ℕ)) → Bool → Type 0
+AreSerialOptions words from tables csv =
+    IsDirectory from × IsDirectory tables
+    × (words ≡ directory_words (codes "--from") from ++ directory_words (codes "--tables") tables ++ csv_words csv)
+
+-- the program's name, `serial`, and a file with its options, or behind `--` without any
 abbrev pub AsksSerial : List (List ℕ) → Task → Type 0
-AsksSerial (program ∷ verb ∷ rest) (task.Serial file None) = (verb ≡ codes "serial") × Names rest file.now
-AsksSerial (program ∷ verb ∷ rest) (task.Serial file (Some directory)) =
-    (verb ≡ codes "serial") × NamesTables (program ∷ verb ∷ rest) file.now directory.now
+AsksSerial (program ∷ verb ∷ rest) (task.Serial file from tables csv) =
+    (verb ≡ codes "serial")
+    × (((options : List (List ℕ)) × (rest ≡ file.now ∷ options) × IsPlain file.now
+    × AreSerialOptions options from tables csv)
+    ⊎ ((rest ≡ codes "--" ∷ file.now ∷ []) × (from ≡ None) × (tables ≡ None) × (csv ≡ false)))
 AsksSerial words task = ⊥
+
+-- the words name this file, or are none where there is none
+abbrev pub NamesMaybe : List (List ℕ) → Option (Bor (List ℕ)) → Type 0
+NamesMaybe words None = words ≡ []
+NamesMaybe words (Some file) = Names words file.now
+
+-- the number of a layout
+abbrev pub layout_word : Layout → List ℕ
+layout_word WholeRows = codes "1"
+layout_word ChangedColumns = codes "2"
+
+-- the words that say how many extents there are, and the layout, if any do
+abbrev pub extents_words : Option ℕ → List (List ℕ)
+extents_words None = []
+extents_words (Some n) = codes "--extents" ∷ decimal n ∷ []
+
+abbrev pub layout_words : Option Layout → List (List ℕ)
+layout_words None = []
+layout_words (Some l) = codes "--layout" ∷ layout_word l ∷ []
+
+abbrev pub AreExtents : Option ℕ → Type 0
+AreExtents None = Unit {0}
+AreExtents (Some n) = IsInRange 2 4_096 n
+
+-- A script that begins with the population of a directory, with an undo ring. The words behind these name a file, or
+-- none for standard input; before it they say the layout, where it is not of whole rows, and before that how many
+-- extents there are, where these are not 4,096.
+abbrev pub AsksFile : List ℕ → ℕ → Layout → List (List ℕ) → Task → Type 0
+AsksFile directory extents layout words (task.Opened d e l file) =
+    (d.now ≡ directory) × (e ≡ extents) × (l ≡ layout) × NamesMaybe words file
+AsksFile directory extents layout words task = ⊥
+
+abbrev pub AsksLayout : List ℕ → ℕ → List (List ℕ) → Task → Type 0
+AsksLayout directory extents words t =
+    (l : Option Layout) × (rest : List (List ℕ)) × (words ≡ layout_words l ++ rest)
+    × AsksFile directory extents (unwrap_or l WholeRows) rest t
+
+abbrev pub AsksExtents : List ℕ → List (List ℕ) → Task → Type 0
+AsksExtents directory words t =
+    (e : Option ℕ) × (rest : List (List ℕ)) × AreExtents e × (words ≡ extents_words e ++ rest)
+    × AsksLayout directory (unwrap_or e 4_096) rest t
+
+-- the program's name, `script`, and `--from` with a directory that is not taken for an option
+abbrev pub AsksOpened : List (List ℕ) → Task → Type 0
+AsksOpened (program ∷ verb ∷ rest) t =
+    (verb ≡ codes "script")
+    × ((directory : List ℕ) × (options : List (List ℕ)) × IsPlain directory
+    × (rest ≡ codes "--from" ∷ directory ∷ options) × AsksExtents directory options t)
+AsksOpened words t = ⊥
 
 -- the program's name, `drive`, and its seven numbers in order, each in its range
 abbrev pub AsksDrive : List (List ℕ) → Task → Type 0
 AsksDrive (program ∷ verb ∷ rest) (task.Drive d) = (verb ≡ codes "drive") × AreInRange d × (rest ≡ words_of d)
 AsksDrive words task = ⊥
 
--- the words that say how many findings of each condition are shown, if any
-abbrev pub first_words : Option ℕ → List (List ℕ)
-first_words None = []
-first_words (Some n) = codes "--first" ∷ decimal n ∷ []
+-- no option of an audit
+abbrev pub no_options : AuditOptions
+no_options = record { initial = None; first = None; is_csv = false }
 
--- at least one finding is shown
-abbrev pub IsFirst : Option ℕ → Type 0
-IsFirst None = Unit {0}
-IsFirst (Some n) = IsInRange 1 4_294_967_295 n
+-- an option with a number, which was not said yet
+abbrev pub AddsFirst : AuditOptions → List ℕ → AuditOptions → Type 0
+AddsFirst o word p =
+    (n : ℕ) × IsInRange 1 4_294_967_295 n × (word ≡ decimal n) × (o.first ≡ None) × (p ≡ record o { first = Some n })
 
--- the word that says that files are comma-separated values, if they are
-abbrev pub csv_words : Bool → List (List ℕ)
-csv_words true = codes "--csv" ∷ []
-csv_words false = []
+abbrev pub AddsInitial : AuditOptions → List ℕ → AuditOptions → Type 0
+AddsInitial o word p =
+    (n : ℕ) × IsInRange 0 4_294_967_295 n × (word ≡ decimal n) × (o.initial ≡ None)
+    × (p ≡ record o { initial = Some n })
 
--- the words say both, in either order
-abbrev pub AreAuditOptions : List (List ℕ) → Option ℕ → Bool → Type 0
-AreAuditOptions words first csv = IsFirst first
-    × ((words ≡ csv_words csv ++ first_words first) ⊎ (words ≡ first_words first ++ csv_words csv))
+abbrev pub Adds : AuditOptions → List ℕ → List ℕ → AuditOptions → Type 0
+Adds o mark word p =
+    ((mark ≡ codes "--first") × AddsFirst o word p) ⊎ ((mark ≡ codes "--initial") × AddsInitial o word p)
 
--- the program's name, `audit`, a directory that is not taken for an option, and the options
+abbrev pub AddsCsv : AuditOptions → List ℕ → AuditOptions → Type 0
+AddsCsv o mark p = (mark ≡ codes "--csv") × (o.is_csv ≡ false) × (p ≡ record o { is_csv = true })
+
+-- the words say options besides those so far, in any order, each at most once
+abbrev pub Says : AuditOptions → List (List ℕ) → AuditOptions → Type 0
+Says o [] p = p ≡ o
+Says o (mark ∷ []) p = AddsCsv o mark p
+Says o (mark ∷ word ∷ rest) p =
+    ((q : AuditOptions) × AddsCsv o mark q × Says q (word ∷ rest) p)
+    ⊎ ((q : AuditOptions) × Adds o mark word q × Says q rest p)
+
+-- the program's name, `audit`, a source that is not taken for an option, and the options
 abbrev pub AsksAudit : List (List ℕ) → Task → Type 0
-AsksAudit (program ∷ verb ∷ name ∷ rest) (task.Audit directory first csv) =
-    (verb ≡ codes "audit") × (name ≡ directory.now) × IsPlain name × AreAuditOptions rest first csv
+AsksAudit (program ∷ verb ∷ name ∷ rest) (task.Audit source options) =
+    (verb ≡ codes "audit") × (name ≡ source.now) × (IsPlain name ⊎ (name ≡ codes "-")) × Says no_options rest options
 AsksAudit words task = ⊥
 
 -- the words that name kinds of transactions, if any, and that say that requests alone are printed
@@ -106,4 +189,4 @@ AsksLoad words task = ⊥
 
 abbrev pub Asks : List (List ℕ) → Task → Type 0
 Asks words task = AsksScript words task ⊎ AsksSerial words task ⊎ AsksDrive words task ⊎ AsksAudit words task
-    ⊎ AsksLoad words task ⊎ AsksExplain words task
+    ⊎ AsksLoad words task ⊎ AsksExplain words task ⊎ AsksOpened words task

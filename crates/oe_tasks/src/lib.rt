@@ -1,18 +1,26 @@
 #![tactic(auto)]
 //! The words of the command line.
-ghost use Rattle.std.specs.Prelude.{◌≡◌, ◌≢◌, ◌↔◌, ◌==◌, ◌∷◌, [], ℕ, Bool, List, Option};
-ghost use Rattle.std.specs.Prelude.{IsFalse, codes, map, slice_index, MatchOption, MatchResult};
+ghost use Rattle.std.specs.Prelude.{◌≡◌, ◌≢◌, ◌↔◌, ◌⊎◌, ◌==◌, ◌∷◌, [], ℕ, Bool, true, false};
+ghost use Rattle.std.specs.Prelude.{◌≤◌, IsFalse, List, None, Option, codes, decimal, length, map};
+ghost use Rattle.std.specs.Prelude.{slice_index, MatchOption, MatchResult};
+ghost use Rattle.std.specs.Int.{IsInRange};
 ghost use Rattle.oe_numbers.specs.Kinds.{Names as NamesKinds};
 ghost use Rattle.oe_numbers.specs.declared.kinds.Kinds.{Kinds};
+ghost use Rattle.oe_rows.specs.declared.layouts.Layout.{Layout};
 ghost use Rattle.oe_tasks.specs.Words.{Asks, AsksScript, AsksSerial, AsksDrive, AsksAudit, AsksLoad};
-ghost use Rattle.oe_tasks.specs.Words.{AsksExplain, NamesFile, NamesTables, IsFirst, first_words};
-ghost use Rattle.oe_tasks.specs.Words.{AreAuditOptions, AreLoadOptions};
+ghost use Rattle.oe_tasks.specs.Words.{AsksExplain, AsksOpened, AsksExtents, AsksLayout, AsksFile};
+ghost use Rattle.oe_tasks.specs.Words.{Names, NamesFile, IsPlain, csv_words, layout_word};
+ghost use Rattle.oe_tasks.specs.Words.{AreLoadOptions, AreSerialOptions, AreTablesOptions};
+ghost use Rattle.oe_tasks.specs.Words.{Says, Adds, AddsFirst, AddsInitial, no_options};
+ghost use Rattle.oe_tasks.specs.declared.AuditOptions.{AuditOptions};
+ghost use Rattle.oe_tasks.specs.declared.SerialOptions.{SerialOptions};
 ghost use Rattle.oe_tasks.specs.declared.Task.{Task};
 
 use clap::error::ErrorKind;
 use clap::{Arg, ArgAction, Command, Error, value_parser};
 use oe_numbers::{DriveNumbers, Kinds, number_of};
-use oe_values::Number;
+use oe_rows::Layout;
+use oe_values::{ExtentCount, Number};
 use std::alloc::Global;
 use std::convert::AsStr;
 
@@ -26,20 +34,30 @@ pub enum Task<'a> {
     /// To answer the script in the file of that name, or on standard input, and to say why lines
     /// are answered `BadLine`.
     Explain(Option<&'a str>),
-    /// To decide whether the commits in a file are serial, and to compare the tables that they
-    /// leave with the files of a directory, where one is named.
+    /// To answer the script in the file of that name, or on standard input, from the population in
+    /// the files of a directory, with such an undo ring.
+    Opened {
+        directory: &'a str,
+        extents: ExtentCount,
+        layout: Layout,
+        file: Option<&'a str>,
+    },
+    /// To decide whether the replies in a file are serial, from the population in the files of a
+    /// directory where one is named, and to compare the tables at the end with the files of
+    /// another, where that is named. The files are dumps or comma-separated values.
     Serial {
         file: &'a str,
+        from: Option<&'a str>,
         tables: Option<&'a str>,
+        is_csv: bool,
     },
     /// To run terminals in threads of their own.
     Drive(DriveNumbers),
-    /// To audit the tables in the files of a directory, which are dumps or comma-separated values,
-    /// and to show the first findings of each condition, or all.
+    /// To audit the tables in the files of a directory, or in a file, or on standard input where
+    /// the name is `-`.
     Audit {
-        directory: &'a str,
-        first: Option<u32>,
-        is_csv: bool,
+        source: &'a str,
+        options: AuditOptions,
     },
     /// To print a load, as a script or flat, of these kinds of transactions, or of all where none
     /// is named.
@@ -50,11 +68,23 @@ pub enum Task<'a> {
     },
 }
 
+/// The options of a file of replies.
+#[derive(Clone, Copy)]
+struct SerialOptions<'a> {
+    from: Option<&'a str>,
+    tables: Option<&'a str>,
+    is_csv: bool,
+}
+
 /// The options of an audit.
 #[derive(Clone, Copy)]
-struct AuditOptions {
-    first: Option<u32>,
-    is_csv: bool,
+pub struct AuditOptions {
+    /// How many orders the population had in each district.
+    pub initial: Option<u32>,
+    /// Each list is cut behind this number of rows.
+    pub first: Option<u32>,
+    /// Files are comma-separated values.
+    pub is_csv: bool,
 }
 
 /// The options of a load.
@@ -84,9 +114,12 @@ a kind is neworder, payment, status, delivery or level";
 
 const USAGE: &str = "oe_server script [--explain] < FILE
        oe_server script [--explain] FILE
-       oe_server serial FILE [--tables DIR]
+       oe_server script --from DIR [--extents E] [--layout L] [FILE]
+       oe_server serial FILE [--from DIR] [--tables DIR2] [--csv]
        oe_server drive W C I E T N SEED
-       oe_server audit DIR [--csv] [--first N]
+       oe_server audit DIR [--csv] [--first N] [--initial N]
+       oe_server audit FILE [--first N] [--initial N]
+       oe_server audit - [--first N] [--initial N]
        oe_server load W C I E T N SEED [--kinds KIND,..] [--flat]
        oe_server --help | --version";
 
@@ -161,22 +194,35 @@ MOMENT, or error NUMBER CAUSE where it was refused. It writes one line:
   line N: \"REPLY\", in this order \"REPLY\", and line N: WORD VALUE, in this order VALUE
                      the first line that is answered otherwise, and its first word that differs
 or, on standard error, why lines have no form (line N: REASON).
-Where they are serial and --tables names a directory, it reads the nine files of DIR as an
-audit does, and compares their rows with the tables that these transactions leave. It writes a
-line for each table that differs, of the first row that does, and how many tables differ:
+Where they are serial and --tables names a directory, it reads the files warehouse, district,
+customer, history, neworder, order, orderline, item and stock there: a line for each row, its
+columns as dump shows them. With --csv these are comma-separated values: a field may stand in
+quotes, an empty field of a column that may be null is null, and the first line may be a heading.
+It compares their rows with the tables that these transactions leave, and writes a line for each
+table that differs, of the first row that does, and how many tables differ:
   KEY: no such row in the file, or KEY: no such row in this order
   KEY: COLUMN VALUE, in this order VALUE
   history COLUMNS: more often in the file, or more often in this order
   same 9 of 9 tables, or differs in COUNT of 9 tables
 
-An audit reads the files warehouse, district, customer, history, neworder, order, orderline,
-item and stock of DIR: a line for each row, its columns as dump shows them. With --csv these are
-comma-separated values: a field may stand in quotes, an empty field of a column that may be null
-is null, and the first line may be a heading. It tells how many rows it read, which rows refer to
-rows that are not there, and of each condition that it holds, or each row at which it fails, with
-the figures that differ, or the first N such rows (1 to 4294967295) and how many more there are:
-  condition N holds, or condition N fails KEY: FIGURES, or condition N fails at COUNT more
-  holds 11 of 11 conditions, or fails COUNT of 11 conditions, and how many rows are set apart
+With --from the population is that of nine such files of a directory; HISTORY rows get terminal 0
+and their line's number for a key. A file of replies then begins with open E, or open E LAYOUT. A
+script begins opened, with E undo extents (2 to 4096; 4096 where it is left out) and layout L (1
+or 2; 1 where it is left out), and knows no open. A directory that is no population is refused, on
+standard error, with one thing that it lacks:
+  no population: KEY: no KEY, or condition N fails KEY, or no stock W I
+
+An audit reads the files of the nine tables in DIR, or one dump of all tables in FILE or on
+standard input, with a section COPY TABLE (COLUMNS) FROM stdin; for each table, as pg_dump -a
+writes it. A file is named as its table, with .txt, .tbl, .tsv or .csv behind it or nothing. A
+line is a row, with tabs or, by --csv, commas between its fields; a first line that names columns
+is a heading, and else the columns stand as dump shows them. It tells how many rows it read, and
+of 24 checks that each holds, or each row at which it fails with the two figures that differ, or
+the first N such rows (1 to 4294967295) and how many more there are:
+  CHECK holds, or CHECK fails KEY: FIGURE, FIGURE, or CHECK fails at COUNT more
+  holds 24 of 24 checks, or fails COUNT of 24 checks: and their names
+--initial N tells how many orders each district had at first; else it is as many as a district
+has customers, whose rows then come before those of orders.
 
 A load has a drive's seven numbers: T terminals ask for N transactions or queries each, which
 SEED makes, by the standard's weights or of the kinds that --kinds names (neworder, payment,
@@ -190,7 +236,8 @@ population is restored, for an audit that finds nothing, and for a load that is 
 1 for any other file of replies, drive, audit or load, after a fault, which standard error
 names (fault: read, fault: write, fault: output closed, fault: no memory, fault: no undo
 extents), and for a FILE that can't be opened; and 2 where the command line is none of these,
-a line of a file of replies has no form, or a file of tables can't be read.
+a line of a file of replies has no form, or a file of tables can't be read; an audit without
+memory or output ends with 3.
 docs/SCRIPTS.md is the manual: stages, locks, refusals and columns; examples/ has scripts.";
 
 /// Finds what these words ask for; the first is the program's name.
@@ -217,6 +264,9 @@ fn asked<'a, S: AsStr>(words: &'a [S]) -> Option<Task<'a>>
         return Some(task);
     }
     if let Some(task) = explain_of(words) {
+        return Some(task);
+    }
+    if let Some(task) = opened_of(words) {
         return Some(task);
     }
     if let Some(task) = serial_of(words) {
@@ -267,70 +317,252 @@ fn explain_of<'a, S: AsStr>(words: &'a [S]) -> Option<Task<'a>>
     }
 }
 
-// Finds the file of replies that these words ask for, with the directory of tables, if any.
-fn serial_of<'a, S: AsStr>(words: &'a [S]) -> Option<Task<'a>>
+// Finds the word behind a mark, with which words begin, and the words behind that.
+fn behind<'a, S: AsStr>(mark: &str, words: &'a [S]) -> Option<(&'a str, &'a [S])>
     ensures { MatchOption result
-        ((task : Task) → AsksSerial (map S.text words.now) task → ⊥)
-        (AsksSerial (map S.text words.now)) }
+        ((word : List ℕ) (rest : List (List ℕ)) →
+        map S.text words.now ≡ mark.now ∷ word ∷ rest → ⊥)
+        (λ p. map S.text words.now ≡ mark.now ∷ p.0.now ∷ map S.text p.1.now) }
 {
-    if words.len() < 2 || words[1].as_str() != "serial" {
+    if words.len() < 2 || words[0].as_str() != mark {
         return None;
     }
-    if let Some(file) = file_of(words) {
-        return Some(Task::Serial { file, tables: None });
+    Some((words[1].as_str(), &words[2..]))
+}
+
+// Finds the directory behind a mark, with which words begin, and the words behind that.
+fn directory_behind<'a, S: AsStr>(mark: &str, words: &'a [S]) -> Option<(&'a str, &'a [S])>
+    ensures { MatchOption result
+        ((directory : List ℕ) (rest : List (List ℕ)) → IsPlain directory →
+        map S.text words.now ≡ mark.now ∷ directory ∷ rest → ⊥)
+        (λ p. IsPlain p.0.now
+        × (map S.text words.now ≡ mark.now ∷ p.0.now ∷ map S.text p.1.now)) }
+{
+    let Some((directory, rest)) = behind(mark, words) else {
+        return None;
+    };
+    if is_option(directory) {
+        return None;
     }
-    match tables_of(words) {
-        Some((file, directory)) => Some(Task::Serial {
-            file,
-            tables: Some(directory),
+    Some((directory, rest))
+}
+
+// Finds the script that these words ask for, where it begins with the population of a directory.
+fn opened_of<'a, S: AsStr>(words: &'a [S]) -> Option<Task<'a>>
+    ensures { MatchOption result
+        ((task : Task) → AsksOpened (map S.text words.now) task → ⊥)
+        (AsksOpened (map S.text words.now)) }
+{
+    if words.len() < 2 || words[1].as_str() != "script" {
+        return None;
+    }
+    let Some((directory, rest)) = directory_behind("--from", &words[2..]) else {
+        return None;
+    };
+    extents_of(directory, rest)
+}
+
+// Finds the script that the words behind its directory ask for.
+fn extents_of<'a, S: AsStr>(directory: &'a str, words: &'a [S]) -> Option<Task<'a>>
+    ensures { MatchOption result
+        ((task : Task) → AsksExtents directory.now (map S.text words.now) task → ⊥)
+        (AsksExtents directory.now (map S.text words.now)) }
+{
+    let Some((word, rest)) = behind("--extents", words) else {
+        let all: ExtentCount = Number::new(4_096).unwrap();
+        return layout_of(directory, all, words);
+    };
+    match number_of(word) {
+        Some(extents) => layout_of(directory, extents, rest),
+        None => None,
+    }
+}
+
+// Finds the script that the words behind its extents ask for.
+fn layout_of<'a, S: AsStr>(
+    directory: &'a str,
+    extents: ExtentCount,
+    words: &'a [S],
+) -> Option<Task<'a>>
+    ensures { MatchOption result
+        ((task : Task) → AsksLayout directory.now extents (map S.text words.now) task → ⊥)
+        (AsksLayout directory.now extents (map S.text words.now)) }
+{
+    let Some((word, rest)) = behind("--layout", words) else {
+        return opened_file_of(directory, extents, Layout::WholeRows, words);
+    };
+    match layout_named(word) {
+        Some(layout) => opened_file_of(directory, extents, layout, rest),
+        None => None,
+    }
+}
+
+// Reads the number of a layout.
+fn layout_named(word: &str) -> Option<Layout>
+    ensures { MatchOption result
+        ((layout : Layout) → word.now ≡ layout_word layout → ⊥)
+        (λ layout. word.now ≡ layout_word layout) }
+{
+    if word == "1" {
+        return Some(Layout::WholeRows);
+    }
+    if word == "2" {
+        return Some(Layout::ChangedColumns);
+    }
+    None
+}
+
+// Finds the script that the words behind its layout ask for.
+fn opened_file_of<'a, S: AsStr>(
+    directory: &'a str,
+    extents: ExtentCount,
+    layout: Layout,
+    words: &'a [S],
+) -> Option<Task<'a>>
+    ensures { MatchOption result
+        ((task : Task) → AsksFile directory.now extents layout (map S.text words.now) task → ⊥)
+        (AsksFile directory.now extents layout (map S.text words.now)) }
+{
+    if words.is_empty() {
+        return Some(Task::Opened {
+            directory,
+            extents,
+            layout,
+            file: None,
+        });
+    }
+    match name_of(words) {
+        Some(file) => Some(Task::Opened {
+            directory,
+            extents,
+            layout,
+            file: Some(file),
         }),
         None => None,
     }
 }
 
-// Finds the file and the directory of tables that the words behind a verb name.
-fn tables_of<'a, S: AsStr>(words: &'a [S]) -> Option<(&'a str, &'a str)>
+// Finds the file of replies that these words ask for, with its options.
+fn serial_of<'a, S: AsStr>(words: &'a [S]) -> Option<Task<'a>>
     ensures { MatchOption result
-        ((file directory : List ℕ) → NamesTables (map S.text words.now) file directory → ⊥)
-        (λ p. NamesTables (map S.text words.now) p.0.now p.1.now) }
+        ((task : Task) → AsksSerial (map S.text words.now) task → ⊥)
+        (AsksSerial (map S.text words.now)) }
 {
-    if words.len() != 5 || words[3].as_str() != "--tables" {
+    if words.len() < 3 || words[1].as_str() != "serial" {
         return None;
+    }
+    if let Some(file) = file_of(words) {
+        return Some(Task::Serial {
+            file,
+            from: None,
+            tables: None,
+            is_csv: false,
+        });
     }
     let file = words[2].as_str();
     if is_option(file) {
         return None;
     }
-    let directory = words[4].as_str();
-    if is_option(directory) {
-        return None;
+    match serial_options_of(&words[3..]) {
+        Some(options) => Some(Task::Serial {
+            file,
+            from: options.from,
+            tables: options.tables,
+            is_csv: options.is_csv,
+        }),
+        None => None,
     }
-    Some((file, directory))
 }
 
-// Finds the file that the words behind a verb name.
-fn file_of<'a, S: AsStr>(words: &'a [S]) -> Option<&'a str>
+// Finds the options of a file of replies that these words say.
+fn serial_options_of<'a, S: AsStr>(words: &'a [S]) -> Option<SerialOptions<'a>>
     ensures { MatchOption result
-        ((file : List ℕ) → NamesFile (map S.text words.now) file → ⊥)
-        (λ file. NamesFile (map S.text words.now) file.now) }
+        ((o : SerialOptions) → AreSerialOptions (map S.text words.now) o.from o.tables o.is_csv → ⊥)
+        (λ o. AreSerialOptions (map S.text words.now) o.from o.tables o.is_csv) }
+{
+    match directory_behind("--from", words) {
+        Some((from, rest)) => tables_options_of(Some(from), rest),
+        None => tables_options_of(None, words),
+    }
+}
+
+// Finds the options that words behind the first directory say.
+fn tables_options_of<'a, S: AsStr>(
+    from: Option<&'a str>,
+    words: &'a [S],
+) -> Option<SerialOptions<'a>>
+    ensures { MatchOption result
+        ((o : SerialOptions) → AreTablesOptions (map S.text words.now) o.tables o.is_csv → ⊥)
+        (λ o. (o.from ≡ from.entry) × AreTablesOptions (map S.text words.now) o.tables o.is_csv) }
+{
+    let Some((tables, rest)) = directory_behind("--tables", words) else {
+        return match csv_of(words) {
+            Some(is_csv) => Some(SerialOptions {
+                from,
+                tables: None,
+                is_csv,
+            }),
+            None => None,
+        };
+    };
+    match csv_of(rest) {
+        Some(is_csv) => Some(SerialOptions {
+            from,
+            tables: Some(tables),
+            is_csv,
+        }),
+        None => None,
+    }
+}
+
+// Tells whether words say that files are comma-separated values, where they say no more.
+fn csv_of<S: AsStr>(words: &[S]) -> Option<bool>
+    ensures { MatchOption result
+        ((csv : Bool) → map S.text words.now ≡ csv_words csv → ⊥)
+        (λ csv. map S.text words.now ≡ csv_words csv) }
+{
+    if words.is_empty() {
+        return Some(false);
+    }
+    if words.len() != 1 || words[0].as_str() != "--csv" {
+        return None;
+    }
+    Some(true)
+}
+
+// Finds the file that words name.
+fn name_of<'a, S: AsStr>(words: &'a [S]) -> Option<&'a str>
+    ensures { MatchOption result
+        ((file : List ℕ) → Names (map S.text words.now) file → ⊥)
+        (λ file. Names (map S.text words.now) file.now) }
 {
     match words.len() {
-        3 => {
-            let name = words[2].as_str();
+        1 => {
+            let name = words[0].as_str();
             if is_option(name) {
                 return None;
             }
             Some(name)
         }
-        4 => {
-            let mark = words[2].as_str();
+        2 => {
+            let mark = words[0].as_str();
             if is_no_mark(mark) {
                 return None;
             }
-            Some(words[3].as_str())
+            Some(words[1].as_str())
         }
         _ => None,
     }
+}
+
+// Finds the file that the words behind a verb name.
+fn file_of<'a, S: AsStr>(words: &'a [S]) -> Option<&'a str>
+    requires { 2 ≤ length words.now }
+    ensures { MatchOption result
+        ((file : List ℕ) → NamesFile (map S.text words.now) file → ⊥)
+        (λ file. NamesFile (map S.text words.now) file.now) }
+{
+    name_of(&words[2..])
 }
 
 // Finds the drive that these words ask for.
@@ -357,91 +589,129 @@ fn audit_of<'a, S: AsStr>(words: &'a [S]) -> Option<Task<'a>>
     if words.len() < 3 || words[1].as_str() != "audit" {
         return None;
     }
-    let directory = words[2].as_str();
-    if is_option(directory) {
+    let source = words[2].as_str();
+    if is_no_source(source) {
         return None;
     }
     match audit_options_of(&words[3..]) {
-        Some(options) => Some(Task::Audit {
-            directory,
-            first: options.first,
-            is_csv: options.is_csv,
-        }),
+        Some(options) => Some(Task::Audit { source, options }),
         None => None,
     }
+}
+
+/// Tells whether a word names no source of an audit: it is taken for an option.
+fn is_no_source(word: &str) -> bool
+    ensures { IsFalse result ↔ (IsPlain word.now ⊎ (word.now ≡ codes "-")) }
+{
+    is_option(word) && word != "-"
 }
 
 // Finds the options of an audit that these words say.
 fn audit_options_of<S: AsStr>(words: &[S]) -> Option<AuditOptions>
     ensures { MatchOption result
-        ((first : Option ℕ) (csv : Bool) → AreAuditOptions (map S.text words.now) first csv → ⊥)
-        (λ o. AreAuditOptions (map S.text words.now) o.first o.is_csv) }
+        ((o : AuditOptions) → Says no_options (map S.text words.now) o → ⊥)
+        (Says no_options (map S.text words.now)) }
 {
-    match words.len() {
-        0 => Some(AuditOptions {
-            first: None,
-            is_csv: false,
-        }),
-        1 => {
-            if words[0].as_str() != "--csv" {
-                return None;
-            }
-            Some(AuditOptions {
-                first: None,
-                is_csv: true,
-            })
-        }
-        2 => match first_of(words[0].as_str(), words[1].as_str()) {
-            Some(first) => Some(AuditOptions {
-                first: Some(first),
-                is_csv: false,
-            }),
-            None => None,
-        },
-        3 => csv_first_of(words[0].as_str(), words[1].as_str(), words[2].as_str()),
-        _ => None,
-    }
+    let none = AuditOptions {
+        initial: None,
+        first: None,
+        is_csv: false,
+    };
+    options_from(none, words)
 }
 
-// Finds both options of an audit in three words.
-fn csv_first_of(head: &str, middle: &str, last: &str) -> Option<AuditOptions>
+// Finds the options that these words say besides some, in any order.
+fn options_from<S: AsStr>(so_far: AuditOptions, words: &[S]) -> Option<AuditOptions>
     ensures { MatchOption result
-        ((first : Option ℕ) (csv : Bool)
-        → AreAuditOptions (head.now ∷ middle.now ∷ last.now ∷ []) first csv → ⊥)
-        (λ o. AreAuditOptions (head.now ∷ middle.now ∷ last.now ∷ []) o.first o.is_csv) }
+        ((o : AuditOptions) → Says so_far (map S.text words.now) o → ⊥)
+        (Says so_far (map S.text words.now)) }
 {
-    if head == "--csv" {
-        return match first_of(middle, last) {
-            Some(first) => Some(AuditOptions {
-                first: Some(first),
-                is_csv: true,
-            }),
+    if words.is_empty() {
+        return Some(so_far);
+    }
+    if words[0].as_str() == "--csv" {
+        return match with_csv(so_far) {
+            Some(next) => options_from(next, &words[1..]),
             None => None,
         };
     }
-    if last != "--csv" {
+    if words.len() < 2 {
         return None;
     }
-    match first_of(head, middle) {
-        Some(first) => Some(AuditOptions {
-            first: Some(first),
-            is_csv: true,
+    match with_number(so_far, words[0].as_str(), words[1].as_str()) {
+        Some(next) => options_from(next, &words[2..]),
+        None => None,
+    }
+}
+
+// Adds `--csv` to options that lack it.
+fn with_csv(o: AuditOptions) -> Option<AuditOptions>
+    ensures { MatchOption result (o.is_csv ≡ true)
+        (λ p. (o.is_csv ≡ false) × (p ≡ record o { is_csv = true })) }
+{
+    if o.is_csv {
+        return None;
+    }
+    Some(AuditOptions {
+        initial: o.initial,
+        first: o.first,
+        is_csv: true,
+    })
+}
+
+// Adds `--first` or `--initial` with its number to options that lack it.
+fn with_number(o: AuditOptions, mark: &str, word: &str) -> Option<AuditOptions>
+    ensures { MatchOption result
+        ((p : AuditOptions) → Adds o mark.now word.now p → ⊥)
+        (Adds o mark.now word.now) }
+{
+    if mark == "--first" {
+        return with_first(o, word);
+    }
+    if mark == "--initial" {
+        return with_initial(o, word);
+    }
+    None
+}
+
+// Adds `--first` with its number to options that lack it.
+fn with_first(o: AuditOptions, word: &str) -> Option<AuditOptions>
+    ensures { MatchOption result
+        ((n : ℕ) → o.first ≡ None → IsInRange 1 4_294_967_295 n → word.now ≢ decimal n)
+        (λ p. AddsFirst o word.now p) }
+{
+    if o.first.is_some() {
+        return None;
+    }
+    let number: Option<Number<1, 4_294_967_295>> = number_of(word);
+    match number {
+        Some(number) => Some(AuditOptions {
+            initial: o.initial,
+            first: Some(number.get()),
+            is_csv: o.is_csv,
         }),
         None => None,
     }
 }
 
-// Reads how many findings are shown: `--first`, and a number from 1 on.
-fn first_of(mark: &str, word: &str) -> Option<u32>
+// Adds `--initial` with its number to options that lack it.
+fn with_initial(o: AuditOptions, word: &str) -> Option<AuditOptions>
     ensures { MatchOption result
-        ((n : ℕ) → IsFirst (Some n) → mark.now ∷ word.now ∷ [] ≢ first_words (Some n))
-        (λ n. IsFirst (Some n) × (mark.now ∷ word.now ∷ [] ≡ first_words (Some n))) }
+        ((n : ℕ) → o.initial ≡ None → IsInRange 0 4_294_967_295 n → word.now ≢ decimal n)
+        (λ p. AddsInitial o word.now p) }
 {
-    if mark != "--first" {
+    if o.initial.is_some() {
         return None;
     }
-    let number: Number<1, 4_294_967_295> = number_of(word)?;
-    Some(number.get())
+    let number: Option<Number<0, 4_294_967_295>> = number_of(word);
+    match number {
+        Some(number) => Some(AuditOptions {
+            initial: Some(number.get()),
+            first: o.first,
+            is_csv: o.is_csv,
+        }),
+        None => None,
+    }
 }
 
 // Finds the load that these words ask for.
@@ -581,13 +851,15 @@ fn what_else<S: AsStr>(words: &[S]) -> &'static str {
         return LOAD_WORDS;
     }
     if words.len() > 3 && words[1].as_str() == "script" {
-        return "--explain comes right behind script, and then FILE";
+        return "--explain comes right behind script, and then FILE; or --from DIR, and then \
+--extents E from 2 to 4096, --layout 1 or 2, and FILE";
     }
     if words.len() > 1 && words[1].as_str() == "audit" {
-        return "DIR comes first, --csv and --first N behind it; N is digits alone, from 1 on";
+        return "DIR, FILE or - comes first, --csv, --first N and --initial N behind it; \
+N is digits alone";
     }
     if words.len() > 3 && words[1].as_str() == "serial" {
-        return "FILE comes first, --tables DIR behind it";
+        return "FILE comes first, --from DIR, --tables DIR2 and --csv behind it, in this order";
     }
     "FILE is missing"
 }
@@ -612,6 +884,23 @@ fn grammar<'a>(alloc: Global) -> Result<Command<'a>, Error> {
 fn script_grammar<'a>(alloc: Global) -> Result<Command<'a>, Error> {
     let command = command(alloc, "script", SCRIPT)
         .arg(flag(alloc, "explain").help("Says on standard error why lines are answered BadLine"))?
+        .arg(
+            Arg::new(alloc, "DIR").long("from").help(
+                "Begins with the population in the nine files of a directory",
+            ),
+        )?
+        .arg(
+            Arg::new(alloc, "E")
+                .long("extents")
+                .value_parser(value_parser!(u32).range(2..=4_096))
+                .help("Undo extents behind --from, 2 to 4096"),
+        )?
+        .arg(
+            Arg::new(alloc, "L")
+                .long("layout")
+                .value_parser(value_parser!(u32).range(1..=2))
+                .help("Layout of undo records behind --from, 1 or 2"),
+        )?
         .arg(Arg::new(alloc, "FILE").help("The script; standard input where it is left out"))?;
     Ok(command)
 }
@@ -619,12 +908,18 @@ fn script_grammar<'a>(alloc: Global) -> Result<Command<'a>, Error> {
 /// Makes the grammar of a file of replies.
 fn serial_grammar<'a>(alloc: Global) -> Result<Command<'a>, Error> {
     let command = command(alloc, "serial", SERIAL)
-        .arg(Arg::new(alloc, "FILE").help("An opening, and a line for each commit"))?
+        .arg(Arg::new(alloc, "FILE").help("An opening, and a line for each reply"))?
         .arg(
-            Arg::new(alloc, "DIR")
+            Arg::new(alloc, "DIR").long("from").help(
+                "Begins with the population in the nine files of a directory",
+            ),
+        )?
+        .arg(
+            Arg::new(alloc, "DIR2")
                 .long("tables")
                 .help("Compares the tables with the nine files of a directory"),
-        )?;
+        )?
+        .arg(flag(alloc, "csv").help("Reads comma-separated values"))?;
     Ok(command)
 }
 
@@ -660,14 +955,18 @@ fn audit_grammar<'a>(alloc: Global) -> Result<Command<'a>, Error> {
     let first = Arg::new(alloc, "N")
         .long("first")
         .value_parser(value_parser!(u32).range(1..=4_294_967_295));
+    let initial = Arg::new(alloc, "ORDERS")
+        .long("initial")
+        .value_parser(value_parser!(u32).range(0..=4_294_967_295));
     let command = command(alloc, "audit", AUDIT)
         .arg(
-            Arg::new(alloc, "DIR")
-                .required(true)
-                .help("The directory of the nine files"),
+            Arg::new(alloc, "SOURCE").required(true).help(
+                "The directory of the nine files, or one file, or - for standard input",
+            ),
         )?
-        .arg(flag(alloc, "csv").help("Reads comma-separated values"))?
-        .arg(first.help("Shows the first N findings of each condition"))?;
+        .arg(flag(alloc, "csv").help("Reads files of comma-separated values"))?
+        .arg(first.help("Shows the first N rows of each list"))?
+        .arg(initial.help("Each district had as many orders at first"))?;
     Ok(command)
 }
 

@@ -14,7 +14,7 @@ pub returns : goal.returns
 returns g c =
     let none = c.if-count-gt0.false in
     let counted = c.count.ensures.value in
-    compares c.args.count (rows c.args.tables.now) (nine_of g.S.Intake.source c.args.sources.now)
+    compares c.args.format c.args.count (rows c.args.tables.now) (nine_of g.S.Intake.source c.args.sources.now)
     (nine_of g.S.Intake.source c.compare_tables.new.from) (g.W.Outlet.sink c.args.writer.now)
     (g.W.Outlet.sink c.tell.new.writer) c.compare_tables.new.report c.tell.result
     (c.compare_tables.new.faults, c.in_default-compare_tables.ensures, omega (arith, none, counted)) c.tell.ensures

@@ -21,7 +21,8 @@ returns g c =
     let by_deeds = c.compare_deeds.ensures.others in
     let by_goods = c.compare_goods.ensures.others in
     let homes = subst
-    (λ (f : fault.Told TableFault). HomesCompared first second r f c.compare_homes.new.faults c.args.report.now
+    (λ (f : fault.Told TableFault). HomesCompared c.args.format first second r f c.compare_homes.new.faults
+    c.args.report.now
     c.compare_homes.new.report) c.requires.faults c.in_default.ensures.compared in
     on_ok_weaker c.compare_goods.result
     (λ goods. record {
@@ -34,7 +35,7 @@ returns g c =
         by_goods.0.1 ∙ by_deeds.0.1,
         by_goods.0.2 ∙ by_deeds.0.2,
       )
-          (subst (λ (t : Told). HomesCompared first second r fault.no_faults c.compare_homes.new.faults t
+          (subst (λ (t : Told). HomesCompared c.args.format first second r fault.no_faults c.compare_homes.new.faults t
           c.compare_homes.new.report) c.requires.report homes);
       deeds = deeds_of second first third last r _ _ _ _
           (sym by_homes.0.0, sym by_homes.0.1, sym by_homes.0.2)

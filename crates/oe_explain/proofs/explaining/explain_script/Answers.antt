@@ -1,3 +1,4 @@
+use Rattle.std.proofs.Common.{None}
 use Rattle.oe_script.specs.Hearing.{HearsEach}
 use Rattle.oe_script.proofs.Ending.{heard_map}
 use Rattle.oe_explain.specs.Explaining.{Said, SaysOne}
@@ -9,7 +10,7 @@ returns g c =
     let old = c.args.explainer.now in
     let new = c.hear_script.new.listener in
     let sink = g.E.Outlet.sink in
-    heard_map (λ told. HearsEach
+    heard_map None tt (λ told. HearsEach
     (λ a x b. SaysOne a.has_failed b.has_failed (sink a.to) (sink b.to) x) old told new)
     (Said new.has_failed (sink old.to) (sink new.to))
     (λ told h. said (λ x. x.has_failed) (λ x. sink x.to) old told new c.requires h)

@@ -1,8 +1,6 @@
-use Rattle.std.proofs.Common.{ap, refl, ◌∙◌}
-use Rattle.oe_rows.specs.declared.keys.Key.TheVariants as key
+use Rattle.std.proofs.Common.{refl, ◌∙◌}
 use Rattle.oe_rows.specs.declared.rows.Row.TheVariants as row
 use Rattle.oe_model.specs.Rows.{Rows}
-use Rattle.oe_loading.specs.Base.{base_rows}
 use Rattle.oe_loading.specs.Loading.{nine_of}
 use Rattle.oe_loading.proofs.BaseFacts.{none_at}
 use Rattle.oe_loading.proofs.LoadedFacts.{base_loaded, customers_keep, items_keep}

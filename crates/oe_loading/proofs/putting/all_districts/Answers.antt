@@ -1,4 +1,4 @@
-use Rattle.std.proofs.Common.{◌++◌, ◌∷◌, [], map, subst, sym}
+use Rattle.std.proofs.Common.{◌∷◌, [], map, subst, sym}
 use Rattle.std.proofs.lemmas.List.{map-append}
 use Rattle.oe_rows.specs.Key.{district_cmp}
 use Rattle.oe_rows.specs.declared.districts.District.{District}

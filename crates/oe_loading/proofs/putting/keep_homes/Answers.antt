@@ -1,9 +1,6 @@
 use Rattle.std.proofs.Common.{subst, sym}
-use Rattle.oe_rows.specs.Key.{district_cmp}
 use Rattle.oe_rows.specs.declared.rows.Row.TheVariants as row
 use Rattle.oe_model.specs.Rows.{Rows}
-use Rattle.oe_table.specs.Table.{rows_of}
-use Rattle.oe_loading.specs.Homes.{AreDistricts}
 use Rattle.oe_loading.specs.Loaded.{HomesPut}
 use Rattle.oe_loading.proofs.BaseFacts.{none_at}
 use Rattle.oe_loading.proofs.HomeFacts.{homes_put, homes_are}

@@ -1,4 +1,3 @@
-use Rattle.std.proofs.Common.{◌∙◌, ap}
 use Rattle.oe_rowlines.proofs.FieldFacts.{field_count, eight}
 use Rattle.oe_rowlines.proofs.histories.has_eight.Goals as goal
 

@@ -5,7 +5,8 @@ use Rattle.oe_rowlines.specs.Rows.{warehouse_forms, warehouse_values, district_f
 use Rattle.oe_rowlines.specs.Rows.{customer_values, history_forms, history_values, new_order_forms, new_order_values}
 use Rattle.oe_rowlines.specs.Rows.{order_forms, order_values, order_line_forms, order_line_values, item_forms}
 use Rattle.oe_rowlines.specs.Rows.{item_values, stock_forms, stock_values}
-use Rattle.oe_rowlines.proofs.DumpFacts.{read_back, orders_shown, order_lines_shown, stocks_shown}
+use Rattle.oe_rowlines.specs.Line.{fields_of}
+use Rattle.oe_rowlines.proofs.DumpFacts.{read_back, behind_ours, orders_shown, order_lines_shown, stocks_shown}
 use Rattle.oe_rowlines.proofs.laws.dumps_are_read.Goals as goal
 
 pub returns : goal.returns
@@ -16,8 +17,10 @@ returns c = record {
       (λ r. (_, _, refl));
   customers = read_back customer_forms customer_values (λ r. customer_columns r.0 r.1) refl (λ r. refl)
       (λ r. (_, _, refl));
-  histories = read_back history_forms history_values (λ r. history_columns r.0 r.1) refl (λ r. refl)
-      (λ r. (_, _, refl));
+  histories = λ r line are e.
+      behind_ours r (fields_of line)
+      (read_back history_forms history_values (λ r. history_columns r.0 r.1) refl (λ r. refl) (λ r. (_, _, refl)) r line
+      are e);
   new_orders = read_back new_order_forms new_order_values (λ r. new_order_columns r.0) refl (λ r. refl)
       (λ r. (_, _, refl));
   orders = read_back order_forms order_values (λ r. order_columns r.0 r.1) refl orders_shown (λ r. (_, _, refl));

@@ -54,5 +54,4 @@ returns-clause-kept c t h = record {
     counted = h.stocks.counted;
   };
   initial = c.settle-6.ensures.initial ∙ h.initial ∙ sym c.settle-7.ensures.initial;
-  unbegun = h.unbegun;
 }

@@ -1,4 +1,3 @@
-use Rattle.std.proofs.Common.{refl}
 use Rattle.oe_loading.proofs.BaseFacts.{base_start}
 use Rattle.oe_loading.proofs.base.Base.of.Goals as goal
 

@@ -1,4 +1,4 @@
-use Rattle.std.proofs.Common.{◌≡◌, None, List, [], ◌∷◌, ap, refl}
+use Rattle.std.proofs.Common.{[], ap, refl}
 use Rattle.std.proofs.lemmas.Result.{on_ok_weaker}
 use Rattle.oe_rows.proofs.KeyFacts.{order_total, exact_order}
 use Rattle.oe_rows.specs.declared.keys.Key.TheVariants as key

@@ -1,4 +1,4 @@
-use Rattle.std.proofs.Common.{◌≡◌, sym, ◌∙◌}
+use Rattle.std.proofs.Common.{sym}
 use Rattle.oe_rowlines.specs.Line.{ended}
 use Rattle.oe_rowlines.proofs.FieldFacts.{not_ended}
 use Rattle.oe_rowlines.proofs.fields.Fields.end.Goals as goal

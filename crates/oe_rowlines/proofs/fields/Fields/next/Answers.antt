@@ -1,6 +1,6 @@
-use Rattle.std.proofs.Common.{◌≡◌, ℕ, ◌+◌, List, sym, ap, ◌∙◌, []}
+use Rattle.std.proofs.Common.{ℕ, ◌+◌, List, ap, ◌∙◌, []}
 use Rattle.std.proofs.lemmas.List.{take_rest}
-use Rattle.oe_rowlines.specs.Line.{Left, fields_of}
+use Rattle.oe_rowlines.specs.Line.{fields_of}
 use Rattle.oe_rowlines.proofs.FieldFacts.{alone, parted, taken_value, taken_left, held}
 use Rattle.oe_rowlines.proofs.fields.Fields.next.Goals as goal
 

@@ -14,13 +14,14 @@ loop-init g c =
     record {
       room = refl;
       count = omega (arith, r.count);
-      live = subst (λ o. IsLive (state_of o)) (sym r.core) tt;
+      live = r.live;
       written = r.out;
       read = (
         [],
         read_none (g.R.Intake.source c.args.reader.now),
-        standing_start g.H.Listener.hears c.args.listener.now (g.W.Outlet.sink c.args.writer.now) was.out.items
-            (state_of was.core) was.count was.line.items was.over (ap state_of r.core) r.line r.over r.count r.out,
+        standing_start (state_of c.args.self.now.core) c.requires.live g.H.Listener.hears c.args.listener.now
+            (g.W.Outlet.sink c.args.writer.now) was.out.items
+            (state_of was.core) was.count was.line.items was.over refl r.line r.over r.count r.out,
       );
     }
 
@@ -28,7 +29,8 @@ pub returns-in-Err : goal.returns-in-Err
 returns-in-Err g c =
     let i = c.loop.invariant.read in
     let s = c.loop.self in
-    ran_unread g.H.Listener.hears c.args.listener.now c.loop.listener (g.R.Intake.source c.args.reader.now)
+    ran_unread (state_of c.args.self.now.core) c.requires.live g.H.Listener.hears c.args.listener.now c.loop.listener
+    (g.R.Intake.source c.args.reader.now)
     (g.R.Intake.source c.loop.reader)
     (g.R.Intake.source c.read.new.self) (g.W.Outlet.sink c.args.writer.now) (g.W.Outlet.sink c.loop.writer)
     i.0 c.read.new.buf s.out.items c.loop.counter (state_of s.core) s.count s.line.items s.over c.in-Err.field-0 i.1
@@ -37,39 +39,46 @@ returns-in-Err g c =
 pub returns-in-Ok-finish : goal.returns-in-Ok-finish
 returns-in-Ok-finish g c =
     let i = c.loop.invariant.read in
-    ran_whole (λ told. HearsEach g.H.Listener.hears c.args.listener.now told c.finish.new.listener)
+    ran_whole (state_of c.args.self.now.core) c.requires.live (λ told. HearsEach g.H.Listener.hears
+    c.args.listener.now told c.finish.new.listener)
     (g.R.Intake.source c.args.reader.now) (g.R.Intake.source c.loop.reader)
     (g.R.Intake.source c.read.new.self) (g.W.Outlet.sink c.args.writer.now) (g.W.Outlet.sink c.finish.new.to)
     i.0 c.read.new.buf c.loop.counter i.1 (rw c.in-Ok-eq0.field-0-test at c.in-Ok-eq0.ensures.bytes)
     (omega (arith, c.read.auto.buf, c.loop.invariant.room))
-    (c.in-Ok-finish.ensures c.args.listener.now (g.W.Outlet.sink c.args.writer.now) i.0 i.2)
+    (c.in-Ok-finish.ensures (state_of c.args.self.now.core) c.requires.live c.args.listener.now (g.W.Outlet.sink
+    c.args.writer.now) i.0 i.2)
 
 pub returns-in-Err-finish : goal.returns-in-Err-finish
 returns-in-Err-finish g c =
     let i = c.loop.invariant.read in
-    ran_cut (λ told. HearsEach g.H.Listener.hears c.args.listener.now told c.finish.new.listener)
+    ran_cut (state_of c.args.self.now.core) c.requires.live (λ told. HearsEach g.H.Listener.hears c.args.listener.now
+    told c.finish.new.listener)
     (g.R.Intake.source c.args.reader.now) (g.R.Intake.source c.read.new.self)
     (g.W.Outlet.sink c.args.writer.now) (g.W.Outlet.sink c.finish.new.to)
     i.0 c.loop.counter
     (read_end (g.R.Intake.source c.args.reader.now) (g.R.Intake.source c.loop.reader)
     (g.R.Intake.source c.read.new.self) i.0 c.read.new.buf c.loop.counter i.1
     (rw c.in-Ok-eq0.field-0-test at c.in-Ok-eq0.ensures.bytes))
-    (c.in-Err-finish.ensures c.args.listener.now (g.W.Outlet.sink c.args.writer.now) i.0 i.2)
+    (c.in-Err-finish.ensures (state_of c.args.self.now.core) c.requires.live c.args.listener.now (g.W.Outlet.sink
+    c.args.writer.now) i.0 i.2)
 
 pub returns-in-Err-answer : goal.returns-in-Err-answer
 returns-in-Err-answer g c =
     let i = c.loop.invariant.read in
-    ran_cut (λ told. HearsEach g.H.Listener.hears c.args.listener.now told c.answer.new.listener)
+    ran_cut (state_of c.args.self.now.core) c.requires.live (λ told. HearsEach g.H.Listener.hears c.args.listener.now
+    told c.answer.new.listener)
     (g.R.Intake.source c.args.reader.now) (g.R.Intake.source c.read.new.self)
     (g.W.Outlet.sink c.args.writer.now) (g.W.Outlet.sink c.answer.new.to)
     (i.0 ++ take c.in-Ok.n c.read.new.buf) (c.loop.counter + 1)
     (read_more (g.R.Intake.source c.args.reader.now) (g.R.Intake.source c.loop.reader)
     (g.R.Intake.source c.read.new.self) i.0 c.read.new.buf c.loop.counter c.in-Ok.n i.1
     c.in-Ok.ensures.bytes c.in-Ok.ensures.bound (omega (arith, c.in-Ok.n-test)))
-    (broken_here (λ told. HearsEach g.H.Listener.hears c.args.listener.now told c.answer.new.listener)
+    (broken_here (state_of c.args.self.now.core) c.requires.live (λ told. HearsEach g.H.Listener.hears
+    c.args.listener.now told c.answer.new.listener)
     (g.W.Outlet.sink c.args.writer.now) (g.W.Outlet.sink c.answer.new.to)
     (i.0 ++ take c.in-Ok.n c.read.new.buf)
-    (c.in-Err-answer.ensures.fed c.args.listener.now (g.W.Outlet.sink c.args.writer.now) i.0 i.2))
+    (c.in-Err-answer.ensures.fed (state_of c.args.self.now.core) c.requires.live c.args.listener.now (g.W.Outlet.sink
+    c.args.writer.now) i.0 i.2))
 
 pub loop-preserved : goal.loop-preserved
 loop-preserved g c =
@@ -92,7 +101,8 @@ loop-preserved g c =
         read_more (g.R.Intake.source c.args.reader.now) (g.R.Intake.source c.loop.reader)
             (g.R.Intake.source c.read.new.self) i.0 c.read.new.buf c.loop.counter c.in-Ok.n i.1
             c.in-Ok.ensures.bytes c.in-Ok.ensures.bound (omega (arith, c.in-Ok.n-test)),
-        c.in_default.ensures.fed c.args.listener.now (g.W.Outlet.sink c.args.writer.now) i.0 i.2,
+        c.in_default.ensures.fed (state_of c.args.self.now.core) c.requires.live c.args.listener.now (g.W.Outlet.sink
+            c.args.writer.now) i.0 i.2,
       );
     }
 
@@ -100,7 +110,8 @@ pub returns : goal.returns
 returns g c =
     let i = c.loop.invariant.read in
     let s = c.loop.self in
-    ran_long g.H.Listener.hears c.args.listener.now c.loop.listener (g.R.Intake.source c.args.reader.now)
+    ran_long (state_of c.args.self.now.core) c.requires.live g.H.Listener.hears c.args.listener.now c.loop.listener
+    (g.R.Intake.source c.args.reader.now)
     (g.R.Intake.source c.loop.reader) (g.W.Outlet.sink c.args.writer.now)
     (g.W.Outlet.sink c.loop.writer)
     i.0 s.out.items c.loop.counter (state_of s.core) s.count s.line.items s.over (omega arith) i.1

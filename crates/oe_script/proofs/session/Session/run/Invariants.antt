@@ -10,6 +10,7 @@ invariant-loop g l = record {
   written : l.self.out.items ≡ [];
   live : IsLive (state_of l.self.core);
   read : (read : List ℕ) × ReadSoFar (g.R.Intake.source l.initial.reader) (g.R.Intake.source l.reader) read l.counter
-      × Standing g.H.Listener.hears l.initial.listener l.listener (g.W.Outlet.sink l.initial.writer) read
+      × Standing (state_of l.initial.self.core) g.H.Listener.hears l.initial.listener l.listener (g.W.Outlet.sink
+      l.initial.writer) read
       (g.W.Outlet.sink l.writer) l.self.out.items (state_of l.self.core) l.self.count l.self.line.items l.self.over;
 }

@@ -1,0 +1,96 @@
+-- A CUSTOMER, an ORDER or an ORDER-LINE row more, by which the number of first orders is known otherwise.
+use Rattle.std.proofs.Common.{◌≡◌, ℕ, [], ◌∷◌, ◌++◌, Option, sym, subst, ◌∙◌}
+use Rattle.oe_facts.specs.declared.facts.CustomerFact.{CustomerFact}
+use Rattle.oe_facts.specs.declared.facts.OrderFact.{OrderFact}
+use Rattle.oe_facts.specs.declared.facts.OrderLineFact.{OrderLineFact}
+use Rattle.oe_facts.specs.declared.tables.Fact.{Fact}
+use Rattle.oe_facts.specs.declared.tables.Fact.TheVariants as fact
+use Rattle.oe_ledgers.specs.declared.customers.Customers.{Customers}
+use Rattle.oe_ledgers.specs.declared.orders.Orders.{Orders}
+use Rattle.oe_ledgers.specs.Keeping.{KeepsCustomers}
+use Rattle.oe_books.specs.declared.rows.Rows.{Rows}
+use Rattle.oe_books.specs.declared.rows.Lines.{Lines}
+use Rattle.oe_books.specs.declared.books.Books.{Books}
+use Rattle.oe_books.specs.declared.books.Initial.{Initial}
+use Rattle.oe_books.specs.Facts.{Facts, with_fact}
+use Rattle.oe_books.specs.Keeping.{IsOf, BookOrders, BookLines, KeepsRows, Keeps, IsBegun, IsInitial, behind_customer}
+use Rattle.oe_books.proofs.InitialFacts.{customer_more, order_more, line_more}
+
+module _ (g : Option ℕ) (t : Facts) (b : Books) where
+  customer_there : (x : CustomerFact) (rows : Rows Customers) (i : Initial) → i ≡ behind_customer b.initial
+      → IsOf KeepsCustomers (t.customers ++ x ∷ []) rows → Keeps g t b
+      → Keeps g (with_fact t (fact.Customer x)) (record b { customers = rows; initial = i })
+  customer_there x rows i behind more h = record {
+    rows = record {
+      warehouses = h.rows.warehouses;
+      districts = h.rows.districts;
+      customers = more;
+      histories = h.rows.histories;
+      new_orders = h.rows.new_orders;
+      orders = h.rows.orders;
+      lines = h.rows.lines;
+      items = h.rows.items;
+      stocks = h.rows.stocks;
+      initial = h.rows.initial;
+    };
+    initial = subst (λ i. IsInitial g (with_fact t (fact.Customer x)) i b.orders.kept.initial) (sym behind)
+        (customer_more g t x b.initial b.orders.kept.initial h.initial);
+  }
+
+  pub customer_taken : (f : Fact) (x : CustomerFact) (rows : Rows Customers) (i : Initial) → f ≡ fact.Customer x
+      → i ≡ behind_customer b.initial → IsOf KeepsCustomers (t.customers ++ x ∷ []) rows → Keeps g t b
+      → Keeps g (with_fact t f) (record b { customers = rows; initial = i })
+  customer_taken f x rows i is behind more h =
+      subst (λ f. Keeps g (with_fact t f) (record b { customers = rows; initial = i })) (sym is)
+      (customer_there x rows i behind more h)
+
+  order_there : (x : OrderFact) (rows : Rows Orders) → rows.kept.initial ≡ b.orders.kept.initial
+      → IsOf BookOrders (t.orders ++ x ∷ []) rows → KeepsRows t b → IsBegun g t b
+      → Keeps g (with_fact t (fact.Order x)) (record b { orders = rows })
+  order_there x rows same more h begun = record {
+    rows = record {
+      warehouses = h.warehouses;
+      districts = h.districts;
+      customers = h.customers;
+      histories = h.histories;
+      new_orders = h.new_orders;
+      orders = more;
+      lines = h.lines;
+      items = h.items;
+      stocks = h.stocks;
+      initial = same ∙ h.initial;
+    };
+    initial = subst (IsInitial g (with_fact t (fact.Order x)) b.initial) (sym same)
+        (order_more g t x b.initial b.orders.kept.initial begun);
+  }
+
+  pub order_taken : (f : Fact) (x : OrderFact) (rows : Rows Orders) → f ≡ fact.Order x
+      → rows.kept.initial ≡ b.orders.kept.initial → IsOf BookOrders (t.orders ++ x ∷ []) rows → KeepsRows t b
+      → IsBegun g t b → Keeps g (with_fact t f) (record b { orders = rows })
+  order_taken f x rows is same more h begun =
+      subst (λ f. Keeps g (with_fact t f) (record b { orders = rows })) (sym is) (order_there x rows same more h begun)
+
+  line_there : (x : OrderLineFact) (rows : Rows Lines) → rows.kept.sums.initial ≡ b.lines.kept.sums.initial
+      → IsOf BookLines (t.lines ++ x ∷ []) rows → KeepsRows t b → IsBegun g t b
+      → Keeps g (with_fact t (fact.OrderLine x)) (record b { lines = rows })
+  line_there x rows same more h begun = record {
+    rows = record {
+      warehouses = h.warehouses;
+      districts = h.districts;
+      customers = h.customers;
+      histories = h.histories;
+      new_orders = h.new_orders;
+      orders = h.orders;
+      lines = more;
+      items = h.items;
+      stocks = h.stocks;
+      initial = h.initial ∙ sym same;
+    };
+    initial = line_more g t x b.initial b.orders.kept.initial begun;
+  }
+
+  pub line_taken : (f : Fact) (x : OrderLineFact) (rows : Rows Lines) → f ≡ fact.OrderLine x
+      → rows.kept.sums.initial ≡ b.lines.kept.sums.initial → IsOf BookLines (t.lines ++ x ∷ []) rows → KeepsRows t b
+      → IsBegun g t b → Keeps g (with_fact t f) (record b { lines = rows })
+  line_taken f x rows is same more h begun =
+      subst (λ f. Keeps g (with_fact t f) (record b { lines = rows })) (sym is) (line_there x rows same more h begun)

@@ -1,0 +1,28 @@
+use Rattle.oe_file_audit.proofs.AuditFacts.{are_of, all_hold, some_fails}
+use Rattle.oe_file_audit.proofs.audits.report.Goals as goal
+
+pub returns-in-Ok-write_report : goal.returns-in-Ok-write_report
+returns-in-Ok-write_report g c t ready =
+    let results = c.in-Ok.results in (
+      results,
+      are_of c.args.options.now t c.args.settled.now ready results (c.in-Ok.ensures c.args.options.now.initial t ready),
+      c.in-Ok-write_report.ensures,
+      all_hold results c.count_failing.result c.count_failing.ensures c.if-count_failing-eq0.true,
+    )
+
+pub returns-in-Ok-2 : goal.returns-in-Ok-2
+returns-in-Ok-2 g c t ready =
+    let results = c.in-Ok.results in (
+      results,
+      are_of c.args.options.now t c.args.settled.now ready results (c.in-Ok.ensures c.args.options.now.initial t ready),
+      c.in-Ok-2.ensures,
+      some_fails results c.count_failing.result c.count_failing.ensures c.if-count_failing-eq0.false,
+    )
+
+pub returns : goal.returns
+returns g c t ready =
+    let results = c.in-Ok.results in (
+      results,
+      are_of c.args.options.now t c.args.settled.now ready results (c.in-Ok.ensures c.args.options.now.initial t ready),
+      c.in-Err-write_report.ensures,
+    )

@@ -1,0 +1,260 @@
+//! The lines that tell what is wrong with sources: at most three lines of each table, and how many
+//! more there are. No memory is taken.
+ghost use Rattle.std.specs.Prelude.{◌≡◌, ◌≤◌, ◌+◌, ◌++◌, [], length, slice_index};
+ghost use Rattle.oe_sources.specs.Fault.{place_of};
+ghost use Rattle.std.specs.List.{flat_map};
+ghost use Rattle.arrayvec.specs.ArrayVec.{array_vec_len};
+ghost use Rattle.oe_ports.specs.Ports.{Streams};
+ghost use Rattle.oe_file_audit.specs.Faults.{name_at, kind_at, wanted_text, printed, shown_text, wrong_text, fault_line, more_line, more_text, source_text, lack_line};
+
+use crate::lines::{LineOf, put_lines};
+use oe_books::Lack;
+use oe_columns::{Kind, LayoutFault, fact_columns};
+use oe_facts::Table;
+use oe_ports::output::flush;
+use oe_ports::ports::{Failed, Outlet};
+use oe_sources::{Faults, SourceFault, Wrong};
+use oe_texts::columns::number;
+use oe_texts::{LONGEST, Pending, SIZE, text};
+
+// The tables, in the order of a report.
+const TABLES: [Table; 9] = [
+    Table::Warehouse,
+    Table::District,
+    Table::Customer,
+    Table::History,
+    Table::NewOrder,
+    Table::Order,
+    Table::OrderLine,
+    Table::Item,
+    Table::Stock,
+];
+
+/// Gives the name of a column that a fact needs, by its number among them.
+fn name_at(table: Table, column: usize) -> &'static str
+    ensures value { result.now ≡ name_at table column }
+    ensures most { length result.now ≤ 20 }
+{
+    match fact_columns(table).get(column) {
+        Some(found) => found.name,
+        None => "?",
+    }
+}
+
+/// Appends the name of a column.
+fn name(out: &mut Pending, table: Table, column: usize)
+    requires { array_vec_len out.old + 20 ≤ SIZE }
+    ensures items { out.new.items ≡ out.old.items ++ name_at table column }
+    ensures len { array_vec_len out.new ≤ array_vec_len out.old + 20 }
+{
+    text(out, name_at(table, column).as_bytes());
+}
+
+/// Gives what the field of a column has to spell.
+fn kind_at(table: Table, column: usize) -> Kind
+    ensures { result ≡ kind_at table column }
+{
+    match fact_columns(table).get(column) {
+        Some(found) => found.kind,
+        None => Kind::Nullable,
+    }
+}
+
+/// Appends what a field has to spell.
+fn wanted(out: &mut Pending, kind: Kind)
+    requires { array_vec_len out.old + 80 ≤ SIZE }
+    ensures items { out.new.items ≡ out.old.items ++ wanted_text kind }
+    ensures len { array_vec_len out.new ≤ array_vec_len out.old + 80 }
+{
+    match kind {
+        Kind::Number(low, high) => {
+            text(out, b"a number from ");
+            number(out, low);
+            text(out, b" to ");
+            number(out, high);
+        }
+        Kind::Quantity => text(out, b"a whole number"),
+        Kind::Amount => text(out, b"an amount in cents"),
+        Kind::Nullable => text(out, b"a field"),
+        Kind::Flag => text(out, b"1 or 0"),
+    }
+}
+
+/// Gives a byte, or a question mark in its place where it can't be printed.
+fn printed(byte: u8) -> u8
+    ensures { result ≡ printed byte }
+{
+    if byte < 32 || byte > 126 { b'?' } else { byte }
+}
+
+/// Appends a text in quotes.
+fn shown(out: &mut Pending, bytes: &[u8])
+    requires most { length bytes.now ≤ 40 }
+    requires room { array_vec_len out.old + 44 ≤ SIZE }
+    ensures items { out.new.items ≡ out.old.items ++ shown_text bytes.now }
+    ensures len { array_vec_len out.new ≤ array_vec_len out.old + 44 }
+{
+    text(out, b" \"");
+    for byte in bytes {
+        out.push(printed(*byte));
+    }
+    out.push(b'"');
+}
+
+/// Appends what is wrong with a line.
+fn wrong(out: &mut Pending, fault: &SourceFault)
+    requires { array_vec_len out.old + 300 ≤ SIZE }
+    ensures items { out.new.items ≡ out.old.items ++ wrong_text fault.now }
+    ensures len { array_vec_len out.new ≤ array_vec_len out.old + 300 }
+{
+    match &fault.wrong {
+        Wrong::Misfit(misfit) => {
+            name(out, fault.table, misfit.column);
+            shown(out, fault.text.as_slice());
+            text(out, b": ");
+            wanted(out, kind_at(fault.table, misfit.column));
+        }
+        Wrong::Layout(LayoutFault::Missing(column)) => {
+            text(out, b"no column ");
+            name(out, fault.table, *column);
+            text(out, b" in");
+            shown(out, fault.text.as_slice());
+        }
+        Wrong::Layout(LayoutFault::Twice(column)) => {
+            text(out, b"twice the column ");
+            name(out, fault.table, *column);
+            text(out, b" in");
+            shown(out, fault.text.as_slice());
+        }
+        Wrong::Layout(LayoutFault::Fields(count)) => {
+            number(out, *count as u64);
+            text(out, b" fields, and no heading:");
+            shown(out, fault.text.as_slice());
+        }
+        Wrong::TooLong => text(out, b"more than 65536 bytes"),
+        Wrong::PastEnd => {
+            text(out, b"behind the end of the rows:");
+            shown(out, fault.text.as_slice());
+        }
+        Wrong::Miscount(_) => {
+            text(out, b"not the number of rows:");
+            shown(out, fault.text.as_slice());
+        }
+        Wrong::NotEnded => text(out, b"the end of its section is missing"),
+    }
+}
+
+/// Makes the lines of faults.
+#[derive(Drop)]
+struct FaultLines {}
+
+impl LineOf<SourceFault> for FaultLines {
+    ghost line = { λ _ fault. fault_line fault };
+
+    fn append(&self, fault: &SourceFault, out: &mut Pending) {
+        text(out, fault.table.name().as_bytes());
+        text(out, b" line ");
+        number(out, fault.line);
+        text(out, b": ");
+        wrong(out, fault);
+        out.push(b'\n');
+    }
+}
+
+/// Appends how many lines of a table more there are.
+fn more(out: &mut Pending, table: Table, count: u64)
+    requires { array_vec_len out.old + 100 ≤ SIZE }
+    ensures { out.new.items ≡ out.old.items ++ more_line table count }
+{
+    text(out, table.name().as_bytes());
+    text(out, b": ");
+    number(out, count);
+    text(out, b" more lines\n");
+}
+
+/// Makes the lines that tell how many lines of a table more there are.
+#[derive(Drop)]
+struct MoreLines<'a> {
+    faults: &'a Faults,
+}
+
+impl LineOf<Table> for MoreLines<'_> {
+    ghost line = { λ l table. more_text table (slice_index l.faults.now.counts (place_of table)) };
+
+    fn append(&self, table: &Table, out: &mut Pending) {
+        let count = self.faults.count(*table);
+        if count > 3 {
+            more(out, *table, count - 3);
+        }
+    }
+}
+
+/// Writes the faults of a source.
+fn put_source<W: Outlet>(faults: &Faults, out: &mut Pending, to: &mut W) -> Result<(), Failed>
+    ensures { Streams (W.sink to.old) out.old.items (W.sink to.new) out.new.items
+        (source_text faults.now) result }
+{
+    match put_lines(&FaultLines {}, faults.kept(), out, to) {
+        Ok(()) => put_lines(&MoreLines { faults }, &TABLES, out, to),
+        Err(failed) => Err(failed),
+    }
+}
+
+/// Writes the faults of sources.
+fn put_sources<W: Outlet>(faults: &[Faults], out: &mut Pending, to: &mut W) -> Result<(), Failed>
+    ensures { Streams (W.sink to.old) out.old.items (W.sink to.new) out.new.items
+        (flat_map source_text faults.now) result }
+{
+    for told in faults {
+        if let Err(failed) = put_source(told, out, to) {
+            return Err(failed);
+        }
+    }
+    Ok(())
+}
+
+/// Writes what is wrong with the lines of sources, one source after another.
+///
+/// `Failed` where a write fails: a beginning of the lines is written then.
+pub fn write_faults<W: Outlet>(faults: &[Faults], to: &mut W) -> Result<(), Failed>
+    ensures { Streams (W.sink to.old) [] (W.sink to.new) [] (flat_map source_text faults.now)
+        result }
+{
+    let mut out = Pending::new();
+    match put_sources(faults, &mut out, to) {
+        Ok(()) => flush(&mut out, to),
+        Err(failed) => Err(failed),
+    }
+}
+
+/// Appends what sources lack.
+fn lacking(out: &mut Pending, lack: Lack)
+    requires { array_vec_len out.old + 100 ≤ SIZE }
+    ensures { out.new.items ≡ out.old.items ++ lack_line lack }
+{
+    match lack {
+        Lack::Rows(table) => {
+            text(out, table.name().as_bytes());
+            text(out, b": no row\n");
+        }
+        Lack::Room(table) => {
+            text(out, table.name().as_bytes());
+            text(out, b": more than 4294967295 rows\n");
+        }
+        Lack::Initial => text(
+            out,
+            b"customers come behind orders: --initial N says how many orders districts had\n",
+        ),
+    }
+}
+
+/// Writes what sources lack.
+///
+/// `Failed` where a write fails: a beginning of the line is written then.
+pub fn write_lack<W: Outlet>(lack: Lack, to: &mut W) -> Result<(), Failed>
+    ensures { Streams (W.sink to.old) [] (W.sink to.new) [] (lack_line lack) result }
+{
+    let mut out = Pending::new();
+    lacking(&mut out, lack);
+    flush(&mut out, to)
+}

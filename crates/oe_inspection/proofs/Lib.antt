@@ -1,2 +1,0 @@
--- What this crate's proofs rest on.
-pub mod AuditFacts

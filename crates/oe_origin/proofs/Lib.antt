@@ -1,0 +1,4 @@
+pub mod LackFacts
+pub mod SentFacts
+pub mod StockFacts
+pub mod TerminalFacts
