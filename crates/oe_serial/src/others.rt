@@ -67,7 +67,8 @@ fn next_part<'a>(bytes: &'a [u8], mark: u8) -> Cut<'a>
 
 // Gives the first part of what is left, or nothing where nothing is.
 fn first_of<'a>(rest: Option<&'a [u8]>, mark: u8) -> &'a [u8]
-    ensures value { result.now ≡ first_word (parts_behind mark (option_map (λ t. t.now) rest.entry)) }
+    ensures value { result.now ≡
+        first_word (parts_behind mark (option_map (λ t. t.now) rest.entry)) }
     ensures short { IfSome rest.entry (λ t. length result.now ≤ length t.now) }
     ensures none { rest.entry ≡ None → length result.now ≡ 0 }
 {
