@@ -17,10 +17,14 @@ use Rattle.oe_books.specs.Keeping.{IsOf, BookOrders, BookLines, KeepsRows, Keeps
 use Rattle.oe_books.proofs.InitialFacts.{customer_more, order_more, line_more}
 
 module _ (g : Option ℕ) (t : Facts) (b : Books) where
-  customer_there : (x : CustomerFact) (rows : Rows Customers) (i : Initial) → i ≡ behind_customer b.initial
+  -- a fact that is known to be this one
+  pub as_told : (f h : Fact) → f ≡ h → Keeps g (with_fact t h) b → Keeps g (with_fact t f) b
+  as_told f h is keeps = subst (λ f. Keeps g (with_fact t f) b) (sym is) keeps
+
+  pub customer_taken : (x : CustomerFact) (rows : Rows Customers) (i : Initial) → i ≡ behind_customer b.initial
       → IsOf KeepsCustomers (t.customers ++ x ∷ []) rows → Keeps g t b
       → Keeps g (with_fact t (fact.Customer x)) (record b { customers = rows; initial = i })
-  customer_there x rows i behind more h = record {
+  customer_taken x rows i behind more h = record {
     rows = record {
       warehouses = h.rows.warehouses;
       districts = h.rows.districts;
@@ -37,17 +41,10 @@ module _ (g : Option ℕ) (t : Facts) (b : Books) where
         (customer_more g t x b.initial b.orders.kept.initial h.initial);
   }
 
-  pub customer_taken : (f : Fact) (x : CustomerFact) (rows : Rows Customers) (i : Initial) → f ≡ fact.Customer x
-      → i ≡ behind_customer b.initial → IsOf KeepsCustomers (t.customers ++ x ∷ []) rows → Keeps g t b
-      → Keeps g (with_fact t f) (record b { customers = rows; initial = i })
-  customer_taken f x rows i is behind more h =
-      subst (λ f. Keeps g (with_fact t f) (record b { customers = rows; initial = i })) (sym is)
-      (customer_there x rows i behind more h)
-
-  order_there : (x : OrderFact) (rows : Rows Orders) → rows.kept.initial ≡ b.orders.kept.initial
+  pub order_taken : (x : OrderFact) (rows : Rows Orders) → rows.kept.initial ≡ b.orders.kept.initial
       → IsOf BookOrders (t.orders ++ x ∷ []) rows → KeepsRows t b → IsBegun g t b
       → Keeps g (with_fact t (fact.Order x)) (record b { orders = rows })
-  order_there x rows same more h begun = record {
+  order_taken x rows same more h begun = record {
     rows = record {
       warehouses = h.warehouses;
       districts = h.districts;
@@ -64,16 +61,10 @@ module _ (g : Option ℕ) (t : Facts) (b : Books) where
         (order_more g t x b.initial b.orders.kept.initial begun);
   }
 
-  pub order_taken : (f : Fact) (x : OrderFact) (rows : Rows Orders) → f ≡ fact.Order x
-      → rows.kept.initial ≡ b.orders.kept.initial → IsOf BookOrders (t.orders ++ x ∷ []) rows → KeepsRows t b
-      → IsBegun g t b → Keeps g (with_fact t f) (record b { orders = rows })
-  order_taken f x rows is same more h begun =
-      subst (λ f. Keeps g (with_fact t f) (record b { orders = rows })) (sym is) (order_there x rows same more h begun)
-
-  line_there : (x : OrderLineFact) (rows : Rows Lines) → rows.kept.sums.initial ≡ b.lines.kept.sums.initial
+  pub line_taken : (x : OrderLineFact) (rows : Rows Lines) → rows.kept.sums.initial ≡ b.lines.kept.sums.initial
       → IsOf BookLines (t.lines ++ x ∷ []) rows → KeepsRows t b → IsBegun g t b
       → Keeps g (with_fact t (fact.OrderLine x)) (record b { lines = rows })
-  line_there x rows same more h begun = record {
+  line_taken x rows same more h begun = record {
     rows = record {
       warehouses = h.warehouses;
       districts = h.districts;
@@ -88,9 +79,3 @@ module _ (g : Option ℕ) (t : Facts) (b : Books) where
     };
     initial = line_more g t x b.initial b.orders.kept.initial begun;
   }
-
-  pub line_taken : (f : Fact) (x : OrderLineFact) (rows : Rows Lines) → f ≡ fact.OrderLine x
-      → rows.kept.sums.initial ≡ b.lines.kept.sums.initial → IsOf BookLines (t.lines ++ x ∷ []) rows → KeepsRows t b
-      → IsBegun g t b → Keeps g (with_fact t f) (record b { lines = rows })
-  line_taken f x rows is same more h begun =
-      subst (λ f. Keeps g (with_fact t f) (record b { lines = rows })) (sym is) (line_there x rows same more h begun)

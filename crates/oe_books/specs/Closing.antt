@@ -22,7 +22,7 @@ use Rattle.oe_books.specs.declared.closing.Closed.TheVariants as closed
 use Rattle.oe_books.specs.declared.closing.Lack.{Lack}
 use Rattle.oe_books.specs.declared.closing.Lack.TheVariants as lack
 use Rattle.oe_books.specs.Facts.{Facts, rows_of}
-use Rattle.oe_books.specs.Keeping.{KeepsRows, IsOfADistrict, AreLate}
+use Rattle.oe_books.specs.Keeping.{KeepsRows, IsOfFirstDistrict, AreLate}
 
 abbrev pub count_of : Books → Table → ℕ
 count_of b table.Warehouse = b.warehouses.count
@@ -95,33 +95,34 @@ pub record AreSettled (s : Settled) : Type 0 where
   pub delivered : IsSettled customer_cmp s.delivered
 
 -- What is settled is of these facts. The population had in each district as many orders as were given, or else as many
--- as some district has customers (clause 4.3.3.1).
+-- as the first district has customers (clause 4.3.3.1).
 pub record IsReady (given : Option ℕ) (t : Facts) (s : Settled) : Type 0 where
   pub books : KeepsRows t s.books
   pub few : AreFewEach t
   pub delivered : HasDeliveries t.orders t.lines s.delivered
-  pub each : IsOfADistrict t.customers s.each
+  pub each : IsOfFirstDistrict t.customers s.each
   pub initial : s.books.orders.kept.initial ≡ unwrap_or given s.each
 
--- fewer customers came early, and some district has another number of all
+-- fewer customers came early, and the first district of those has another number than the first of all
 abbrev pub HasOtherNumber : List CustomerFact → List CustomerFact → Type 0
 HasOtherNumber customers early =
     AreLate early customers
-    × ((before : ℕ) × (each : ℕ) × IsOfADistrict early before × IsOfADistrict customers each × (before ≢ each))
+    × ((before : ℕ) × (each : ℕ) × IsOfFirstDistrict early before × IsOfFirstDistrict customers each × (before ≢ each))
 
 -- What books of these facts lack: the number of orders that the population had in each district, where none was
--- given, a CUSTOMER row came behind the first ORDER or ORDER-LINE row, and a district had another number of customers
--- before.
+-- given, a CUSTOMER row came behind the first ORDER or ORDER-LINE row, and the first district had another number of
+-- customers before.
 abbrev pub IsLacking : Option ℕ → Facts → Lack → Type 0
 IsLacking given t (lack.Rows name) = (rows_of t name ≡ 0) × (without_rows name ≡ Some (lack.Rows name))
 IsLacking given t (lack.Room name) = 2 ^ 32 ≤ rows_of t name
 IsLacking given t lack.Initial = (given ≡ None) × MatchOption t.early ⊥ (HasOtherNumber t.customers)
 
--- the number of customers of some district, by which the number of first orders is so many; none where that is lacking
+-- the number of customers of the first district, by which the number of first orders is so many; none where that is
+-- lacking
 abbrev pub IsSized : Option ℕ → Facts → ℕ → Option ℕ → Type 0
 IsSized given t initial each =
     MatchOption each (IsLacking given t lack.Initial)
-    (λ n. IsOfADistrict t.customers n × (initial ≡ unwrap_or given n))
+    (λ n. IsOfFirstDistrict t.customers n × (initial ≡ unwrap_or given n))
 
 -- what comes of books of these facts
 abbrev pub IsClosed : Option ℕ → Facts → Closed → Type 0

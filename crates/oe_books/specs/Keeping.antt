@@ -14,7 +14,7 @@ use Rattle.oe_ledgers.specs.Figures.{AreFew, AreAmounts, AreNumbers}
 use Rattle.oe_line_numbers.specs.Blocks.{KeepsLineNumbers}
 use Rattle.oe_books.specs.declared.rows.Rows.{Rows}
 use Rattle.oe_books.specs.declared.rows.Lines.{Lines}
-use Rattle.oe_checks.specs.Sizes.{IsOfSome}
+use Rattle.oe_checks.specs.Sizes.{IsOfFirst}
 use Rattle.oe_books.specs.declared.books.Books.{Books}
 use Rattle.oe_books.specs.declared.books.Initial.{Initial}
 use Rattle.oe_books.specs.declared.books.Initial.TheVariants as initial
@@ -48,24 +48,24 @@ pub record BookLines (facts : List OrderLineFact) (kept : Lines) : Type 0 where
   pub amounts : AreAmounts (λ (f : OrderLineFact). f.amount) facts
   pub quantities : AreNumbers (λ (f : OrderLineFact). f.quantity) facts
 
--- the number of customers of some district; 0 where no district has one
-abbrev pub IsOfADistrict : List CustomerFact → ℕ → Type 0
-IsOfADistrict customers n = (number : Option ℕ) × IsOfSome customers number × (n ≡ unwrap_or number 0)
+-- the number of customers of the first district that has one; 0 where none has
+abbrev pub IsOfFirstDistrict : List CustomerFact → ℕ → Type 0
+IsOfFirstDistrict customers n = (number : Option ℕ) × IsOfFirst customers number × (n ≡ unwrap_or number 0)
 
 -- a CUSTOMER row came behind the first ORDER or ORDER-LINE row
 abbrev pub AreLate : List CustomerFact → List CustomerFact → Type 0
 AreLate early customers = length early < length customers
 
--- How many orders of each district the population had (clause 4.3.3.1): as many as were given, or else as many as some
--- district had customers when the first ORDER or ORDER-LINE row came.
+-- How many orders of each district the population had (clause 4.3.3.1): as many as were given, or else as many as the
+-- first district with customers had of them when the first ORDER or ORDER-LINE row came.
 abbrev pub IsInitial : Option ℕ → Facts → Initial → ℕ → Type 0
 IsInitial given t initial.Given n = given ≡ Some n
 IsInitial given t initial.Open n = (given ≡ None) × (t.early ≡ None) × (t.orders ≡ []) × (t.lines ≡ [])
 IsInitial given t initial.Counted n =
-    (given ≡ None) × (t.early ≡ Some t.customers) × (AreFew t.customers → IsOfADistrict t.customers n)
+    (given ≡ None) × (t.early ≡ Some t.customers) × (AreFew t.customers → IsOfFirstDistrict t.customers n)
 IsInitial given t initial.Late n =
     (given ≡ None) × MatchOption t.early ⊥
-    (λ early. AreLate early t.customers × (AreFew t.customers → IsOfADistrict early n))
+    (λ early. AreLate early t.customers × (AreFew t.customers → IsOfFirstDistrict early n))
 
 -- The ledgers are of these facts, and two of them have the same number of first orders.
 pub record KeepsRows (t : Facts) (b : Books) : Type 0 where
@@ -98,7 +98,7 @@ IsKnown given t initial.Given n = given ≡ Some n
 IsKnown given t initial.Open n = ⊥
 IsKnown given t initial.Counted n =
     (given ≡ None) × (unwrap_or t.early t.customers ≡ t.customers)
-    × (AreFew t.customers → IsOfADistrict t.customers n)
+    × (AreFew t.customers → IsOfFirstDistrict t.customers n)
 IsKnown given t initial.Late n = IsInitial given t initial.Late n
 
 abbrev pub IsBegun : Option ℕ → Facts → Books → Type 0

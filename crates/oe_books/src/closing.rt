@@ -24,8 +24,8 @@ pub enum Lack {
     /// Room: this table has 2^32 rows or more.
     Room(Table),
     /// The number of orders that the population had in each district: none was given, and behind
-    /// the first ORDER or ORDER-LINE row came CUSTOMER rows, by which a district has another
-    /// number of customers than before.
+    /// the first ORDER or ORDER-LINE row came CUSTOMER rows, by which the first district has
+    /// another number of customers than before.
     Initial,
 }
 
@@ -140,22 +140,31 @@ impl Books {
         Some(each)
     }
 
-    /// Closes the books behind the last row.
+    // Gives the books up. Each way out that drops them costs its check a minute, so that one does.
+    #[inline(never)]
+    fn discard(self) {}
+
+    /// Closes the books behind the last row. Where memory is refused, they are lost.
     pub fn close(mut self, alloc: Global) -> Result<Closed, AllocError>
         ensures { (given : Option ℕ) (t : Facts) → Keeps given t self
             → IfOk result (IsClosed given t) }
     {
         if let Some(lack) = self.lack() {
+            self.discard();
             return Ok(Closed::Lacking(lack));
         }
         self.begin();
         self.settle();
         let Some(each) = self.customers_each() else {
+            self.discard();
             return Ok(Closed::Lacking(Lack::Initial));
         };
         let delivered = match deliveries(alloc, &self.orders.kept, &self.lines.kept.sums) {
             Ok(delivered) => delivered,
-            Err(refused) => return Err(refused),
+            Err(refused) => {
+                self.discard();
+                return Err(refused);
+            }
         };
         Ok(Closed::Settled(Settled {
             books: self,

@@ -2,22 +2,25 @@
 use Rattle.std.proofs.Common.{◌≡◌, refl, sym, ◌∙◌, ap, subst, arith, length, Bool, true, false, cond, ℕ, List, []}
 use Rattle.std.proofs.Common.{◌∷◌, ◌++◌, Option, Some, None, eqb-true}
 use Rattle.std.specs.Prelude.{nat_eq, ◌&&◌, is_some}
-use Rattle.std.specs.Cmp.{nat_cmp_total, unsigned_ties, tied_itself}
+use Rattle.std.specs.Cmp.{IsTotalOrder, nat_cmp_total, unsigned_ties, tied_itself, tied_then}
+use Rattle.std.proofs.lemmas.Cmp.{on_total, then_total}
 use Rattle.std.specs.List.{AllByRecursion}
 use Rattle.std.specs.List.Sorted.{IsStrictlySortedBy}
 use Rattle.std.specs.Map.{keys_of, lookup}
 use Rattle.std.specs.Option.{option_map}
-use Rattle.std.specs.Ordering.{nat_cmp, ordering_then}
-use Rattle.std.specs.declared.cmp.Ordering.{Ordering}
-use Rattle.std.specs.declared.cmp.Ordering.TheVariants.{Less, Equal, Greater}
+use Rattle.std.specs.Ordering.{eq_by_cmp, is_eq, nat_cmp, ordering_then}
+use Rattle.std.specs.declared.cmp.Ordering.TheVariants.{Less}
 use Rattle.oe_tally.specs.Tallies.{together, total, IsSettled, EntriesAreTotals}
 use Rattle.oe_tally.specs.Walks.{AreAll}
 use Rattle.oe_tally.specs.Counting.{counts_joined}
 use Rattle.oe_tally.specs.declared.count.Count.{Count}
+use Rattle.oe_tally.proofs.OrderFacts.{behind}
+use Rattle.oe_tally.proofs.WalkFacts.{all-greater}
+use Rattle.oe_facts.specs.declared.keys.DistrictId.{DistrictId}
 use Rattle.oe_facts.specs.declared.keys.StockId.{StockId}
 use Rattle.oe_ledgers.specs.declared.warehouses.WarehouseSums.{WarehouseSums}
 use Rattle.oe_ledgers.specs.declared.stocks.StockSums.{StockSums}
-use Rattle.oe_ledgers.specs.Keys.{same_stock, stock_cmp}
+use Rattle.oe_ledgers.specs.Keys.{same_district, district_cmp, same_stock, stock_cmp}
 use Rattle.oe_ledgers.specs.Sums.{stocks_joined, warehouses_joined}
 use Rattle.oe_checks.specs.declared.figures.Apart.{Apart}
 use Rattle.oe_checks.specs.Sizes.{unstocked, one_missing, stock_at, missing_of, all_missing}
@@ -39,6 +42,27 @@ pub first-total : {K V : Type 0} (same : K → K → Bool) (join : V → V → V
 first-total same join es first rest is h =
     subst (λ l. total same join l first.0 ≡ Some first.1) (sym is)
     (subst (EntriesAreTotals same join) is h 0 first (omega arith))
+
+districts_total : IsTotalOrder district_cmp
+districts_total =
+    then_total (on_total (λ (k : DistrictId). k.warehouse) nat_cmp_total)
+    (on_total (λ (k : DistrictId). k.district) nat_cmp_total)
+
+districts_tie : (a b : DistrictId) → same_district a b ≡ eq_by_cmp district_cmp a b
+districts_tie a b =
+    ap (λ x. x && nat_eq a.district b.district) (unsigned_ties a.warehouse b.warehouse)
+    ∙ ap (λ x. is_eq (nat_cmp a.warehouse b.warehouse) && x) (unsigned_ties a.district b.district)
+    ∙ tied_then (nat_cmp a.warehouse b.warehouse) (nat_cmp a.district b.district)
+
+-- no district before the first entry's has a sum
+pub none-before : {V : Type 0} (join : V → V → V) (es : List (DistrictId × V)) (first : DistrictId × V)
+    (rest : List (DistrictId × V)) → es ≡ first ∷ rest → IsSettled district_cmp es → (d : DistrictId)
+    → district_cmp d first.0 ≡ Less → total same_district join es d ≡ None
+none-before join es first rest is up d less =
+    ap (λ l. total same_district join l d) is
+    ∙ behind district_cmp districts_total districts_tie join (first ∷ rest) d d
+    (all-greater districts_total d first rest less (subst (IsSettled district_cmp) is up))
+    (tied_itself districts_total d)
 
 -- only whether there are rows counts
 pub unstocked-mapped : {A B C D E F : Type 0} (f : A → D) (g : B → E) (h : C → F) (w : Option A) (i : Option B)

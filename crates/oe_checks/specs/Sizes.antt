@@ -1,5 +1,5 @@
 -- How many customers a district has, and that each warehouse stocks each item.
-use Rattle.std.specs.Prelude.{◌≡◌, ℕ, ℤ, pos, Bool, cond, is_some, List, [], ◌∷◌, ◌++◌, Option, Some, None, MatchOption}
+use Rattle.std.specs.Prelude.{◌≡◌, ℕ, pos, cond, is_some, List, [], ◌∷◌, ◌++◌, Option, Some, None, MatchOption}
 use Rattle.std.specs.Option.{option_map}
 use Rattle.oe_tally.specs.Tallies.{total}
 use Rattle.oe_tally.specs.declared.count.Count.{Count}
@@ -12,17 +12,23 @@ use Rattle.oe_facts.specs.declared.facts.ItemFact.{ItemFact}
 use Rattle.oe_facts.specs.declared.facts.StockFact.{StockFact}
 use Rattle.oe_ledgers.specs.declared.warehouses.WarehouseSums.{WarehouseSums}
 use Rattle.oe_ledgers.specs.declared.stocks.StockSums.{StockSums}
-use Rattle.oe_ledgers.specs.Keys.{same_stock}
+use Rattle.std.specs.declared.cmp.Ordering.TheVariants.{Less}
+use Rattle.oe_ledgers.specs.Keys.{same_stock, district_cmp}
 use Rattle.oe_ledgers.specs.Sums.{stocks_joined}
 use Rattle.oe_ledgers.specs.Figures.{district_rows, customers_of_district, warehouse_rows, item_rows, stock_rows}
 use Rattle.oe_checks.specs.declared.figures.Apart.{Apart}
 use Rattle.oe_checks.specs.Comparing.{against}
 
--- some district has this number of customers; none where no district has one
-abbrev pub IsOfSome : List CustomerFact → Option ℕ → Type 0
-IsOfSome customers number =
+-- the district has customers, and none before it has
+abbrev pub IsFirst : List CustomerFact → DistrictId → Type 0
+IsFirst customers first =
+    (d : DistrictId) → district_cmp d first ≡ Less → customers_of_district customers d ≡ None
+
+-- the first district that has customers has this number of them; none where no district has one
+abbrev pub IsOfFirst : List CustomerFact → Option ℕ → Type 0
+IsOfFirst customers number =
     MatchOption number ((d : DistrictId) → customers_of_district customers d ≡ None)
-    (λ n. (d : DistrictId) × (customers_of_district customers d ≡ Some (pos n)))
+    (λ n. (first : DistrictId) × (customers_of_district customers first ≡ Some (pos n)) × IsFirst customers first)
 
 -- clause 1.2.1: a district has `each` CUSTOMER rows
 abbrev pub customers_each : ℕ → List DistrictFact → List CustomerFact → DistrictId → Option Apart

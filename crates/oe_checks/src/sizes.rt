@@ -16,7 +16,7 @@ ghost use Rattle.oe_ledgers.specs.Settling.{AreSettledWarehouses, AreSettledDist
 ghost use Rattle.oe_ledgers.specs.Settling.{AreSettledCustomers, AreSettledItems, AreSettledStocks};
 ghost use Rattle.oe_ledgers.specs.Figures.{AreFew};
 ghost use Rattle.oe_checks.specs.Comparing.{against};
-ghost use Rattle.oe_checks.specs.Sizes.{IsOfSome, customers_each, stocked, missing_of, all_missing};
+ghost use Rattle.oe_checks.specs.Sizes.{IsOfFirst, customers_each, stocked, missing_of, all_missing};
 
 use crate::figures::{Apart, differing};
 use oe_facts::keys::{DistrictId, StockId};
@@ -30,11 +30,11 @@ use oe_tally::count::Count;
 use oe_tally::tally::Tally;
 use std::alloc::{AllocError, Global};
 
-/// Gives the number of CUSTOMER rows of the first district that has one.
+/// Gives the number of CUSTOMER rows of the first district, by warehouse and number, that has one.
 pub fn customers_of_a_district(customers: &Customers) -> Option<u32>
     requires { AreSettledCustomers customers.now }
     ensures { (of_customers : List CustomerFact) → KeepsCustomers of_customers customers.now
-        → AreFew of_customers → IsOfSome of_customers result }
+        → AreFew of_customers → IsOfFirst of_customers result }
 {
     let Some((first, _others)) = customers.by_district.entries().split_first() else {
         return None;

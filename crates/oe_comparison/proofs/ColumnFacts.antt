@@ -4,7 +4,7 @@ use Rattle.std.proofs.Common.{Bor}
 use Rattle.std.specs.Prelude.{nat_eq}
 use Rattle.std.specs.Option.{option_copied}
 use Rattle.std.proofs.lemmas.Bool.{eq-eqb}
-use Rattle.oe_rowlines.specs.Line.{left_of}
+use Rattle.oe_file_rows.specs.Line.{left_of}
 use Rattle.oe_comparison.specs.Columns.{Other, is_same, first_other}
 
 -- a column that is the same

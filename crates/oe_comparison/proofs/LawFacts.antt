@@ -11,14 +11,14 @@ use Rattle.oe_values.proofs.FrontFacts.{both}
 use Rattle.std.proofs.lemmas.Cmp.{tied_itself}
 use Rattle.std.proofs.lemmas.List.{length-append, take_at}
 use Rattle.oe_texts.specs.Column.{line_of}
-use Rattle.oe_rowlines.specs.declared.forms.Form.{Form}
-use Rattle.oe_rowlines.specs.Value.{Value}
-use Rattle.oe_rowlines.specs.Line.{joined, AreSpelled}
-use Rattle.oe_rowlines.specs.Dumped.{AreOf, AreReadBack}
-use Rattle.oe_rowlines.proofs.WordFacts.{is_small, value_only}
+use Rattle.oe_file_rows.specs.declared.forms.Form.{Form}
+use Rattle.oe_file_rows.specs.Value.{Value}
+use Rattle.oe_file_rows.specs.Line.{joined, AreSpelled}
+use Rattle.oe_file_rows.specs.Dumped.{AreReadBack}
+use Rattle.oe_file_rows.proofs.WordFacts.{is_small, value_only}
 use Rattle.oe_comparison.specs.Columns.{Other, is_same, shown, shown_line, first_other}
-use Rattle.oe_comparison.specs.Differences.{Difference, Extra, Missing, Column, met, difference}
-use Rattle.oe_comparison.specs.Laws.{AreToldApart, AreSame, IsFirst}
+use Rattle.oe_comparison.specs.Differences.{Difference, Extra, Missing, Column, met, differences}
+use Rattle.oe_comparison.specs.Laws.{AreToldApart, AreSame, BeginsSo, IsFirst}
 
 -- ---- a row's line and its end
 
@@ -45,7 +45,7 @@ line_shown cs =
     ap (λ l. take (length l - 1) l) is ∙ without_end (front_of cs) in
     is ∙ ap (λ z. z ++ 10 ∷ []) (sym front)
 
--- ---- what an option is not
+-- ---- what an option is not, and what a list is not
 
 no_some : {A : Type 0} (x : A) → Some x ≡ None → ⊥
 no_some x e = cc
@@ -53,8 +53,14 @@ no_some x e = cc
 some_is : {A : Type 0} (x y : A) → Some x ≡ Some y → x ≡ y
 some_is x y e = cc
 
-no_none : {A : Type 0} (x : A) → None ≡ Some x → ⊥
-no_none x e = cc
+no_front : {A : Type 0} (x : A) (xs : List A) → x ∷ xs ≡ [] → ⊥
+no_front x xs e = cc
+
+no_end : {A : Type 0} (x : A) (xs : List A) → [] ≡ x ∷ xs → ⊥
+no_end x xs e = cc
+
+front_is : {A : Type 0} (x y : A) (xs ys : List A) → x ∷ xs ≡ y ∷ ys → x ≡ y
+front_is x y xs ys e = cc
 
 -- ---- rows without a column that differs
 
@@ -123,22 +129,22 @@ told_apart forms values columns small back inj a b ha hb none =
 -- ---- the first row that differs
 
 module _ {K : Type 0} (cmp : K → K → Ordering) (exact : IsAntisymmetric cmp) (total : IsTotalOrder cmp) where
-  met_same : (t o : K × List (List ℕ)) (ts os : List (K × List (List ℕ)))
-      → (difference cmp ts os ≡ None → AreSame ts os) → (c : Ordering) → cmp t.0 o.0 ≡ c → (x : Option Other)
-      → first_other 0 t.1 o.1 ≡ x → met c t.0 o.0 x (difference cmp ts os) ≡ None → AreSame (t ∷ ts) (o ∷ os)
-  met_same t o ts os again Less e x f h = absurd (no_some _ h)
-  met_same t o ts os again Greater e x f h = absurd (no_some _ h)
-  met_same t o ts os again Equal e (Some c) f h = absurd (no_some _ h)
-  met_same t o ts os again Equal e None f h = (exact t.0 o.0 e, f, again h)
+  met_same : (t o : K × List (List ℕ)) (ts os : List (K × List (List ℕ))) (below both above : List (Difference K))
+      → (both ≡ [] → AreSame ts os) → (c : Ordering) → cmp t.0 o.0 ≡ c → (x : Option Other)
+      → first_other 0 t.1 o.1 ≡ x → met c t.0 o.0 x below both above ≡ [] → AreSame (t ∷ ts) (o ∷ os)
+  met_same t o ts os below both above again Less e x f h = absurd (no_front _ _ h)
+  met_same t o ts os below both above again Greater e x f h = absurd (no_front _ _ h)
+  met_same t o ts os below both above again Equal e (Some c) f h = absurd (no_front _ _ h)
+  met_same t o ts os below both above again Equal e None f h = (exact t.0 o.0 e, f, again h)
 
-  all_same : (ts os : List (K × List (List ℕ))) → difference cmp ts os ≡ None → AreSame ts os
+  all_same : (ts os : List (K × List (List ℕ))) → differences cmp ts os ≡ [] → AreSame ts os
   all_same [] [] h = tt
-  all_same [] (o ∷ os) h = absurd (no_some _ h)
-  all_same (t ∷ ts) [] h = absurd (no_some _ h)
+  all_same [] (o ∷ os) h = absurd (no_front _ _ h)
+  all_same (t ∷ ts) [] h = absurd (no_front _ _ h)
   all_same (t ∷ ts) (o ∷ os) h =
-      met_same t o ts os (all_same ts os) (cmp t.0 o.0) refl (first_other 0 t.1 o.1) refl h
+      met_same t o ts os _ _ _ (all_same ts os) (cmp t.0 o.0) refl (first_other 0 t.1 o.1) refl h
 
-  none_differs : (ts os : List (K × List (List ℕ))) → AreSame ts os → difference cmp ts os ≡ None
+  none_differs : (ts os : List (K × List (List ℕ))) → AreSame ts os → differences cmp ts os ≡ []
   none_differs [] [] h = refl
   none_differs [] (o ∷ os) h = absurd h
   none_differs (t ∷ ts) [] h = absurd h
@@ -146,49 +152,35 @@ module _ {K : Type 0} (cmp : K → K → Ordering) (exact : IsAntisymmetric cmp)
       let tie : cmp t.0 o.0 ≡ Equal = subst (λ (k : K). cmp t.0 k ≡ Equal) h.0 (tied_itself total t.0) in
       rw (tie, h.1) (none_differs ts os h.2)
 
-  pub none_is_same : (ts os : List (K × List (List ℕ))) → (difference cmp ts os ≡ None) ↔ AreSame ts os
+  pub none_is_same : (ts os : List (K × List (List ℕ))) → (differences cmp ts os ≡ []) ↔ AreSame ts os
   none_is_same ts os = (all_same ts os, none_differs ts os)
 
+  -- a difference at the first rows of both sides
+  at_once : (ts os : List (K × List (List ℕ))) (d e : Difference K) → d ≡ e → BeginsSo cmp ts os d
+      → IsFirst cmp ts os e
+  at_once ts os d e is begins = subst (λ (z : Difference K). IsFirst cmp ts os z) is
+      (record {
+        their_front = [];
+        our_front = [];
+        their_rest = ts;
+        our_rest = os;
+        theirs_are = refl;
+        ours_are = refl;
+        same = tt;
+        begins = begins;
+      })
+
   met_first : (t o : K × List (List ℕ)) (ts os : List (K × List (List ℕ))) (d : Difference K)
-      → (difference cmp ts os ≡ Some d → IsFirst cmp ts os d) → (c : Ordering) → cmp t.0 o.0 ≡ c → (x : Option Other)
-      → first_other 0 t.1 o.1 ≡ x → met c t.0 o.0 x (difference cmp ts os) ≡ Some d → IsFirst cmp (t ∷ ts) (o ∷ os) d
-  met_first t o ts os d again Less e x f h = subst (λ (z : Difference K). IsFirst cmp (t ∷ ts) (o ∷ os) z)
-      (some_is _ _ h)
-      (record {
-        their_front = [];
-        our_front = [];
-        their_rest = t ∷ ts;
-        our_rest = o ∷ os;
-        theirs_are = refl;
-        ours_are = refl;
-        same = tt;
-        begins = (refl, e);
-      })
-  met_first t o ts os d again Greater e x f h = subst (λ (z : Difference K). IsFirst cmp (t ∷ ts) (o ∷ os) z)
-      (some_is _ _ h)
-      (record {
-        their_front = [];
-        our_front = [];
-        their_rest = t ∷ ts;
-        our_rest = o ∷ os;
-        theirs_are = refl;
-        ours_are = refl;
-        same = tt;
-        begins = (refl, e);
-      })
-  met_first t o ts os d again Equal e (Some c) f h = subst (λ (z : Difference K). IsFirst cmp (t ∷ ts) (o ∷ os) z)
-      (some_is _ _ h)
-      (record {
-        their_front = [];
-        our_front = [];
-        their_rest = t ∷ ts;
-        our_rest = o ∷ os;
-        theirs_are = refl;
-        ours_are = refl;
-        same = tt;
-        begins = (refl, exact t.0 o.0 e, f);
-      })
-  met_first t o ts os d again Equal e None f h =
+      (ds below both above : List (Difference K)) → (both ≡ d ∷ ds → IsFirst cmp ts os d) → (c : Ordering)
+      → cmp t.0 o.0 ≡ c → (x : Option Other) → first_other 0 t.1 o.1 ≡ x
+      → met c t.0 o.0 x below both above ≡ d ∷ ds → IsFirst cmp (t ∷ ts) (o ∷ os) d
+  met_first t o ts os d ds below both above again Less e x f h =
+      at_once (t ∷ ts) (o ∷ os) (Extra t.0) d (front_is _ _ _ _ h) (refl, e)
+  met_first t o ts os d ds below both above again Greater e x f h =
+      at_once (t ∷ ts) (o ∷ os) (Missing o.0) d (front_is _ _ _ _ h) (refl, e)
+  met_first t o ts os d ds below both above again Equal e (Some c) f h =
+      at_once (t ∷ ts) (o ∷ os) (Column o.0 c) d (front_is _ _ _ _ h) (refl, exact t.0 o.0 e, f)
+  met_first t o ts os d ds below both above again Equal e None f h =
       let r = again h in
       record {
         their_front = t ∷ r.their_front;
@@ -201,30 +193,10 @@ module _ {K : Type 0} (cmp : K → K → Ordering) (exact : IsAntisymmetric cmp)
         begins = r.begins;
       }
 
-  pub some_is_first : (ts os : List (K × List (List ℕ))) (d : Difference K) → difference cmp ts os ≡ Some d
-      → IsFirst cmp ts os d
-  some_is_first [] [] d h = absurd (no_none _ h)
-  some_is_first [] (o ∷ os) d h = subst (λ (z : Difference K). IsFirst cmp [] (o ∷ os) z) (some_is _ _ h)
-      (record {
-        their_front = [];
-        our_front = [];
-        their_rest = [];
-        our_rest = o ∷ os;
-        theirs_are = refl;
-        ours_are = refl;
-        same = tt;
-        begins = refl;
-      })
-  some_is_first (t ∷ ts) [] d h = subst (λ (z : Difference K). IsFirst cmp (t ∷ ts) [] z) (some_is _ _ h)
-      (record {
-        their_front = [];
-        our_front = [];
-        their_rest = t ∷ ts;
-        our_rest = [];
-        theirs_are = refl;
-        ours_are = refl;
-        same = tt;
-        begins = refl;
-      })
-  some_is_first (t ∷ ts) (o ∷ os) d h =
-      met_first t o ts os d (some_is_first ts os d) (cmp t.0 o.0) refl (first_other 0 t.1 o.1) refl h
+  pub some_is_first : (ts os : List (K × List (List ℕ))) (d : Difference K) (ds : List (Difference K))
+      → differences cmp ts os ≡ d ∷ ds → IsFirst cmp ts os d
+  some_is_first [] [] d ds h = absurd (no_end _ _ h)
+  some_is_first [] (o ∷ os) d ds h = at_once [] (o ∷ os) (Missing o.0) d (front_is _ _ _ _ h) refl
+  some_is_first (t ∷ ts) [] d ds h = at_once (t ∷ ts) [] (Extra t.0) d (front_is _ _ _ _ h) refl
+  some_is_first (t ∷ ts) (o ∷ os) d ds h =
+      met_first t o ts os d ds _ _ _ (some_is_first ts os d ds) (cmp t.0 o.0) refl (first_other 0 t.1 o.1) refl h

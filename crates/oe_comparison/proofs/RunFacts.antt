@@ -4,14 +4,14 @@ use Rattle.oe_model.specs.Rows.{Rows}
 use Rattle.oe_ports.specs.Ports.{Sink, Sent, Streams}
 use Rattle.oe_ports.proofs.Streaming.{sent_then, sent_cut}
 use Rattle.oe_store.specs.Places.{Places, rows}
-use Rattle.oe_serial.specs.Verdicts.{IsDecided, IsDecision, verdict_of, verdict_text}
-use Rattle.oe_serial.specs.declared.origins.Origin.{Origin}
-use Rattle.oe_serial.specs.declared.verdicts.Decision.{Decision}
-use Rattle.oe_serial.specs.declared.verdicts.Decision.TheVariants as decision
-use Rattle.oe_serial.specs.declared.verdicts.Verdict as replies
-use Rattle.oe_serial.specs.declared.verdicts.Verdict.TheVariants as reply
-use Rattle.oe_reading.specs.declared.formats.Format.{Format}
-use Rattle.oe_loading.specs.Loading.{Nine}
+use Rattle.oe_file_serial.specs.Verdicts.{IsDecided, IsDecision, verdict_of, verdict_text}
+use Rattle.oe_file_serial.specs.declared.origins.Origin.{Origin}
+use Rattle.oe_file_serial.specs.declared.verdicts.Decision.{Decision}
+use Rattle.oe_file_serial.specs.declared.verdicts.Decision.TheVariants as decision
+use Rattle.oe_file_serial.specs.declared.verdicts.Verdict as replies
+use Rattle.oe_file_serial.specs.declared.verdicts.Verdict.TheVariants as reply
+use Rattle.oe_file_tables.specs.declared.formats.Format.{Format}
+use Rattle.oe_file_loading.specs.Loading.{Nine}
 use Rattle.oe_comparison.specs.Texts.{Told}
 use Rattle.oe_comparison.specs.Runs.{LeavesRows, IsOther, TellsOther, Tells, AreTold, Compares, TellsReplies}
 use Rattle.oe_comparison.specs.declared.runs.Verdict.{Verdict}

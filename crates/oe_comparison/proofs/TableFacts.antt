@@ -5,11 +5,11 @@ use Rattle.oe_rows.specs.declared.keys.Key.{Key}
 use Rattle.oe_rows.specs.declared.keys.Table.{Table}
 use Rattle.oe_model.specs.Rows.{Rows}
 use Rattle.oe_ports.specs.Ports.{Source}
-use Rattle.oe_reading.specs.declared.formats.Format.{Format}
-use Rattle.oe_reading.specs.declared.lines.Numbered.{Numbered}
-use Rattle.oe_reading.specs.declared.faults.TableFault.{TableFault}
-use Rattle.oe_reading.specs.Fault as fault
-use Rattle.oe_loading.specs.Loading.{Nine}
+use Rattle.oe_file_tables.specs.declared.formats.Format.{Format}
+use Rattle.oe_file_tables.specs.declared.lines.Numbered.{Numbered}
+use Rattle.oe_file_tables.specs.declared.faults.TableFault.{TableFault}
+use Rattle.oe_file_tables.specs.Fault as fault
+use Rattle.oe_file_loading.specs.Loading.{Nine}
 use Rattle.oe_comparison.specs.Texts.{Told}
 use Rattle.oe_comparison.specs.Tables.{TableCompared, HomesCompared, DeedsCompared, GoodsCompared}
 use Rattle.oe_comparison.specs.Tables.{KeepsHomes, KeepsDeeds, KeepsGoods}

@@ -2,7 +2,7 @@
 use Rattle.std.specs.Prelude.{ℕ, ◌+◌, ◌-◌, List, [], ◌∷◌, length, take, Option, None, Some, nat_eq, if◌then◌else◌, Bool}
 use Rattle.std.specs.Cmp.Lexicographic.{pointwise}
 use Rattle.oe_texts.specs.Column.{line_of}
-use Rattle.oe_rowlines.specs.Line.{fields_of}
+use Rattle.oe_file_rows.specs.Line.{fields_of}
 use Rattle.oe_comparison.specs.declared.columns.OtherColumn as column
 
 -- the line of a row, without the byte 10 that ends it

@@ -1,8 +1,8 @@
--- The first row at which a file and a table differ, in the order of keys.
+-- The rows at which a file and a table differ, in the order of keys.
 use Rattle.std.specs.Prelude.{ℕ, List, [], ◌∷◌, map, Option, None, Some}
 use Rattle.std.specs.declared.cmp.Ordering.{Ordering}
 use Rattle.std.specs.declared.cmp.Ordering.TheVariants.{Less, Equal, Greater}
-use Rattle.oe_reading.specs.declared.lines.Numbered.{Numbered}
+use Rattle.oe_file_tables.specs.declared.lines.Numbered.{Numbered}
 use Rattle.oe_comparison.specs.Columns.{shown, Other, first_other}
 
 -- a row of the file alone, a row of the table alone, or a row of both, whose column differs
@@ -11,21 +11,27 @@ pub data Difference (K : Type 0) : Type 0 where
   Missing : K → Difference K
   Column : K → Other → Difference K
 
--- where the first keys of both compare so: what differs there, or else behind them
-abbrev pub met : {K : Type 0} → Ordering → K → K → Option Other → Option (Difference K) → Option (Difference K)
-met Less t o c behind = Some (Extra t)
-met Greater t o c behind = Some (Missing o)
-met Equal t o (Some c) behind = Some (Column o c)
-met Equal t o None behind = behind
+-- where two keys compare so: the lesser one stands alone, and two that are equal have the first column that differs, if
+-- there is one; behind a key of the file, of both, and of the table, these rows differ
+abbrev pub met : {K : Type 0} → Ordering → K → K → Option Other → List (Difference K) → List (Difference K)
+    → List (Difference K) → List (Difference K)
+met Less t o c below both above = Extra t ∷ below
+met Greater t o c below both above = Missing o ∷ above
+met Equal t o (Some c) below both above = Column o c ∷ both
+met Equal t o None below both above = both
+
+-- the rows that differ from the file's row t on, where those behind it are `behind`
+abbrev pub from_row : {K : Type 0} → (K → K → Ordering) → K × List (List ℕ)
+    → (List (K × List (List ℕ)) → List (Difference K)) → List (K × List (List ℕ)) → List (Difference K)
+from_row cmp t behind [] = Extra t.0 ∷ behind []
+from_row cmp t behind (o ∷ os) =
+    met (cmp t.0 o.0) t.0 o.0 (first_other 0 t.1 o.1) (behind (o ∷ os)) (behind os) (from_row cmp t behind os)
 
 -- the file's rows and the table's, each a key with the texts of the columns
-abbrev pub difference : {K : Type 0} → (K → K → Ordering) → List (K × List (List ℕ)) → List (K × List (List ℕ))
-    → Option (Difference K)
-difference cmp [] [] = None
-difference cmp [] (o ∷ os) = Some (Missing o.0)
-difference cmp (t ∷ ts) [] = Some (Extra t.0)
-difference cmp (t ∷ ts) (o ∷ os) =
-    met (cmp t.0 o.0) t.0 o.0 (first_other 0 t.1 o.1) (difference cmp ts os)
+abbrev pub differences : {K : Type 0} → (K → K → Ordering) → List (K × List (List ℕ)) → List (K × List (List ℕ))
+    → List (Difference K)
+differences cmp [] = map (λ o. Missing o.0)
+differences cmp (t ∷ ts) = from_row cmp t (differences cmp ts)
 
 -- the rows of a file, and the rows of a table, as they are compared
 abbrev pub theirs_shown : {K X : Type 0} → (K → X → List (List ℕ)) → List (Numbered K X) → List (K × List (List ℕ))

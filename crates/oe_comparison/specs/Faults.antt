@@ -3,13 +3,13 @@ use Rattle.std.specs.Prelude.{ℕ, ◌-◌, ◌==◌, List, [], ◌++◌, length
 use Rattle.std.specs.List.{flat_map, join_with_byte}
 use Rattle.oe_rows.specs.Key.{table_name}
 use Rattle.oe_rows.specs.declared.keys.Table.{Table}
-use Rattle.oe_rowlines.specs.declared.forms.LineFault.{LineFault}
-use Rattle.oe_rowlines.specs.declared.forms.LineFault.TheVariants as line_fault
+use Rattle.oe_file_rows.specs.declared.forms.LineFault.{LineFault}
+use Rattle.oe_file_rows.specs.declared.forms.LineFault.TheVariants as line_fault
 use Rattle.oe_texts.specs.Key.{key_texts}
-use Rattle.oe_reading.specs.declared.faults.TableFault.{TableFault}
-use Rattle.oe_reading.specs.declared.faults.Wrong.{Wrong}
-use Rattle.oe_reading.specs.declared.faults.Wrong.TheVariants as wrong
-use Rattle.oe_reading.specs.Fault.{Told}
+use Rattle.oe_file_tables.specs.declared.faults.TableFault.{TableFault}
+use Rattle.oe_file_tables.specs.declared.faults.Wrong.{Wrong}
+use Rattle.oe_file_tables.specs.declared.faults.Wrong.TheVariants as wrong
+use Rattle.oe_file_tables.specs.Fault.{Told}
 use Rattle.oe_comparison.specs.Names.{column_names, column_name}
 use Rattle.oe_comparison.specs.Forms.{form_text}
 

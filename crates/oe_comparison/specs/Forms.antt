@@ -1,8 +1,8 @@
 -- What a column of a form holds, in words.
 use Rattle.std.specs.Prelude.{ℕ, List, [], ◌++◌, nat_lt, if◌then◌else◌, codes, decimal}
 use Rattle.oe_rows.specs.Credit.{money_text}
-use Rattle.oe_rowlines.specs.declared.forms.Form.{Form}
-use Rattle.oe_rowlines.specs.declared.forms.Form.TheVariants as form
+use Rattle.oe_file_rows.specs.declared.forms.Form.{Form}
+use Rattle.oe_file_rows.specs.declared.forms.Form.TheVariants as form
 
 -- number from <low> to <high>
 abbrev pub range_text : ℕ → ℕ → List ℕ

@@ -4,16 +4,16 @@ use Rattle.std.specs.declared.cmp.Ordering.{Ordering}
 use Rattle.std.specs.declared.cmp.Ordering.TheVariants.{Less, Greater}
 use Rattle.oe_texts.specs.Dump.{warehouse_columns, district_columns, customer_columns, history_columns}
 use Rattle.oe_texts.specs.Dump.{new_order_columns, order_columns, order_line_columns, item_columns, stock_columns}
-use Rattle.oe_rowlines.specs.declared.forms.Form.{Form}
-use Rattle.oe_rowlines.specs.Value.{Value}
-use Rattle.oe_rowlines.specs.Line.{joined}
-use Rattle.oe_rowlines.specs.Dumped.{AreOf}
-use Rattle.oe_rowlines.specs.Rows.{warehouse_forms, warehouse_values, district_forms, district_values, customer_forms}
-use Rattle.oe_rowlines.specs.Rows.{customer_values, history_forms, history_values, new_order_forms, new_order_values}
-use Rattle.oe_rowlines.specs.Rows.{order_forms, order_values, order_line_forms, order_line_values, item_forms}
-use Rattle.oe_rowlines.specs.Rows.{item_values, stock_forms, stock_values}
+use Rattle.oe_file_rows.specs.declared.forms.Form.{Form}
+use Rattle.oe_file_rows.specs.Value.{Value}
+use Rattle.oe_file_rows.specs.Line.{joined}
+use Rattle.oe_file_rows.specs.Dumped.{AreOf}
+use Rattle.oe_file_rows.specs.Rows.{warehouse_forms, warehouse_values, district_forms, district_values, customer_forms}
+use Rattle.oe_file_rows.specs.Rows.{customer_values, history_forms, history_values, new_order_forms, new_order_values}
+use Rattle.oe_file_rows.specs.Rows.{order_forms, order_values, order_line_forms, order_line_values, item_forms}
+use Rattle.oe_file_rows.specs.Rows.{item_values, stock_forms, stock_values}
 use Rattle.oe_comparison.specs.Columns.{shown, first_other}
-use Rattle.oe_comparison.specs.Differences.{Difference, Extra, Missing, Column, difference}
+use Rattle.oe_comparison.specs.Differences.{Difference, Extra, Missing, Column, differences}
 
 -- Two rows are the same where their columns are in their ranges and no column differs.
 abbrev pub AreToldApart : {R : Type 0} → List (List Form) → (R → List Value) → (R → List (List ℕ)) → Type 0
@@ -68,8 +68,8 @@ pub record IsFirst {K : Type 0} (cmp : K → K → Ordering) (theirs ours : List
   pub same : AreSame their_front our_front
   pub begins : BeginsSo cmp their_rest our_rest d
 
--- There is no difference exactly where all rows are the same; else the difference is at the first that differs.
+-- No row differs exactly where all are the same; else the first that is told is the first that differs.
 pub record Differences_are_first {K : Type 0} (cmp : K → K → Ordering) : Type 0 where
-  pub none : (theirs ours : List (K × List (List ℕ))) → (difference cmp theirs ours ≡ None) ↔ AreSame theirs ours
-  pub some : (theirs ours : List (K × List (List ℕ))) (d : Difference K) → difference cmp theirs ours ≡ Some d
-      → IsFirst cmp theirs ours d
+  pub none : (theirs ours : List (K × List (List ℕ))) → (differences cmp theirs ours ≡ []) ↔ AreSame theirs ours
+  pub some : (theirs ours : List (K × List (List ℕ))) (d : Difference K) (ds : List (Difference K))
+      → differences cmp theirs ours ≡ d ∷ ds → IsFirst cmp theirs ours d

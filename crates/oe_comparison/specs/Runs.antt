@@ -3,16 +3,16 @@ use Rattle.std.specs.Prelude.{◌≡◌, ◌≢◌, ℕ, ◌<◌, ◌⊎◌, Opt
 use Rattle.oe_model.specs.Rows.{Rows}
 use Rattle.oe_model.specs.System.{system}
 use Rattle.oe_ports.specs.Ports.{Sink, Sent, Cut}
-use Rattle.oe_serial.specs.InOrder.{Between}
-use Rattle.oe_serial.specs.Verdicts as serial
-use Rattle.oe_serial.specs.Verdicts.{IsOfFile, IsDecided, verdict_text}
-use Rattle.oe_serial.specs.declared.origins.Origin.{Origin}
-use Rattle.oe_serial.specs.declared.verdicts.Verdict as replies
-use Rattle.oe_serial.specs.declared.verdicts.Verdict.TheVariants as reply
-use Rattle.oe_reading.specs.declared.faults.TableFault as line
-use Rattle.oe_reading.specs.Fault as fault
-use Rattle.oe_reading.specs.declared.formats.Format.{Format}
-use Rattle.oe_loading.specs.Loading.{Nine}
+use Rattle.oe_file_serial.specs.InOrder.{Between}
+use Rattle.oe_file_serial.specs.Verdicts as serial
+use Rattle.oe_file_serial.specs.Verdicts.{IsOfFile, IsDecided, verdict_text}
+use Rattle.oe_file_serial.specs.declared.origins.Origin.{Origin}
+use Rattle.oe_file_serial.specs.declared.verdicts.Verdict as replies
+use Rattle.oe_file_serial.specs.declared.verdicts.Verdict.TheVariants as reply
+use Rattle.oe_file_tables.specs.declared.faults.TableFault as line
+use Rattle.oe_file_tables.specs.Fault as fault
+use Rattle.oe_file_tables.specs.declared.formats.Format.{Format}
+use Rattle.oe_file_loading.specs.Loading.{Nine}
 use Rattle.oe_comparison.specs.Tables.{TablesCompared}
 use Rattle.oe_comparison.specs.Texts.{Told, comparison_text}
 use Rattle.oe_comparison.specs.declared.runs.Verdict.{Verdict}
@@ -34,7 +34,7 @@ LeavesRows o input n r =
 -- replies that are not serial, or lines of no form
 abbrev pub IsOther : replies.Verdict → Type 0
 IsOther (reply.Serial n) = ⊥
-IsOther (reply.Differs number theirs) = Unit {0}
+IsOther (reply.Differs number theirs last) = Unit {0}
 IsOther (reply.Unreadable bad) = Unit {0}
 
 -- the verdict on replies that are not serial was written, or a beginning of it

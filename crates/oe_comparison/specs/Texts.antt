@@ -1,11 +1,13 @@
 -- The report on tables that are compared: a line for each that differs, and how many do.
-use Rattle.std.specs.Prelude.{ℕ, ◌+◌, ◌==◌, List, ◌++◌, Option, None, Some, codes, decimal, if◌then◌else◌}
-use Rattle.oe_rows.specs.Key.{table_of}
+use Rattle.std.specs.Prelude.{ℕ, ◌+◌, ◌-◌, ◌==◌, nat_lt, List, [], ◌∷◌, ◌++◌, length, codes, decimal, if◌then◌else◌}
+use Rattle.oe_rows.specs.Key.{table_of, table_name}
+use Rattle.oe_rows.specs.declared.keys.Table.{Table}
+use Rattle.oe_rows.specs.declared.keys.Table.TheVariants as table
 use Rattle.oe_rows.specs.declared.histories.History.{History}
 use Rattle.oe_rows.specs.declared.keys.Key.{Key}
 use Rattle.oe_texts.specs.Key.{key_text}
 use Rattle.oe_comparison.specs.Names.{column_name}
-use Rattle.oe_serial.specs.Verdicts.{serial_line}
+use Rattle.oe_file_serial.specs.Verdicts.{serial_line}
 use Rattle.oe_comparison.specs.Columns.{Other}
 use Rattle.oe_comparison.specs.Differences.{Difference, Extra, Missing, Column}
 use Rattle.oe_comparison.specs.Histories.{history_text}
@@ -41,23 +43,40 @@ column_front k place = key_text k ++ codes ": " ++ column_name (table_of k) plac
 abbrev pub column_line : Key → Other → List ℕ
 column_line k c = column_front k c.place ++ c.theirs ++ codes ", in this order " ++ c.ours ++ codes "\n"
 
--- with the line of the first row that differs, where one does
-abbrev pub with_difference : {K : Type 0} → (K → Key) → Option (Difference K) → Told → Told
-with_difference key_of None t = t
-with_difference key_of (Some (Extra k)) t = with_line (extra_line (key_of k)) t
-with_difference key_of (Some (Missing k)) t = with_line (missing_line (key_of k)) t
-with_difference key_of (Some (Column k c)) t = with_line (column_line (key_of k) c) t
+-- the line of a row that differs
+abbrev pub line_of : {K : Type 0} → (K → Key) → Difference K → List ℕ
+line_of key_of (Extra k) = extra_line (key_of k)
+line_of key_of (Missing k) = missing_line (key_of k)
+line_of key_of (Column k c) = column_line (key_of k) c
+
+-- with the line of the first of these, if there is one
+abbrev pub with_first : {D : Type 0} → (D → List ℕ) → List D → Told → Told
+with_first line [] t = t
+with_first line (d ∷ ds) t = with_line (line d) t
+
+-- <table> differs at <count> more, where more rows than one differ
+abbrev pub more_line : Table → ℕ → List ℕ
+more_line t n = table_name t ++ codes " differs at " ++ decimal (n - 1) ++ codes " more\n"
+
+abbrev pub with_more : Table → ℕ → Told → Told
+with_more t n told = if nat_lt 1 n then with_piece (more_line t n) told else told
+
+-- the first row that differs, and how many more do
+abbrev pub with_differences : {D : Type 0} → Table → (D → List ℕ) → List D → Told → Told
+with_differences t line ds told = with_more t (length ds) (with_first line ds told)
 
 -- <row>: more often in the file, or more often in this order
 abbrev pub often_line : History → List ℕ → List ℕ
 often_line h where_it_is = history_text h ++ codes ": more often in " ++ where_it_is ++ codes "\n"
 
 -- the same of HISTORY rows, which differ where one stands more often on one side
-abbrev pub with_history : Option (Difference History) → Told → Told
-with_history None t = t
-with_history (Some (Extra h)) t = with_line (often_line h (codes "the file")) t
-with_history (Some (Missing h)) t = with_line (often_line h (codes "this order")) t
-with_history (Some (Column h c)) t = t
+abbrev pub history_line_of : Difference History → List ℕ
+history_line_of (Extra h) = often_line h (codes "the file")
+history_line_of (Missing h) = often_line h (codes "this order")
+history_line_of (Column h c) = []
+
+abbrev pub with_histories : List (Difference History) → Told → Told
+with_histories ds t = with_differences table.History history_line_of ds t
 
 -- same 9 of 9 tables, or differs in <count> of 9 tables
 abbrev pub last_line : ℕ → List ℕ

@@ -3,7 +3,7 @@
 ghost use Rattle.std.specs.Prelude.{◌≡◌, ◌≤◌, ◌<◌, ◌+◌, ◌∷◌, [], length, option_map};
 ghost use Rattle.std.specs.Option.{IfSome, option_copied};
 ghost use Rattle.arrayvec.specs.ArrayVec.{array_vec_len};
-ghost use Rattle.oe_rowlines.specs.Line.{fields_of, left_of};
+ghost use Rattle.oe_file_rows.specs.Line.{fields_of, left_of};
 ghost use Rattle.oe_comparison.specs.Columns.{shown_line, first_other, texts_of};
 
 use memchr::memchr;

@@ -9,10 +9,10 @@ ghost use Rattle.oe_comparison.specs.Faults.{line_fault_text, miscount_text, wro
 
 use crate::forms::form;
 use crate::names::{column_count, column_name};
+use oe_file_rows::LineFault;
+use oe_file_tables::{Faults, TableFault, Wrong};
 use oe_ports::output::{flush, make_room};
 use oe_ports::ports::{Failed, Outlet};
-use oe_reading::{Faults, TableFault, Wrong};
-use oe_rowlines::LineFault;
 use oe_rows::Table;
 use oe_texts::columns::number;
 use oe_texts::keys::columns;

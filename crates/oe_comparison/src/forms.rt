@@ -3,7 +3,7 @@ ghost use Rattle.std.specs.Prelude.{◌≡◌, ◌≤◌, ◌+◌, ◌++◌, len
 ghost use Rattle.arrayvec.specs.ArrayVec.{array_vec_len};
 ghost use Rattle.oe_comparison.specs.Forms.{range_text, bytes_text, amounts_text, form_text};
 
-use oe_rowlines::Form;
+use oe_file_rows::Form;
 use oe_texts::columns::{money, number, small};
 use oe_texts::{Pending, SIZE, text};
 

@@ -1,14 +1,16 @@
 //! HISTORY rows, which have no key in the standard: those of a file and of this order are sorted by
 //! their columns, and compared from the front.
-ghost use Rattle.std.specs.Prelude.{◌≡◌, ◌++◌, ◌∷◌, [], OnOk, IfOk, map};
-ghost use Rattle.oe_comparison.specs.Differences.{difference, keyless};
+ghost use Rattle.std.specs.Prelude.{◌≡◌, ◌≤◌, ◌++◌, ◌∷◌, [], length, OnOk, IfOk, map};
+ghost use Rattle.oe_comparison.specs.Differences.{differences, keyless};
 ghost use Rattle.oe_comparison.specs.Histories.{history_order, AreSorted};
 ghost use Rattle.oe_comparison.specs.Tables.{AreHistoriesTold};
-ghost use Rattle.oe_comparison.specs.Texts.{with_history};
+ghost use Rattle.oe_comparison.specs.Texts.{often_line, with_histories};
+ghost use Rattle.oe_comparison.specs.Walks.{TellsOne};
 
 use crate::reports::Report;
-use oe_reading::Batches;
-use oe_rows::{History, HistoryKey};
+use crate::walks::one_more;
+use oe_file_tables::Batches;
+use oe_rows::{History, HistoryKey, Table};
 use oe_table::shelf_walks::Rows;
 use oe_values::NoMemory;
 use std::alloc::Global;
@@ -80,31 +82,74 @@ fn sort(rows: &mut Vec<History>) -> Result<(), NoMemory>
     }
 }
 
-// Tells of the first of sorted rows that stands more often on one side.
+// Tells of a row that stands more often there, where it is the first that does, and counts it.
+fn tell_often(row: &History, side: &[u8], others: u64, report: &mut Report) -> Result<u64, NoMemory>
+    requires { length side.now ≤ 100 }
+    ensures { TellsOne (often_line row.now side.now) others report.old report.new result }
+{
+    if others > 0 {
+        return one_more(others);
+    }
+    match report.more_often(row, side) {
+        Ok(()) => Ok(1),
+        Err(refusal) => Err(refusal),
+    }
+}
+
+// Tells of the first of sorted rows that stands more often on one side, and how many more do.
 fn compare_sorted(theirs: &[History], ours: &[History], report: &mut Report) -> Result<(), NoMemory>
     ensures { OnOk result (report.new
-        ≡ with_history (difference history_order (keyless theirs.now) (keyless ours.now))
+        ≡ with_histories (differences history_order (keyless theirs.now) (keyless ours.now))
         report.old) }
 {
     let mut theirs = theirs.iter();
-    for our in ours {
-        let Some(their) = theirs.next() else {
-            return report.more_often(our, ORDER);
-        };
-        match order_of(their, our) {
-            Ordering::Less => return report.more_often(their, FILE),
-            Ordering::Greater => return report.more_often(our, ORDER),
-            Ordering::Equal => {}
+    let mut ours = ours.iter();
+    let mut their = theirs.next();
+    let mut our = ours.next();
+    let mut others = 0;
+    loop {
+        match (their, our) {
+            (None, None) => return report.more(Table::History, others),
+            (Some(file), None) => {
+                others = match tell_often(file, FILE, others, report) {
+                    Ok(count) => count,
+                    Err(refusal) => return Err(refusal),
+                };
+                their = theirs.next();
+            }
+            (None, Some(order)) => {
+                others = match tell_often(order, ORDER, others, report) {
+                    Ok(count) => count,
+                    Err(refusal) => return Err(refusal),
+                };
+                our = ours.next();
+            }
+            (Some(file), Some(order)) => match order_of(file, order) {
+                Ordering::Less => {
+                    others = match tell_often(file, FILE, others, report) {
+                        Ok(count) => count,
+                        Err(refusal) => return Err(refusal),
+                    };
+                    their = theirs.next();
+                }
+                Ordering::Greater => {
+                    others = match tell_often(order, ORDER, others, report) {
+                        Ok(count) => count,
+                        Err(refusal) => return Err(refusal),
+                    };
+                    our = ours.next();
+                }
+                Ordering::Equal => {
+                    their = theirs.next();
+                    our = ours.next();
+                }
+            },
         }
-    }
-    match theirs.next() {
-        Some(their) => report.more_often(their, FILE),
-        None => Ok(()),
     }
 }
 
 /// Tells of the first HISTORY row, in the order of its columns, that stands more often in the file
-/// or in this order. Keys are not compared.
+/// or in this order, and how many more do. Keys are not compared.
 pub(crate) fn compare_histories(
     alloc: Global,
     theirs: &Batches<HistoryKey, History>,

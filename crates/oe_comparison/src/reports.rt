@@ -1,11 +1,11 @@
-//! The report on tables: a line for each that differs, and how many do. Lines are kept until all
-//! files are read. A want of memory leaves a report that is of no use any more.
+//! The report on tables: of each that differs the first row that does, and how many more do; and how
+//! many tables differ. Lines are kept until all files are read. A want of memory leaves a report that is of no use any more.
 ghost use Rattle.std.specs.Prelude.{◌≡◌, ◌≤◌, ◌<◌, ◌+◌, ◌++◌, ◌∷◌, [], length, decimal, OnOk};
 ghost use Rattle.arrayvec.specs.ArrayVec.{array_vec_len};
 ghost use Rattle.oe_texts.specs.Dump.{reference_columns};
 ghost use Rattle.oe_comparison.specs.Names.{column_name};
 ghost use Rattle.oe_comparison.specs.Histories.{blanked, history_text};
-ghost use Rattle.oe_comparison.specs.Texts.{nothing_told, with_piece, with_line, extra_line, missing_line, column_front, column_line, often_line, last_line};
+ghost use Rattle.oe_comparison.specs.Texts.{nothing_told, with_piece, with_line, with_more, extra_line, missing_line, column_front, column_line, often_line, last_line};
 
 use crate::names::column_name;
 use oe_rows::{CustomerKey, DistrictKey, History, Key, Table};
@@ -15,7 +15,7 @@ use oe_values::NoMemory;
 use std::alloc::Global;
 use std::marker::Model;
 
-/// The lines of tables that differ, and how many they are.
+/// The lines of tables that differ, and how many tables do.
 #[derive(Drop)]
 pub struct Report {
     text: Vec<u8>,
@@ -123,7 +123,7 @@ impl Report {
         self.text.as_slice()
     }
 
-    /// Counts the lines.
+    /// Counts the tables that differ.
     pub fn count(&self) -> u64
         ensures { result ≡ self.now.count }
     {
@@ -201,6 +201,21 @@ impl Report {
             return Err(refusal);
         }
         self.end(b"\n")
+    }
+
+    /// Tells how many rows of a table differ besides the first of them.
+    pub(crate) fn more(&mut self, table: Table, others: u64) -> Result<(), NoMemory>
+        ensures { OnOk result (self.new ≡ with_more table others self.old) }
+    {
+        if others <= 1 {
+            return Ok(());
+        }
+        let mut line = Pending::new();
+        text(&mut line, table.name().as_bytes());
+        text(&mut line, b" differs at ");
+        number(&mut line, others - 1);
+        text(&mut line, b" more\n");
+        self.put(line.as_slice())
     }
 
     /// Tells of a HISTORY row that stands more often there.

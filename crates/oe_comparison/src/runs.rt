@@ -2,8 +2,8 @@
 //! serial, what differs between the files and the tables that the transactions leave.
 ghost use Rattle.std.specs.Prelude.{◌≡◌, ◌≤◌, [], length, OnOk};
 ghost use Rattle.oe_ports.specs.Ports.{Streams};
-ghost use Rattle.oe_loading.specs.Loading.{nine_of};
-ghost use Rattle.oe_serial.specs.Verdicts.{IsOrigin, IsShort, verdict_text};
+ghost use Rattle.oe_file_loading.specs.Loading.{nine_of};
+ghost use Rattle.oe_file_serial.specs.Verdicts.{IsOrigin, IsShort, verdict_text};
 ghost use Rattle.oe_store.specs.Places.{rows};
 ghost use Rattle.oe_comparison.specs.Runs.{status_of, IsOther, TellsOther, Tells, Compares, ComparisonRan};
 ghost use Rattle.oe_comparison.specs.Texts.{comparison_text};
@@ -11,13 +11,13 @@ ghost use Rattle.oe_comparison.specs.Texts.{comparison_text};
 use crate::reports::{Report, last_line};
 use crate::tables::compare_tables;
 use arrayvec::ArrayVec;
-use oe_loading::Sources;
-use oe_ports::output::{flush, write_all};
-use oe_ports::ports::{Failed, Intake, Outlet};
-use oe_reading::{Faults, Format, Stop};
-use oe_serial::{
+use oe_file_loading::Sources;
+use oe_file_serial::{
     AnswerText, Decision, Origin, Shortage, Verdict as Replies, decide, write_verdict,
 };
+use oe_file_tables::{Faults, Format, Stop};
+use oe_ports::output::{flush, write_all};
+use oe_ports::ports::{Failed, Intake, Outlet};
 use oe_store::Tables;
 use oe_texts::{LONGEST, Pending};
 use std::alloc::Global;
@@ -57,7 +57,7 @@ pub fn status(verdict: &Verdict) -> u8
     ensures { result ≡ status_of verdict.now }
 {
     match verdict {
-        Verdict::Replies(replies) => oe_serial::status(replies),
+        Verdict::Replies(replies) => oe_file_serial::status(replies),
         Verdict::Same => 0,
         Verdict::Differs(_) => 1,
         Verdict::Unreadable(_) => 2,
@@ -167,8 +167,8 @@ pub fn run_comparison<'a, S: Intake, W: Outlet>(
             tables.discard();
             verdict
         }
-        Decision::Differs(number, theirs) => {
-            let replies = Replies::Differs(number, theirs);
+        Decision::Differs(number, theirs, last) => {
+            let replies = Replies::Differs(number, theirs, last);
             tell_replies(replies, ours.as_slice(), writer)
         }
         Decision::Unreadable(bad) => Ok(Verdict::Replies(Replies::Unreadable(bad))),

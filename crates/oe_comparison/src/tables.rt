@@ -4,9 +4,9 @@ ghost use Rattle.std.specs.Prelude.{◌≡◌, OnOk};
 ghost use Rattle.oe_rows.specs.Key.{history_cmp};
 ghost use Rattle.oe_rows.specs.declared.keys.Key.TheVariants as kind;
 ghost use Rattle.oe_rows.specs.declared.keys.Table.TheVariants as table;
-ghost use Rattle.oe_reading.specs.Fault.{no_faults};
-ghost use Rattle.oe_reading.specs.Rows.{SpellsHistory};
-ghost use Rattle.oe_loading.specs.Loading.{nine_of};
+ghost use Rattle.oe_file_tables.specs.Fault.{no_faults};
+ghost use Rattle.oe_file_tables.specs.Rows.{SpellsHistory};
+ghost use Rattle.oe_file_loading.specs.Loading.{nine_of};
 ghost use Rattle.oe_store.specs.Places.{rows};
 ghost use Rattle.oe_comparison.specs.Tables.{IsTold, AreHistoriesTold, TableCompared, HomesCompared, DeedsCompared, GoodsCompared, KeepsHomes, KeepsDeeds, KeepsGoods, TablesCompared};
 ghost use Rattle.oe_comparison.specs.Texts.{nothing_told};
@@ -15,10 +15,10 @@ use crate::histories::compare_histories;
 use crate::reports::Report;
 use crate::rows::ComparedRow;
 use crate::walks::compare_rows;
-use oe_loading::Sources;
+use oe_file_loading::Sources;
+use oe_file_tables::{Faults, Format, RowLine, Stop, read_table_as};
 use oe_ports::dumps::DumpedRow;
 use oe_ports::ports::Intake;
-use oe_reading::{Faults, Format, RowLine, Stop, read_table_as};
 use oe_rows::{History, HistoryKey};
 use oe_store::Tables;
 use oe_table::shelf_walks::Rows;
@@ -35,7 +35,7 @@ fn compare_table<K: TableKey + Drop, R: RowLine<K> + DumpedRow<K> + ComparedRow 
     report: &mut Report,
 ) -> Result<(), Stop>
     ensures { OnOk result (TableCompared format K.cmp R.key_of R.spells R.own_table
-        (IsTold K.cmp R.key_of R.columns) (S.source source.old) (S.source source.new) faults.old
+        (IsTold R.own_table K.cmp R.key_of R.columns) (S.source source.old) (S.source source.new) faults.old
         faults.new ours.entry report.old report.new) }
 {
     let theirs = match read_table_as::<K, R, S>(alloc, format, source, faults) {

@@ -21,7 +21,7 @@ use Rattle.oe_file_audit.specs.declared.audits.AuditFault.TheVariants as fault
 use Rattle.oe_file_audit.specs.declared.reading.Unread.{Unread}
 use Rattle.oe_file_audit.specs.Audits.{has_fault, any_fault, AreOf, verdict_of, Reports, JudgesSound, JudgesBy}
 use Rattle.oe_file_audit.specs.Audits.{Judges, Ends}
-use Rattle.oe_file_audit.specs.Report.{failing}
+use Rattle.oe_audit_report.specs.Report.{failing}
 
 -- ---- whether a line has a fault
 
@@ -59,7 +59,7 @@ module _ (options : Options) (t : Facts) (s : Settled) (ready : IsReady options.
   pub are_of : AreOf options t r
   are_of = record {
     each = s.each;
-    of_a_district = ready.each;
+    of_the_first = ready.each;
     results = subst (λ n. AreResults n s.each t r) ready.initial found;
   }
 

@@ -4,11 +4,13 @@ use Rattle.std.specs.Prelude.{Option, None, unwrap_or, Result, Ok, Err, if◌the
 use Rattle.oe_facts.specs.declared.tables.Fact.{Fact}
 use Rattle.oe_fields.specs.declared.fields.Format.{Format}
 use Rattle.oe_ports.specs.Ports.{Sink, Sent, Cut}
+use Rattle.oe_audit_report.specs.Report.{failing}
+use Rattle.oe_audit_report.specs.Forms.{report_of}
 use Rattle.oe_sources.specs.Fault.{Told}
 use Rattle.oe_books.specs.declared.findings.Results.{Results}
 use Rattle.oe_books.specs.Facts.{Facts, parted}
 use Rattle.oe_books.specs.Closing.{IsLacking}
-use Rattle.oe_books.specs.Keeping.{IsOfADistrict}
+use Rattle.oe_books.specs.Keeping.{IsOfFirstDistrict}
 use Rattle.oe_books.specs.Found.{AreResults}
 use Rattle.oe_file_audit.specs.declared.audits.Options.{Options}
 use Rattle.oe_file_audit.specs.declared.audits.Verdict.{Verdict}
@@ -18,7 +20,6 @@ use Rattle.oe_file_audit.specs.declared.audits.AuditFault.TheVariants as fault
 use Rattle.oe_file_audit.specs.declared.reading.TableSource.{TableSource}
 use Rattle.oe_file_audit.specs.declared.reading.Unread.{Unread}
 use Rattle.oe_file_audit.specs.Reading.{TablesSpell, StopsAt, DumpSpells}
-use Rattle.oe_file_audit.specs.Report.{failing, report_text}
 
 abbrev pub status_of : Verdict → ℕ
 status_of verdict.Holds = 0
@@ -38,18 +39,20 @@ abbrev pub verdict_of : Results → Verdict
 verdict_of r = if length (failing r.checks.items) == 0 then verdict.Holds else verdict.Fails
 
 -- What checks find of these facts: the population had in each district as many orders as is said, or else as many as
--- some district has customers.
+-- the first district has customers.
 pub record AreOf (options : Options) (t : Facts) (r : Results) : Type 0 where
   pub each : ℕ
-  pub of_a_district : IsOfADistrict t.customers each
+  pub of_the_first : IsOfFirstDistrict t.customers each
   pub results : AreResults (unwrap_or options.initial each) each t r
 
 module _ (options : Options) (old new : Option Sink) where
   -- the report of these facts was written, and this is its verdict; or it could not be made, or not be written whole
   abbrev pub Reports : Facts → Result Verdict AuditFault → Type 0
   Reports t (Ok v) =
-      (r : Results) × AreOf options t r × Sent old [] new [] (report_text options.first r) × (v ≡ verdict_of r)
-  Reports t (Err fault.Write) = (r : Results) × AreOf options t r × Cut old [] new (report_text options.first r)
+      (r : Results) × AreOf options t r × Sent old [] new [] (report_of options.form options.first r)
+      × (v ≡ verdict_of r)
+  Reports t (Err fault.Write) =
+      (r : Results) × AreOf options t r × Cut old [] new (report_of options.form options.first r)
   Reports t (Err fault.NoMemory) = new ≡ old
   Reports t (Err (fault.Unread unread)) = ⊥
 

@@ -1,9 +1,11 @@
 -- The lines that tell what is wrong with sources.
 use Rattle.std.specs.Prelude.{ℕ, zero, suc, ◌-◌, ◌||◌, List, [], ◌∷◌, ◌++◌, map, nat_lt, slice_index}
+use Rattle.std.specs.Prelude.{Option, Some, None}
 use Rattle.std.specs.Prelude.{if◌then◌else◌, decimal, codes}
 use Rattle.std.specs.List.{flat_map}
 use Rattle.oe_facts.specs.Table.{name_of}
 use Rattle.oe_facts.specs.declared.tables.Table.{Table}
+use Rattle.oe_fields.specs.declared.fields.Format.{Format}
 use Rattle.oe_columns.specs.Columns.{columns_of}
 use Rattle.oe_columns.specs.declared.columns.Kind.{Kind}
 use Rattle.oe_columns.specs.declared.columns.Kind.TheVariants as kind
@@ -15,6 +17,8 @@ use Rattle.oe_sources.specs.Fault.{Told, place_of}
 use Rattle.oe_books.specs.declared.closing.Lack.{Lack}
 use Rattle.oe_books.specs.declared.closing.Lack.TheVariants as lack
 use Rattle.oe_books.specs.Closing.{tables}
+use Rattle.oe_file_audit.specs.declared.causes.Cause.{Cause}
+use Rattle.oe_file_audit.specs.Causes.{cause_of, cause_name}
 
 abbrev pub name_or : List (List ℕ × Kind) → ℕ → List ℕ
 name_or [] n = codes "?"
@@ -79,9 +83,20 @@ more_text t n = if nat_lt 3 n then more_line t (n - 3) else []
 abbrev pub more_lines : Told → List ℕ
 more_lines told = flat_map (λ t. more_text t (slice_index told.counts (place_of t))) tables
 
+-- <table>: <cause>
+abbrev pub cause_text : Table → Option Cause → List ℕ
+cause_text t None = []
+cause_text t (Some c) = name_of t ++ codes ": " ++ cause_name c ++ codes "\n"
+
+-- the likely cause, of a table's file with fields of a format
+abbrev pub cause_line : Option Format → List SourceFault → List ℕ
+cause_line None faults = []
+cause_line (Some format) [] = []
+cause_line (Some format) (f ∷ fs) = cause_text f.table (cause_of format (f ∷ fs))
+
 -- the faults of a source
-abbrev pub source_text : Told → List ℕ
-source_text told = flat_map fault_line told.kept ++ more_lines told
+abbrev pub source_text : Option Format → Told → List ℕ
+source_text format told = flat_map fault_line told.kept ++ more_lines told ++ cause_line format told.kept
 
 -- what is not there
 abbrev pub lack_line : Lack → List ℕ

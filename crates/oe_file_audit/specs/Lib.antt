@@ -1,7 +1,5 @@
 -- What the clauses of this crate cite.
-pub mod Labels
-pub mod Texts
+pub mod Causes
 pub mod Faults
-pub mod Report
 pub mod Reading
 pub mod Audits

@@ -9,7 +9,7 @@ ghost use Rattle.oe_file_audit.specs.Reading.{Holds, HoldsSome};
 ghost use Rattle.oe_file_audit.specs.Audits.{status_of, any_fault, Reports, Judges, TablesAudited, DumpAudited};
 
 use crate::reading::{Spelled, TableSource, Unread, read_one, read_tables};
-use crate::report::{count_failing, write_report};
+use oe_audit_report::{Form, counted, write_report};
 use oe_books::{Closed, Lack, Settled};
 use oe_fields::Format;
 use oe_ports::ports::Outlet;
@@ -25,6 +25,8 @@ pub struct Options {
     pub initial: Option<u32>,
     /// Each list is cut behind this number of rows.
     pub first: Option<u32>,
+    /// How the report is written.
+    pub form: Form,
 }
 
 /// What files come to.
@@ -90,11 +92,17 @@ fn report<W: Outlet>(
         Ok(results) => results,
         Err(_) => return Err(AuditFault::NoMemory),
     };
-    match write_report(options.first, &results, writer) {
-        Ok(()) if count_failing(&results) == 0 => Ok(Verdict::Holds),
+    match write_report(options.form, options.first, &results, writer) {
+        Ok(()) if counted(results.checks.as_slice()).failing == 0 => Ok(Verdict::Holds),
         Ok(()) => Ok(Verdict::Fails),
         Err(_) => Err(AuditFault::Write),
     }
+}
+
+// Gives up settled books, as `Entered::discard` does.
+#[inline(never)]
+fn discard(settled: Settled) {
+    let _ended = settled;
 }
 
 // Judges what sources spell.
@@ -111,10 +119,15 @@ fn judge<W: Outlet>(
 {
     let Spelled { entered, faults } = spelled;
     if any_fault(&faults) {
+        entered.discard();
         return Ok(Verdict::Unreadable(faults));
     }
     match entered.books.close(alloc) {
-        Ok(Closed::Settled(settled)) => report(alloc, options, &settled, writer),
+        Ok(Closed::Settled(settled)) => {
+            let reported = report(alloc, options, &settled, writer);
+            discard(settled);
+            reported
+        }
         Ok(Closed::Lacking(lack)) => Ok(Verdict::Lacking(lack)),
         Err(_) => Err(AuditFault::NoMemory),
     }

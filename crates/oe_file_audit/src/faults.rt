@@ -1,16 +1,18 @@
-//! The lines that tell what is wrong with sources: at most three lines of each table, and how many
-//! more there are. No memory is taken.
+//! The lines that tell what is wrong with sources: at most three lines of each table, how many more
+//! there are, and the likely cause where all lines are wrong in one way. No memory is taken.
 ghost use Rattle.std.specs.Prelude.{◌≡◌, ◌≤◌, ◌+◌, ◌++◌, [], length, slice_index};
 ghost use Rattle.oe_sources.specs.Fault.{place_of};
 ghost use Rattle.std.specs.List.{flat_map};
 ghost use Rattle.arrayvec.specs.ArrayVec.{array_vec_len};
 ghost use Rattle.oe_ports.specs.Ports.{Streams};
-ghost use Rattle.oe_file_audit.specs.Faults.{name_at, kind_at, wanted_text, printed, shown_text, wrong_text, fault_line, more_line, more_text, source_text, lack_line};
+ghost use Rattle.oe_file_audit.specs.Faults.{name_at, kind_at, wanted_text, printed, shown_text, wrong_text, fault_line, more_line, more_text, cause_line, source_text, lack_line};
 
-use crate::lines::{LineOf, put_lines};
+use crate::causes::{cause_name, cause_of};
+use oe_audit_report::lines::{LineOf, Lines, TextOf, put_each, put_line};
 use oe_books::Lack;
 use oe_columns::{Kind, LayoutFault, fact_columns};
 use oe_facts::Table;
+use oe_fields::Format;
 use oe_ports::output::flush;
 use oe_ports::ports::{Failed, Outlet};
 use oe_sources::{Faults, SourceFault, Wrong};
@@ -189,39 +191,71 @@ impl LineOf<Table> for MoreLines<'_> {
     }
 }
 
-/// Writes the faults of a source.
-fn put_source<W: Outlet>(faults: &Faults, out: &mut Pending, to: &mut W) -> Result<(), Failed>
-    ensures { Streams (W.sink to.old) out.old.items (W.sink to.new) out.new.items
-        (source_text faults.now) result }
-{
-    match put_lines(&FaultLines {}, faults.kept(), out, to) {
-        Ok(()) => put_lines(&MoreLines { faults }, &TABLES, out, to),
-        Err(failed) => Err(failed),
+/// Makes the line of the likely cause, where the source is a table's file with fields of a format.
+#[derive(Drop)]
+struct CauseLine {
+    format: Option<Format>,
+}
+
+impl LineOf<Faults> for CauseLine {
+    ghost line = { λ l faults. cause_line l.format faults.kept };
+
+    fn append(&self, faults: &Faults, out: &mut Pending) {
+        let Some(format) = self.format else {
+            return;
+        };
+        let kept = faults.kept();
+        let [first, ..] = kept else {
+            return;
+        };
+        if let Some(cause) = cause_of(format, kept) {
+            text(out, first.table.name().as_bytes());
+            text(out, b": ");
+            text(out, cause_name(cause).as_bytes());
+            out.push(b'\n');
+        }
     }
 }
 
 /// Writes the faults of sources.
-fn put_sources<W: Outlet>(faults: &[Faults], out: &mut Pending, to: &mut W) -> Result<(), Failed>
-    ensures { Streams (W.sink to.old) out.old.items (W.sink to.new) out.new.items
-        (flat_map source_text faults.now) result }
-{
-    for told in faults {
-        if let Err(failed) = put_source(told, out, to) {
-            return Err(failed);
-        }
-    }
-    Ok(())
+#[derive(Drop)]
+struct SourceTexts {
+    format: Option<Format>,
 }
 
-/// Writes what is wrong with the lines of sources, one source after another.
+impl TextOf<Faults> for SourceTexts {
+    ghost text = { λ t faults. source_text t.format faults };
+
+    fn put<W: Outlet>(&self, faults: &Faults, out: &mut Pending, to: &mut W) -> Result<(), Failed> {
+        if let Err(failed) = put_each(&Lines { of: &FaultLines {} }, faults.kept(), out, to) {
+            return Err(failed);
+        }
+        let more = MoreLines { faults };
+        if let Err(failed) = put_each(&Lines { of: &more }, &TABLES, out, to) {
+            return Err(failed);
+        }
+        let cause = CauseLine {
+            format: self.format,
+        };
+        put_line(&cause, faults, out, to)
+    }
+}
+
+/// Writes what is wrong with the lines of sources, one source after another, and the likely cause
+/// where all lines of a table's file are wrong in one way: `format` is that of such files' fields,
+/// and none of a dump.
 ///
 /// `Failed` where a write fails: a beginning of the lines is written then.
-pub fn write_faults<W: Outlet>(faults: &[Faults], to: &mut W) -> Result<(), Failed>
-    ensures { Streams (W.sink to.old) [] (W.sink to.new) [] (flat_map source_text faults.now)
-        result }
+pub fn write_faults<W: Outlet>(
+    format: Option<Format>,
+    faults: &[Faults],
+    to: &mut W,
+) -> Result<(), Failed>
+    ensures { Streams (W.sink to.old) [] (W.sink to.new) []
+        (flat_map (source_text format) faults.now) result }
 {
     let mut out = Pending::new();
-    match put_sources(faults, &mut out, to) {
+    match put_each(&SourceTexts { format }, faults, &mut out, to) {
         Ok(()) => flush(&mut out, to),
         Err(failed) => Err(failed),
     }

@@ -3,15 +3,12 @@
 #![tactic(auto)]
 
 pub mod audits;
+pub mod causes;
 pub mod faults;
-pub mod figures;
-pub mod labels;
-mod lines;
 pub mod reading;
-pub mod report;
-pub mod texts;
 
 pub use audits::{AuditFault, Options, Verdict, audit_dump, audit_tables, status};
+pub use causes::{Cause, cause_of};
 pub use faults::{write_faults, write_lack};
+pub use oe_audit_report::Form;
 pub use reading::{TableSource, Unread};
-pub use report::write_report;

@@ -43,6 +43,12 @@ pub struct Spelled {
     pub(crate) faults: Vec<Faults>,
 }
 
+impl Entered {
+    // Gives up the books. Each way out that drops them costs its check a minute: one does.
+    #[inline(never)]
+    pub(crate) fn discard(self) {}
+}
+
 /// Why sources were not read to their ends.
 #[derive(Clone, Copy)]
 pub struct Unread {
@@ -62,6 +68,7 @@ fn with_source(faults: Vec<Faults>, taken: Taken<Entered>) -> Option<Spelled>
     } = taken;
     let mut faults = faults;
     if faults.push(told).is_err() {
+        ledger.discard();
         return None;
     }
     Some(Spelled {

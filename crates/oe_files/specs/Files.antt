@@ -1,9 +1,16 @@
 -- The files of tables.
-use Rattle.std.specs.Prelude.{◌≡◌, ℕ, ◌<◌, List, [], ◌∷◌, length, take, ⊤, Option, Some, None, Result, Ok, Err}
+use Rattle.std.specs.Prelude.{◌≡◌, ℕ, ◌<◌, true, false, is_ok, is_some, List, [], ◌∷◌, length, take}
+use Rattle.std.specs.Prelude.{⊤, Option, Some, None, Result, Ok, Err}
+use Rattle.std.specs.List.{list_all}
 use Rattle.std.specs.Io.KnownBytes.{Consumes, IsAtEnd}
+use Rattle.std.specs.IoError.{error_kind}
+use Rattle.std.specs.declared.io.Error.{Error}
+use Rattle.std.specs.declared.io.ErrorKind.TheVariants as kind
 use Rattle.oe_rows.specs.declared.keys.Table.{Table}
 use Rattle.oe_rows.specs.declared.keys.Table.TheVariants as table
-use Rattle.oe_loading.specs.declared.loading.Sources.{Sources}
+use Rattle.oe_file_loading.specs.declared.loading.Sources.{Sources}
+use Rattle.oe_files.specs.declared.opening.Openness.{Openness}
+use Rattle.oe_files.specs.declared.opening.Openness.TheVariants as openness
 
 -- the reader of a table
 abbrev pub reader_of : {S : Type 0} → Sources S → Table → S
@@ -43,3 +50,20 @@ HandsOn remaining (Ok old) (Err cause) (Err f) buf = ⊤
 HandsOn remaining (Err cause) (Ok new) r buf = ⊥
 HandsOn remaining (Err cause) (Err later) (Ok n) buf = ⊥
 HandsOn remaining (Err cause) (Err later) (Err f) buf = later ≡ cause
+
+-- there was no memory to open a file
+abbrev pub LacksMemory : {F : Type 0} → Result F Error → Type 0
+LacksMemory (Ok file) = ⊥
+LacksMemory (Err cause) = error_kind cause ≡ kind.OutOfMemory
+
+-- whether a file is open that is closed for this cause, or for none
+abbrev pub IsOneOpen : Option Error → Openness → Type 0
+IsOneOpen cause openness.Open = cause ≡ None
+IsOneOpen cause openness.Closed = is_some cause ≡ true
+IsOneOpen cause openness.NoMemory = (e : Error) × (cause ≡ Some e) × (error_kind e ≡ kind.OutOfMemory)
+
+-- whether nine files are open
+abbrev pub AreOpen : {S F : Type 0} → (S → Result F Error) → Sources S → Openness → Type 0
+AreOpen file s openness.Open = list_all (λ x. is_ok (file x)) (nine s) ≡ true
+AreOpen file s openness.Closed = list_all (λ x. is_ok (file x)) (nine s) ≡ false
+AreOpen file s openness.NoMemory = (t : Table) × LacksMemory (file (reader_of s t))

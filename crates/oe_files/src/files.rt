@@ -4,7 +4,7 @@ ghost use Rattle.oe_ports.specs.Ports.{Reads};
 ghost use Rattle.oe_files.specs.Files.{HandsOn, reader_of, cause_of};
 
 use crate::pace::Pace;
-use oe_loading::Sources;
+use oe_file_loading::Sources;
 use oe_ports::ports::{Failed, Intake};
 use oe_rows::Table;
 use std::io;

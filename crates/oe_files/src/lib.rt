@@ -7,5 +7,5 @@ pub mod opening;
 pub mod pace;
 
 pub use files::{TableFile, reader_of};
-pub use opening::{open_tables, tell_closed, tell_unread};
+pub use opening::{Openness, open_named, open_tables, tell_closed, tell_unread};
 pub use pace::Pace;

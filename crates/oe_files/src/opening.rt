@@ -1,14 +1,13 @@
 //! Nine files are opened in a folder, each under its table's name. Those that can't be opened are
 //! closed from the beginning, and a line says why.
-ghost use Rattle.std.specs.Prelude.{◌≡◌, IfOk, is_ok, is_none};
-ghost use Rattle.std.specs.List.{list_all};
+ghost use Rattle.std.specs.Prelude.{◌≡◌, IfOk, IfSome, is_some, if◌then◌else◌};
 ghost use Rattle.std.specs.Path.{path_join, path_buf_bytes};
 ghost use Rattle.oe_rows.specs.Key.{table_name};
-ghost use Rattle.oe_files.specs.Files.{nine, AreTheirs};
+ghost use Rattle.oe_files.specs.Files.{AreTheirs, IsOneOpen, AreOpen};
 
 use crate::files::{TableFile, reader_of};
 use crate::pace::Pace;
-use oe_loading::Sources;
+use oe_file_loading::Sources;
 use oe_rows::Table;
 use std::alloc::{AllocError, Global};
 use std::io::ErrorKind;
@@ -75,6 +74,21 @@ pub fn open_tables<'p, 'r, R: Files + AllocGlobal>(
     }
 }
 
+/// Opens the nine files of a folder, where one is named.
+pub fn open_named<'p, 'r, R: Files + AllocGlobal>(
+    rt: &R,
+    folder: Option<&str>,
+    pace: &'p Pace<'r, R>,
+) -> Option<Sources<TableFile<'p, 'r, R, R::File>>>
+    ensures named { is_some result ≡ is_some folder.entry }
+    ensures theirs { IfSome result (AreTheirs (λ file. file.table)) }
+{
+    match folder {
+        Some(folder) => Some(open_tables(rt, folder, pace)),
+        None => None,
+    }
+}
+
 // Says why the file of a table can't be read.
 fn tell_cause<R: Eprint>(rt: &R, table: Table, cause: &io::Error) -> io::Result<()> {
     match cause.kind() {
@@ -84,36 +98,61 @@ fn tell_cause<R: Eprint>(rt: &R, table: Table, cause: &io::Error) -> io::Result<
     }
 }
 
-// Tells whether a file is open, and says why it is not.
-fn tell_file<R: Eprint>(rt: &R, table: Table, cause: Option<io::Error>) -> io::Result<bool>
-    ensures { IfOk result (λ is_open. is_open ≡ is_none cause) }
+/// Whether files are open.
+#[derive(Clone, Copy)]
+pub enum Openness {
+    /// All are.
+    Open,
+    /// One is not.
+    Closed,
+    /// There was no memory to open one.
+    NoMemory,
+}
+
+// Tells whether a file is open, and says why it is not; but for a want of memory.
+fn tell_file<R: Eprint>(rt: &R, table: Table, cause: Option<io::Error>) -> io::Result<Openness>
+    ensures { IfOk result (λ openness. IsOneOpen cause openness) }
 {
     let Some(cause) = cause else {
-        return Ok(true);
+        return Ok(Openness::Open);
     };
     if cause.kind() == ErrorKind::OutOfMemory {
-        return Err(cause);
+        return Ok(Openness::NoMemory);
     }
     tell_cause(rt, table, &cause)?;
-    Ok(false)
+    Ok(Openness::Closed)
+}
+
+// Gives what the last of nine files leaves.
+fn ended(all_open: bool) -> Openness
+    ensures { result ≡ (if all_open then Openness.Open else Openness.Closed) }
+{
+    if all_open {
+        Openness::Open
+    } else {
+        Openness::Closed
+    }
 }
 
 /// Tells whether all nine files are open, and says of each other why it is not, up to one for which
-/// there was no memory: that is the error then.
+/// there was no memory.
+///
+/// An error is one of standard error.
 pub fn tell_closed<R: Eprint, F>(
     rt: &R,
     sources: &Sources<TableFile<'_, '_, R, F>>,
-) -> io::Result<bool>
-    ensures { IfOk result (λ all_open.
-        all_open ≡ list_all (λ file. is_ok file.file) (nine sources.now)) }
+) -> io::Result<Openness>
+    ensures { IfOk result (λ openness. AreOpen (λ x. x.file) sources.now openness) }
 {
     let mut all_open = true;
     for table in TABLES {
-        if !tell_file(rt, table, reader_of(sources, table).cause())? {
-            all_open = false;
+        match tell_file(rt, table, reader_of(sources, table).cause())? {
+            Openness::Open => {}
+            Openness::Closed => all_open = false,
+            Openness::NoMemory => return Ok(Openness::NoMemory),
         }
     }
-    Ok(all_open)
+    Ok(ended(all_open))
 }
 
 /// Says why the file of a table was not read to its end.

@@ -5,8 +5,8 @@ use Rattle.oe_rows.specs.declared.layouts.Layout.{Layout}
 use Rattle.oe_model.specs.Rows.{Rows}
 use Rattle.oe_model.specs.System.{system}
 use Rattle.oe_ports.specs.Ports.{Source, Sink}
-use Rattle.oe_reading.specs.declared.formats.Format.{Format}
-use Rattle.oe_loading.specs.Loading.{Nine}
+use Rattle.oe_file_tables.specs.declared.formats.Format.{Format}
+use Rattle.oe_file_loading.specs.Loading.{Nine}
 use Rattle.oe_origin.specs.Populations.{IsOpenedOn, IsNoPopulation}
 use Rattle.oe_script.specs.Session.{ScriptRan}
 use Rattle.oe_from.specs.declared.serials.FromFault.{FromFault}

@@ -2,13 +2,13 @@
 use Rattle.std.specs.Prelude.{◌≡◌, ℕ, List, Option, Result, Ok, Err}
 use Rattle.oe_ports.specs.Ports.{Sink}
 use Rattle.oe_store.specs.Places.{Places, rows}
-use Rattle.oe_reading.specs.declared.formats.Format.{Format}
-use Rattle.oe_loading.specs.Loading.{Nine}
+use Rattle.oe_file_tables.specs.declared.formats.Format.{Format}
+use Rattle.oe_file_loading.specs.Loading.{Nine}
 use Rattle.oe_origin.specs.Populations.{IsOpenedOn, IsNoPopulation}
-use Rattle.oe_serial.specs.Verdicts.{SerialRan}
-use Rattle.oe_serial.specs.declared.origins.Origin.TheVariants as origin
-use Rattle.oe_serial.specs.declared.verdicts.Verdict.{Verdict}
-use Rattle.oe_serial.specs.declared.reports.SerialFault.{SerialFault}
+use Rattle.oe_file_serial.specs.Verdicts.{SerialRan}
+use Rattle.oe_file_serial.specs.declared.origins.Origin.TheVariants as origin
+use Rattle.oe_file_serial.specs.declared.verdicts.Verdict.{Verdict}
+use Rattle.oe_file_serial.specs.declared.reports.SerialFault.{SerialFault}
 use Rattle.oe_comparison.specs.Runs.{ComparisonRan}
 use Rattle.oe_comparison.specs.declared.runs.Verdict as compared
 use Rattle.oe_comparison.specs.declared.runs.ComparisonFault.{ComparisonFault}

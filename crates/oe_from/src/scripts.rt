@@ -1,15 +1,15 @@
 //! Scripts that begin opened, on the population of a folder.
-ghost use Rattle.oe_loading.specs.Loading.{nine_of};
+ghost use Rattle.oe_file_loading.specs.Loading.{nine_of};
 ghost use Rattle.oe_model.specs.Conditions.{IsPopulation};
 ghost use Rattle.oe_store.specs.Places.{rows};
 ghost use Rattle.oe_from.specs.Scripts.{OpenedRan, ScriptFromRan};
 
 use crate::serials::FromFault;
 use oe_core::Core;
-use oe_loading::Sources;
+use oe_file_loading::Sources;
+use oe_file_tables::Format;
 use oe_origin::load_population;
 use oe_ports::ports::{Intake, Outlet};
-use oe_reading::Format;
 use oe_rows::Layout;
 use oe_script::script::run_opened_script;
 use oe_script::session::ScriptFault;

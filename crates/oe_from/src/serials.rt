@@ -1,13 +1,13 @@
 //! Files of replies, decided from the population of a folder.
-ghost use Rattle.oe_loading.specs.Loading.{nine_of};
+ghost use Rattle.oe_file_loading.specs.Loading.{nine_of};
 ghost use Rattle.oe_from.specs.Serials.{ComparisonFromRan, SerialFromRan};
 
 use oe_comparison::{ComparisonFault, Verdict as ComparisonVerdict, run_comparison};
-use oe_loading::Sources;
+use oe_file_loading::Sources;
+use oe_file_serial::{Origin, SerialFault, Verdict, run_serial};
+use oe_file_tables::Format;
 use oe_origin::{NoPopulation, load_population};
 use oe_ports::ports::{Intake, Outlet};
-use oe_reading::Format;
-use oe_serial::{Origin, SerialFault, Verdict, run_serial};
 use std::alloc::Global;
 
 /// Why a command that begins with the population of a folder does not end well.

@@ -1,6 +1,6 @@
 -- A script between two turns, and how it ends.
-use Rattle.std.proofs.Common.{◌≡◌, ℕ, List, [], ◌∷◌, ◌++◌, Option, Result, Ok, Err, refl, sym, ap, subst, ◌∙◌, inl, inr}
-use Rattle.std.specs.Prelude.{◌⊎◌, Bool, true, false}
+use Rattle.std.proofs.Common.{◌≡◌, ℕ, List, [], ◌∷◌, ◌++◌, Option, Ok, Err, refl, sym, subst, ◌∙◌, inl, inr}
+use Rattle.std.specs.Prelude.{Bool, true, false}
 use Rattle.std.proofs.lemmas.List.{append-nil}
 use Rattle.oe_theory.specs.World.{World}
 use Rattle.oe_model.specs.System.{system}
@@ -11,13 +11,14 @@ use Rattle.oe_ports.proofs.Streaming.{sent_none, sent_then, sent_cut, sent_as, s
 use Rattle.oe_words.specs.Texts.{line_text}
 use Rattle.oe_plans.specs.declared.plans.Plan.{Plan}
 use Rattle.oe_load.specs.Loads.{IsScript, IsDone, none_served, opening_text, script_text}
-use Rattle.oe_load.specs.Turns.{Tells}
-use Rattle.oe_load.specs.Ends.{IsBegun, IsWhole, IsFlatBegun, IsFlatWhole, Begun, Whole, Wrote, LoadRan}
+use Rattle.oe_load.specs.Turns.{Steps}
+use Rattle.oe_load.specs.Ends.{IsBegun, Begun, Whole, Wrote, LoadRan}
 use Rattle.oe_load.specs.declared.turns.Shortage.{Shortage}
 use Rattle.oe_load.specs.declared.loads.Ending.{Ending}
 use Rattle.oe_load.specs.declared.loads.Ending.TheVariants as ending
 use Rattle.oe_load.specs.declared.loads.LoadFault.TheVariants as fault
 use Rattle.oe_load.proofs.LoadFacts.{script_more, text_more}
+use Rattle.oe_load.proofs.TogetherFacts.{Phase, phase_at_first, phase_more, phase_done}
 
 -- what went out behind a text that waited, where nothing was added
 pub flushed : (a b c : Option Sink) (i j text : List ℕ) → Sent a [] b i text → Sent b i c j [] → Sent a [] c j text
@@ -29,24 +30,28 @@ cut_off a b c i text s k = cut_as a c [] (text ++ []) text (append-nil text) (se
 
 -- A SCRIPT SO FAR
 
--- lines were told that led to this world; they are written or wait
-abbrev pub Standing : Plan → Option Sink → Option Sink → List ℕ → World system → (ℕ → ℕ) → Type 0
-Standing p a b i w s = (cs : List Command) × IsScript p cs w s × Sent a [] b i (script_text p cs)
+-- lines were told that led to this world, and to so many terminals that have begun; they are written or wait
+abbrev pub Standing : Plan → Option Sink → Option Sink → List ℕ → World system → (ℕ → ℕ) → ℕ → Type 0
+Standing p a b i w s begun =
+    (cs : List Command) × IsScript p cs w s × Phase p begun cs s × Sent a [] b i (script_text p cs)
 
 module _ (p : Plan) (a : Option Sink) where
   pub at_first : (i : List ℕ) (w : World system) (s : ℕ → ℕ) → i ≡ opening_text p → s ≡ none_served
-      → IsScript p [] w none_served → Standing p a a i w s
+      → IsScript p [] w none_served → Standing p a a i w s 0
   at_first i w s e same h = (
     [],
     subst (λ (f : ℕ → ℕ). IsScript p [] w f) (sym same) h,
+    phase_at_first p s same,
     sent_waits a [] i (script_text p []) (e ∙ sym (append-nil (opening_text p))),
   )
 
-  pub line_more : (b c : Option Sink) (i j k : List ℕ) (w : World system) (s : ℕ → ℕ) (v : World system) (u : ℕ → ℕ)
-      → Standing p a b i w s → Sent b i c j [] → Tells p w s j v u k → Standing p a c k v u
-  line_more b c i j k w s v u (cs, script, sent) more (x, told, e) = (
+  pub line_more : (b c : Option Sink) (i j k : List ℕ) (w : World system) (s : ℕ → ℕ) (n : ℕ) (v : World system)
+      (u : ℕ → ℕ) (m : ℕ) → Standing p a b i w s n → Sent b i c j [] → Steps p n w s j m v u k
+      → Standing p a c k v u m
+  line_more b c i j k w s n v u m (cs, script, phase, sent) more (x, told, opens, e) = (
     cs ++ x ∷ [],
     script_more p cs w s x v u script told,
+    phase_more p n m cs x s u phase opens,
     sent_as a c [] k (script_text p cs ++ line_text x) (script_text p (cs ++ x ∷ [])) (text_more p cs x)
         (sent_then a c c [] j k (script_text p cs) (line_text x)
         (flushed a b c i j (script_text p cs) sent more) (sent_waits c j k (line_text x) e)),
@@ -55,30 +60,38 @@ module _ (p : Plan) (a : Option Sink) where
   is_begun : (cs : List Command) (w : World system) (s : ℕ → ℕ) → IsScript p cs w s → IsBegun p (script_text p cs)
   is_begun cs w s h = record { lines = cs; world = w; served = s; script = h; text_is = refl }
 
-  pub ends_served : (b : Option Sink) (i : List ℕ) (w : World system) (s : ℕ → ℕ) → Standing p a b i w s
+  pub ends_served : (b : Option Sink) (i : List ℕ) (w : World system) (s : ℕ → ℕ) (n : ℕ) → Standing p a b i w s n
       → IsDone p w s → Wrote p false a b i (Ok ending.Served)
-  ends_served b i w s (cs, script, sent) done = (
+  ends_served b i w s n (cs, script, phase, sent) done = (
     script_text p cs,
-    record { lines = cs; world = w; served = s; script = script; done = done; text_is = refl },
+    record {
+      lines = cs;
+      world = w;
+      served = s;
+      script = script;
+      done = done;
+      together = phase_done p n cs s phase done.all;
+      text_is = refl;
+    },
     sent,
   )
 
-  pub ends_short : (b c : Option Sink) (i j k : List ℕ) (w : World system) (s : ℕ → ℕ) (e : Shortage)
-      → Standing p a b i w s → Sent b i c j [] → k ≡ j → Wrote p false a c k (Ok (ending.Short e))
-  ends_short b c i j k w s e (cs, script, sent) more same = (
+  pub ends_short : (b c : Option Sink) (i j k : List ℕ) (w : World system) (s : ℕ → ℕ) (n : ℕ) (e : Shortage)
+      → Standing p a b i w s n → Sent b i c j [] → k ≡ j → Wrote p false a c k (Ok (ending.Short e))
+  ends_short b c i j k w s n e (cs, script, phase, sent) more same = (
     script_text p cs,
     inr (is_begun cs w s script),
     subst (λ (z : List ℕ). Sent a [] c z (script_text p cs)) (sym same)
         (flushed a b c i j (script_text p cs) sent more),
   )
 
-  pub ends_there : (b : Option Sink) (i : List ℕ) (w : World system) (s : ℕ → ℕ) (e : Shortage)
-      → Standing p a b i w s → Wrote p false a b i (Ok (ending.Short e))
-  ends_there b i w s e (cs, script, sent) = (script_text p cs, inr (is_begun cs w s script), sent)
+  pub ends_there : (b : Option Sink) (i : List ℕ) (w : World system) (s : ℕ → ℕ) (n : ℕ) (e : Shortage)
+      → Standing p a b i w s n → Wrote p false a b i (Ok (ending.Short e))
+  ends_there b i w s n e (cs, script, phase, sent) = (script_text p cs, inr (is_begun cs w s script), sent)
 
-  pub ends_cut : (b c : Option Sink) (i k : List ℕ) (w : World system) (s : ℕ → ℕ) (e : Failed)
-      → Standing p a b i w s → Cut b i c [] → Wrote p false a c k (Err e)
-  ends_cut b c i k w s e (cs, script, sent) cut =
+  pub ends_cut : (b c : Option Sink) (i k : List ℕ) (w : World system) (s : ℕ → ℕ) (n : ℕ) (e : Failed)
+      → Standing p a b i w s n → Cut b i c [] → Wrote p false a c k (Err e)
+  ends_cut b c i k w s n e (cs, script, phase, sent) cut =
       (script_text p cs, inr (is_begun cs w s script), cut_off a b c i (script_text p cs) sent cut)
 
   -- nothing was opened
@@ -92,6 +105,7 @@ whole_begun : (p : Plan) (is_flat : Bool) (text : List ℕ) → Whole p is_flat 
 whole_begun p true text h = record {
   requests = h.requests;
   served = h.served;
+  words = h.words;
   in_turn = h.in_turn;
   text_is = h.text_is;
 }

@@ -1,9 +1,11 @@
 -- A line more of a load.
 use Rattle.std.proofs.Common.{◌≡◌, ℕ, suc, ◌+◌, ◌≤◌, ◌<◌, List, [], ◌∷◌, ◌++◌, length, refl, sym, ap, subst, ◌∙◌, arith}
-use Rattle.std.proofs.Common.{Result, Ok, Err, IfOk}
+use Rattle.std.proofs.Common.{Result, Ok, Err, IfOk, inl, inr}
+use Rattle.oe_theory.proofs.Sets.{set_same}
 use Rattle.std.specs.Int.{IsInRange}
-use Rattle.std.specs.List.{flat_map}
-use Rattle.std.proofs.lemmas.List.{append-nil, length-append, flat_map_more}
+use Rattle.std.specs.Prelude.{◌⊎◌, ◌==◌, true, false}
+use Rattle.std.proofs.lemmas.Bool.{cases_Bool, cond-true, cond-false, eqb-true}
+use Rattle.std.proofs.lemmas.List.{length-append, flat_map_more}
 use Rattle.oe_theory.specs.Machine.{Machine}
 use Rattle.oe_theory.specs.World.{World, newest, bump}
 use Rattle.oe_theory.specs.Next.{Next, Step, Answer, Begin, Advance, Rollback, Read, Purge, is_full}
@@ -30,7 +32,12 @@ use Rattle.oe_model.specs.Population.{IsPopulated}
 use Rattle.oe_theory.specs.Theorems.{opened}
 use Rattle.oe_load.specs.Loads.{opening, IsNext, Line, Told, Lines, IsScript, none_served, script_text}
 use Rattle.oe_load.specs.Loads.{begins, goes_on, waits, commits, reads, gives_way, purges}
-use Rattle.oe_load.specs.Turns.{Tells}
+use Rattle.oe_load.specs.Together.{Opens, reads_last}
+use Rattle.oe_load.specs.Together as together
+use Rattle.oe_load.specs.Turns.{Tells, Turned, AsksNext, Steps, Took, begun_after}
+use Rattle.oe_load.specs.declared.turns.Shortage.{Shortage}
+use Rattle.oe_load.specs.declared.turns.Outcome.{Outcome}
+use Rattle.oe_load.specs.declared.turns.Outcome.TheVariants as outcome
 
 -- A LINE BEHIND OTHERS
 
@@ -75,11 +82,16 @@ tells p w s c v u old new k form line e h small =
     (c, record { form = form; short = short_of old new (line_text c) k e h small; line = line }, e)
 
 module _ (p : Plan) (w : World system) (s : ℕ → ℕ) (v : World system) (old new : List ℕ) where
-  pub tells_begin : (t : ℕ) (q : Request) → IsInRange 1 64 t → IsRequest q → IsNext p s t (asked.Transaction q)
+  told : (c : Command) (u : ℕ → ℕ) (k : ℕ) → HasForm c → Line p w s c v u → new ≡ old ++ line_text c
+      → length new ≤ length old + k → k ≤ 1_025 → Told p w s c v u
+  told c u k form line e h small =
+      record { form = form; short = short_of old new (line_text c) k e h small; line = line }
+
+  pub asks_begin : (t : ℕ) (q : Request) → IsInRange 1 64 t → IsRequest q → IsNext p s t (asked.Transaction q)
       → Next system w (Begin t q) Begun v → new ≡ old ++ line_text (command.Begin t q) → length new ≤ length old + 574
-      → Tells p w s old v s new
-  tells_begin t q range form next n e h =
-      tells p w s (command.Begin t q) v s old new 574 (range, form) (begins t q v next n) e h (omega arith)
+      → AsksNext p w s t old (Ok outcome.Begun) v s new
+  asks_begin t q range form next n e h =
+      (q, told (command.Begin t q) s 574 (range, form) (begins t q v next n) e h (omega arith), refl, e)
 
   pub tells_more : (t : ℕ) → IsInRange 1 64 t → Next system w (Advance t) More v
       → new ≡ old ++ line_text (command.Next t) → length new ≤ length old + 16 → Tells p w s old v s new
@@ -96,16 +108,20 @@ module _ (p : Plan) (w : World system) (s : ℕ → ℕ) (v : World system) (old
       subst (λ (f : ℕ → ℕ). Tells p w s old v f new) (sym same)
       (tells p w s (command.Next t) v (bump t s) old new 16 range (commits t m y v n) e h (omega arith))
 
-  pub tells_reply : (t : ℕ) (q : Query) (f : QueryReply) (after : ℕ → ℕ) (k : ℕ) → IsQuery q
+  pub asks_reply : (t : ℕ) (q : Query) (f : QueryReply) (after : ℕ → ℕ) (k : ℕ) → IsQuery q
       → IsNext p s t (asked.Query q) → k ≡ newest system w
       → Next system w (Read k q) (Replied f) v → after ≡ bump t s
       → new ≡ old ++ line_text (command.Read moment.Now q) → length new ≤ length old + 55
-      → Tells p w s old v after new
-  tells_reply t q f after k form next now n same e h =
-      subst (λ (g : ℕ → ℕ). Tells p w s old v g new) (sym same)
-      (tells p w s (command.Read moment.Now q) v (bump t s) old new 55 (tt, form)
-      (reads t q f v next (subst (λ (j : ℕ). Next system w (Read j q) (Replied f) v) now n)) e h
-      (omega arith))
+      → AsksNext p w s t old (Ok outcome.Done) v after new
+  asks_reply t q f after k form next now n same e h = (
+    q,
+    subst (λ (g : ℕ → ℕ). Told p w s (command.Read moment.Now q) v g) (sym same)
+        (told (command.Read moment.Now q) (bump t s) 55 (tt, form)
+        (reads t q f v next (subst (λ (j : ℕ). Next system w (Read j q) (Replied f) v) now n)) e h (omega arith)),
+    next.asks,
+    same,
+    e,
+  )
 
   pub tells_way : (t : ℕ) → IsInRange 1 64 t → Next system w (Rollback t) Rolled_back v
       → new ≡ old ++ line_text (command.Rollback t) → length new ≤ length old + 20 → Tells p w s old v s new
@@ -117,10 +133,72 @@ module _ (p : Plan) (w : World system) (s : ℕ → ℕ) (v : World system) (old
       tells p w s (command.Purge moment.Now) v s old new 10 tt
       (purges m v (subst (λ (j : ℕ). Next system w (Purge j) (Purged m) v) now n)) e h (omega arith)
 
+-- a line was told, or none
+pub turned_of : (p : Plan) (w : World system) (s : ℕ → ℕ) (t : ℕ) (old : List ℕ) (r : Result Outcome Shortage)
+    (v : World system) (u : ℕ → ℕ) (new : List ℕ) → AsksNext p w s t old r v u new → Turned p w s old r v u new
+turned_of p w s t old (Ok outcome.Begun) v u new (q, line, same, e) = (
+  command.Begin t q,
+  line,
+  e,
+)
+turned_of p w s t old (Ok outcome.Done) v u new (q, line, is, same, e) = (command.Read moment.Now q, line, e)
+turned_of p w s t old (Ok (outcome.Waits x)) v u new h = absurd h
+turned_of p w s t old (Err e) v u new h = h
+
+-- WHO HAS BEGUN
+
+opens_read : (p : Plan) (k now : ℕ) (s u : ℕ → ℕ) (q : Query) → k < p.numbers.terminals
+    → asked_of p (suc k) (p.first + s (suc k)) ≡ asked.Query q → u ≡ bump (suc k) s
+    → now ≡ begun_after p k u outcome.Done → Opens p k s (command.Read moment.Now q) u now
+opens_read p k now s u q few is same count = by (cases_Bool (u (suc k) == p.numbers.requests))
+  where
+    at : (n : ℕ) → now ≡ n → Opens p k s (command.Read moment.Now q) (bump (suc k) s) n
+        → Opens p k s (command.Read moment.Now q) u now
+    at n e h = subst (λ (m : ℕ). Opens p k s (command.Read moment.Now q) u m) (sym e)
+        (subst (λ (f : ℕ → ℕ). Opens p k s (command.Read moment.Now q) f n) (sym same) h)
+
+    by : ((u (suc k) == p.numbers.requests) ≡ true) ⊎ ((u (suc k) == p.numbers.requests) ≡ false)
+        → Opens p k s (command.Read moment.Now q) u now
+    by (inl last) = at (suc k) (count ∙ cond-true (u (suc k) == p.numbers.requests) (suc k) k last)
+        (reads_last q few is (sym (set_same (suc k) (suc (s (suc k))) s (suc k) refl)
+        ∙ (sym (ap (λ (f : ℕ → ℕ). f (suc k)) same) ∙ eqb-true (u (suc k)) p.numbers.requests last)))
+    by (inr more) = at k (count ∙ cond-false (u (suc k) == p.numbers.requests) (suc k) k more)
+        (together.reads q few is)
+
+steps_at : (p : Plan) (k now : ℕ) (w : World system) (s : ℕ → ℕ) (old : List ℕ) (o : Outcome) (v : World system)
+    (u : ℕ → ℕ) (new : List ℕ) → k < p.numbers.terminals → AsksNext p w s (suc k) old (Ok o) v u new
+    → now ≡ begun_after p k u o → Steps p k w s old now v u new
+steps_at p k now w s old outcome.Begun v u new few (q, line, same, e) count = (
+  command.Begin (suc k) q,
+  line,
+  subst (λ (m : ℕ). Opens p k s (command.Begin (suc k) q) u m) (sym count)
+      (subst (λ (f : ℕ → ℕ). Opens p k s (command.Begin (suc k) q) f (suc k)) (sym same) (together.begins q few)),
+  e,
+)
+steps_at p k now w s old outcome.Done v u new few (q, line, is, same, e) count =
+    (command.Read moment.Now q, line, opens_read p k now s u q few is same count, e)
+steps_at p k now w s old (outcome.Waits x) v u new few h count = absurd h
+
+-- an early turn
+pub steps_of : (p : Plan) (k t now : ℕ) (w : World system) (s : ℕ → ℕ) (old : List ℕ) (o : Outcome)
+    (v : World system) (u : ℕ → ℕ) (new : List ℕ) → k < p.numbers.terminals → t ≡ k + 1
+    → AsksNext p w s t old (Ok o) v u new → now ≡ begun_after p k u o → Steps p k w s old now v u new
+steps_of p k t now w s old o v u new few at h count =
+    let next : t ≡ suc k = omega (arith, at) in
+    steps_at p k now w s old o v u new few (subst (λ (x : ℕ). AsksNext p w s x old (Ok o) v u new) next h) count
+
+-- a later one
+pub took_of : {T E : Type 0} (p : Plan) (k now : ℕ) (w : World system) (s : ℕ → ℕ) (old : List ℕ) (r : Result T E)
+    (v : World system) (u : ℕ → ℕ) (new : List ℕ) → p.numbers.terminals ≤ k → now ≡ k
+    → Turned p w s old r v u new → Took p k w s old r now v u new
+took_of p k now w s old (Ok x) v u new all still (c, line, e) =
+    (c, line, subst (λ (m : ℕ). Opens p k s c u m) (sym still) (together.goes_on c u all), e)
+took_of p k now w s old (Err x) v u new all still h = h
+
 -- WHAT IS ASKED FOR NEXT
 
 pub next_is : (p : Plan) (s : ℕ → ℕ) (t r : ℕ) (a b : Asked) → 1 ≤ t → t ≤ p.numbers.terminals
-    → s t < p.numbers.requests → r ≡ suc (s t) → a ≡ asked_of p t r → a ≡ b → IsNext p s t b
+    → s t < p.numbers.requests → r ≡ p.first + s t → a ≡ asked_of p t r → a ≡ b → IsNext p s t b
 next_is p s t r a b low high left e f g = record {
   low = low;
   high = high;

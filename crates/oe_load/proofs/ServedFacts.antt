@@ -1,10 +1,10 @@
 -- Counts by terminal.
-use Rattle.std.proofs.Common.{◌≡◌, ℕ, zero, suc, ◌+◌, ◌<◌, ◌≤◌, List, [], ◌∷◌, length, slice_set, get_or, refl, sym, ap}
+use Rattle.std.proofs.Common.{◌≡◌, ℕ, zero, suc, ◌<◌, List, [], ◌∷◌, length, slice_set, get_or, refl, sym, ap}
 use Rattle.std.proofs.Common.{◌∙◌, inl, inr, arith, replicate}
 use Rattle.std.specs.Prelude.{◌⊎◌, ◌≢◌}
 use Rattle.std.proofs.lemmas.Bool.{cases_eq}
 use mathlib.Core.Path.{fun_ext}
-use Rattle.oe_theory.specs.World.{set, bump}
+use Rattle.oe_theory.specs.World.{bump}
 use Rattle.oe_theory.proofs.Sets.{set_same, set_other}
 use Rattle.oe_load.specs.Loads.{none_served}
 use Rattle.oe_load.specs.Turns.{counts_of}

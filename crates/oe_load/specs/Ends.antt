@@ -1,14 +1,15 @@
 -- What is written of a load.
-use Rattle.std.specs.Prelude.{◌≡◌, ℕ, Bool, true, false, List, [], ◌++◌, ◌⊎◌, Option, Result, Ok, Err}
-use Rattle.std.specs.List.{flat_map}
+use Rattle.std.specs.Prelude.{◌≡◌, ℕ, Bool, true, false, List, [], ◌⊎◌, Option, Result, Ok, Err}
 use Rattle.oe_theory.specs.World.{World}
 use Rattle.oe_model.specs.System.{system}
 use Rattle.oe_lines.specs.declared.commands.Command.{Command}
 use Rattle.oe_ports.specs.declared.ports.Failed.{Failed}
 use Rattle.oe_ports.specs.Ports.{Sink, Sent, Cut}
-use Rattle.oe_words.specs.Texts.{line_text}
 use Rattle.oe_plans.specs.declared.plans.Plan.{Plan}
 use Rattle.oe_load.specs.Loads.{IsScript, IsDone, AreServed, none_served, script_text}
+use Rattle.rand_pcg.specs.Lcg.{Lcg}
+use Rattle.oe_terms.specs.Draws.{words_of}
+use Rattle.oe_load.specs.Together.{HasTransactions, BeginTogether}
 use Rattle.oe_load.specs.Flats as flats
 use Rattle.oe_load.specs.Flats.{InTurn, requests_text}
 use Rattle.oe_load.specs.declared.loads.Ending.{Ending}
@@ -16,7 +17,8 @@ use Rattle.oe_load.specs.declared.loads.Ending.TheVariants as ending
 use Rattle.oe_load.specs.declared.loads.LoadFault.{LoadFault}
 use Rattle.oe_load.specs.declared.loads.LoadFault.TheVariants as fault
 
--- the text is a script as far as it was told; whole, where all requests are served
+-- The text is a script as far as it was told; whole, where all requests are served. A whole one begins with all
+-- terminals' first transactions, where each has one.
 pub record IsBegun (p : Plan) (text : List ℕ) : Type 0 where
   pub lines : List Command
   pub world : World system
@@ -30,19 +32,22 @@ pub record IsWhole (p : Plan) (text : List ℕ) : Type 0 where
   pub served : ℕ → ℕ
   pub script : IsScript p lines world served
   pub done : IsDone p world served
+  pub together : HasTransactions p → BeginTogether p lines
   pub text_is : text ≡ script_text p lines
 
--- the same of the requests alone
+-- The same of the requests alone. Turns are drawn by the words of terminal 64, which asks for nothing.
 pub record IsFlatBegun (p : Plan) (text : List ℕ) : Type 0 where
   pub requests : List flats.Sent
   pub served : ℕ → ℕ
-  pub in_turn : InTurn p none_served requests served
+  pub words : Lcg
+  pub in_turn : InTurn p none_served (words_of p.numbers.seed 64) requests served words
   pub text_is : text ≡ requests_text p requests
 
 pub record IsFlatWhole (p : Plan) (text : List ℕ) : Type 0 where
   pub requests : List flats.Sent
   pub served : ℕ → ℕ
-  pub in_turn : InTurn p none_served requests served
+  pub words : Lcg
+  pub in_turn : InTurn p none_served (words_of p.numbers.seed 64) requests served words
   pub all : AreServed p served
   pub text_is : text ≡ requests_text p requests
 

@@ -1,13 +1,16 @@
 -- The requests of a load alone, in an order in which each is the next of its terminal.
-use Rattle.std.specs.Prelude.{◌≡◌, ℕ, List, [], ◌∷◌, ◌++◌, decimal}
+use Rattle.std.specs.Prelude.{zero, suc, ◌+◌, ◌-◌, ◌%◌, nat_lt, if◌then◌else◌, Option}
+use Rattle.std.specs.Prelude.{None, Some, ◌≡◌, ℕ, List, [], ◌∷◌, ◌++◌, decimal}
 use Rattle.std.specs.List.{flat_map}
 use Rattle.oe_theory.specs.World.{bump}
 use Rattle.oe_lines.specs.Grammar.{request_words, query_words}
 use Rattle.oe_words.specs.Texts.{joined}
+use Rattle.rand_pcg.specs.Lcg.{Lcg}
+use Rattle.oe_terms.specs.Draws.{random}
 use Rattle.oe_plans.specs.declared.plans.Plan.{Plan}
 use Rattle.oe_plans.specs.declared.plans.Asked.{Asked}
 use Rattle.oe_plans.specs.declared.plans.Asked.TheVariants as asked
-use Rattle.oe_load.specs.Loads.{IsNext, HasWords, none_served, opening_text}
+use Rattle.oe_load.specs.Loads.{IsNext, HasWords, opening_text}
 
 -- a terminal, and what it asks for
 pub record Sent : Type 0 where
@@ -23,11 +26,28 @@ words_of (asked.Query q) = query_words q
 abbrev pub flat_text : ℕ → Asked → List ℕ
 flat_text t a = joined (decimal t ∷ words_of a) ++ 10 ∷ []
 
--- requests in order, each the next of its terminal; `after` counts what is served then
-abbrev pub InTurn : Plan → (ℕ → ℕ) → List Sent → (ℕ → ℕ) → Type 0
-InTurn p served [] after = after ≡ served
-InTurn p served (x ∷ xs) after =
-    IsNext p served x.terminal x.asked × HasWords x.asked × InTurn p (bump x.terminal served) xs after
+-- the terminal that comes so many behind one, round
+abbrev pub behind : Plan → ℕ → ℕ → ℕ
+behind p t n = (t - 1 + n) % p.numbers.terminals + 1
+
+-- the first of so many terminals that has requests left, behind `before` others from one on
+abbrev pub left_behind : Plan → (ℕ → ℕ) → ℕ → ℕ → ℕ → Option ℕ
+left_behind p served t before zero = None
+left_behind p served t before (suc n) =
+    if nat_lt (served (behind p t before)) p.numbers.requests then Some (behind p t before)
+    else left_behind p served t (suc before) n
+
+-- whose turn it is: the first terminal with requests left, from a drawn one on, round
+abbrev pub turn_of : Plan → (ℕ → ℕ) → Lcg → Option ℕ
+turn_of p served g = left_behind p served (random 1 p.numbers.terminals g).0 0 p.numbers.terminals
+
+-- Requests in order, each the next of the terminal whose turn it is; `after` counts what is served then. So they are a
+-- function of the plan and of how many they are.
+abbrev pub InTurn : Plan → (ℕ → ℕ) → Lcg → List Sent → (ℕ → ℕ) → Lcg → Type 0
+InTurn p served g [] after h = (after ≡ served) × (h ≡ g)
+InTurn p served g (x ∷ xs) after h =
+    (turn_of p served g ≡ Some x.terminal) × IsNext p served x.terminal x.asked × HasWords x.asked
+    × InTurn p (bump x.terminal served) (random 1 p.numbers.terminals g).1 xs after h
 
 abbrev pub requests_text : Plan → List Sent → List ℕ
 requests_text p xs = opening_text p ++ flat_map (λ x. flat_text x.terminal x.asked) xs

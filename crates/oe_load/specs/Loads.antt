@@ -1,5 +1,5 @@
 -- The script of a load: a run of the machine in which each line is answered, and by no refusal but `Busy`.
-use Rattle.std.specs.Prelude.{◌≡◌, ℕ, suc, ◌≤◌, ◌<◌, List, [], ◌∷◌, length, None}
+use Rattle.std.specs.Prelude.{◌≡◌, ℕ, ◌+◌, ◌≤◌, ◌<◌, List, [], ◌∷◌, length, None}
 use Rattle.std.specs.List.{flat_map}
 use Rattle.oe_theory.specs.World.{World, newest, bump}
 use Rattle.oe_theory.specs.Next.{Next, IsQuiet, Begin, Advance, Rollback, Read, Purge}
@@ -30,12 +30,13 @@ abbrev pub HasWords : Asked → Type 0
 HasWords (asked.Transaction q) = IsRequest q
 HasWords (asked.Query q) = IsQuery q
 
--- of terminal t, which has had `served t` of its requests served, this is the next request
+-- Of terminal t, which has had `served t` of its requests served, this is the next request. Its first is the one of the
+-- number `first`.
 pub record IsNext (p : Plan) (served : ℕ → ℕ) (t : ℕ) (a : Asked) : Type 0 where
   pub low : 1 ≤ t
   pub high : t ≤ p.numbers.terminals
   pub left : served t < p.numbers.requests
-  pub asks : asked_of p t (suc (served t)) ≡ a
+  pub asks : asked_of p t (p.first + served t) ≡ a
 
 -- A line asks for this in a world, and is answered without a refusal or by `Busy`; it leaves the last world. A commit
 -- serves its terminal's request, and so does a reply to a query.

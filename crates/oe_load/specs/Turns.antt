@@ -1,13 +1,25 @@
 -- One turn of a load: a line more, or none where something is wanting.
-use Rattle.std.specs.Prelude.{◌≡◌, ℕ, List, ◌++◌, get_or, Result, Ok, Err}
+use Rattle.std.specs.Prelude.{◌≡◌, ℕ, suc, ◌+◌, ◌==◌, if◌then◌else◌, List, ◌++◌, get_or, Some, Result, Ok, Err}
 use Rattle.oe_theory.specs.World.{World, bump}
 use Rattle.oe_model.specs.System.{system}
+use Rattle.oe_requests.specs.declared.requests.Request.{Request}
+use Rattle.oe_requests.specs.declared.requests.Query.{Query}
 use Rattle.oe_lines.specs.declared.commands.Command.{Command}
+use Rattle.oe_lines.specs.declared.commands.Command.TheVariants as command
+use Rattle.oe_lines.specs.declared.commands.MomentChoice.TheVariants as moment
 use Rattle.oe_words.specs.Texts.{line_text}
+use Rattle.rand_pcg.specs.Lcg.{Lcg}
+use Rattle.oe_terms.specs.Draws.{random}
 use Rattle.oe_plans.specs.declared.plans.Plan.{Plan}
 use Rattle.oe_plans.specs.declared.plans.Asked.{Asked}
+use Rattle.oe_plans.specs.declared.plans.Asked.TheVariants as asked
+use Rattle.oe_plans.specs.Plans.{asked_of}
+use Rattle.oe_load.specs.declared.turns.Outcome.{Outcome}
+use Rattle.oe_load.specs.declared.turns.Shortage.{Shortage}
+use Rattle.oe_load.specs.declared.turns.Outcome.TheVariants as outcome
 use Rattle.oe_load.specs.Loads.{Told, IsNext, HasWords}
-use Rattle.oe_load.specs.Flats.{flat_text}
+use Rattle.oe_load.specs.Together.{Opens}
+use Rattle.oe_load.specs.Flats.{flat_text, turn_of}
 
 -- how many requests of a terminal were served, in a list with a place for each number
 abbrev pub counts_of : List ℕ → ℕ → ℕ
@@ -23,12 +35,49 @@ abbrev pub Turned : {T E : Type 0} → Plan → World system → (ℕ → ℕ) �
 Turned p w served text (Ok x) v after more = Tells p w served text v after more
 Turned p w served text (Err e) v after more = more ≡ text
 
--- a request was told, the next of its terminal
-abbrev pub SendsOne : Plan → (ℕ → ℕ) → List ℕ → (ℕ → ℕ) → List ℕ → Type 0
-SendsOne p served text after more =
-    (t : ℕ) × (a : Asked) × IsNext p served t a × HasWords a × (after ≡ bump t served) × (more ≡ text ++ flat_text t a)
+-- A terminal's next request was asked for: its transaction begins, or its query is answered; or nothing was written.
+abbrev pub AsksNext : Plan → World system → (ℕ → ℕ) → ℕ → List ℕ → Result Outcome Shortage → World system → (ℕ → ℕ)
+    → List ℕ → Type 0
+AsksNext p w served t text (Ok outcome.Begun) v after more =
+    (q : Request) × Told p w served (command.Begin t q) v after × (after ≡ served)
+    × (more ≡ text ++ line_text (command.Begin t q))
+AsksNext p w served t text (Ok outcome.Done) v after more =
+    (q : Query) × Told p w served (command.Read moment.Now q) v after
+    × (asked_of p t (p.first + served t) ≡ asked.Query q) × (after ≡ bump t served)
+    × (more ≡ text ++ line_text (command.Read moment.Now q))
+AsksNext p w served t text (Ok (outcome.Waits u)) v after more = ⊥
+AsksNext p w served t text (Err e) v after more = more ≡ text
+
+-- How many terminals have begun after the next one's request was asked for. Where that was its last, and a query, it
+-- has no transaction.
+abbrev pub begun_after : Plan → ℕ → (ℕ → ℕ) → Outcome → ℕ
+begun_after p begun after outcome.Begun = suc begun
+begun_after p begun after outcome.Done = if after (suc begun) == p.numbers.requests then suc begun else begun
+begun_after p begun after (outcome.Waits u) = begun
+
+-- A line was told, and leaves so many terminals that have begun; or nothing was written.
+abbrev pub Steps : Plan → ℕ → World system → (ℕ → ℕ) → List ℕ → ℕ → World system → (ℕ → ℕ) → List ℕ → Type 0
+Steps p begun w served text now v after more =
+    (c : Command) × Told p w served c v after × Opens p begun served c after now × (more ≡ text ++ line_text c)
+
+abbrev pub Took : {T E : Type 0} → Plan → ℕ → World system → (ℕ → ℕ) → List ℕ → Result T E → ℕ → World system
+    → (ℕ → ℕ) → List ℕ → Type 0
+Took p begun w served text (Ok x) now v after more = Steps p begun w served text now v after more
+Took p begun w served text (Err e) now v after more = more ≡ text
+
+-- a terminal's next request was told
+abbrev pub SendsOne : Plan → (ℕ → ℕ) → ℕ → List ℕ → (ℕ → ℕ) → List ℕ → Type 0
+SendsOne p served t text after more =
+    (a : Asked) × IsNext p served t a × HasWords a × (after ≡ bump t served) × (more ≡ text ++ flat_text t a)
 
 -- that, or nothing was written
-abbrev pub Sends : {T E : Type 0} → Plan → (ℕ → ℕ) → List ℕ → Result T E → (ℕ → ℕ) → List ℕ → Type 0
-Sends p served text (Ok x) after more = SendsOne p served text after more
-Sends p served text (Err e) after more = more ≡ text
+abbrev pub Sends : {T E : Type 0} → Plan → (ℕ → ℕ) → ℕ → List ℕ → Result T E → (ℕ → ℕ) → List ℕ → Type 0
+Sends p served t text (Ok x) after more = SendsOne p served t text after more
+Sends p served t text (Err e) after more = more ≡ text
+
+-- the request of the terminal whose turn it is, or nothing
+abbrev pub Turns : {T E : Type 0} → Plan → (ℕ → ℕ) → Lcg → List ℕ → Result T E → (ℕ → ℕ) → Lcg → List ℕ → Type 0
+Turns p served g text (Ok x) after h more =
+    (t : ℕ) × (turn_of p served g ≡ Some t) × (h ≡ (random 1 p.numbers.terminals g).1)
+    × SendsOne p served t text after more
+Turns p served g text (Err e) after h more = more ≡ text

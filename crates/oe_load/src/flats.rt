@@ -2,11 +2,11 @@
 ghost use Rattle.std.specs.Prelude.{◌≡◌, ◌≤◌, ◌+◌, ◌++◌, true};
 ghost use Rattle.arrayvec.specs.ArrayVec.{array_vec_len};
 ghost use Rattle.oe_load.specs.Loads.{HasWords, opening_text};
-ghost use Rattle.oe_load.specs.Flats.{flat_text};
-ghost use Rattle.oe_load.specs.Turns.{counts_of, Sends};
+ghost use Rattle.oe_load.specs.Flats.{flat_text, left_behind};
+ghost use Rattle.oe_load.specs.Turns.{counts_of, Sends, Turns};
 ghost use Rattle.oe_load.specs.Ends.{Wrote};
 
-use crate::loads::Ending;
+use crate::loads::{Ending, requests_in};
 use crate::ranges::asked_holds;
 use crate::served::{Served, are_served, none_served, serve, served_of};
 use crate::turns::Shortage;
@@ -19,9 +19,6 @@ use oe_texts::{LONGEST, Pending, SIZE, small};
 use oe_values::{Number, Terminal};
 use oe_words::{query, request};
 use rand_pcg::Lcg64Xsh32;
-
-/// How many requests a load has at most: 63 terminals' 1,000.
-const REQUESTS: u32 = 63_000;
 
 /// Appends a terminal and the words of what it asks for.
 fn flat_line(out: &mut Pending, terminal: Terminal, asked: &Asked)
@@ -41,6 +38,8 @@ fn flat_line(out: &mut Pending, terminal: Terminal, asked: &Asked)
 /// Finds a terminal that has requests left, from a drawn one on, round.
 fn left(plan: &Plan, served: &Served, drawn: u32) -> Option<Terminal>
     requires { (1 ≤ drawn) × (drawn ≤ 63) }
+    ensures { result ≡ left_behind plan.now (counts_of served.now) drawn 0
+        plan.now.numbers.terminals }
 {
     let count = plan.numbers.terminals.get();
     for before in 0..count {
@@ -60,14 +59,14 @@ fn send(
     out: &mut Pending,
 ) -> Result<(), Shortage>
     requires { array_vec_len out.old + LONGEST ≤ SIZE }
-    ensures { Sends plan.now (counts_of served.old) out.old.items result
+    ensures { Sends plan.now (counts_of served.old) terminal out.old.items result
         (counts_of served.new) out.new.items }
 {
     let is_left = served_of(served, terminal) < plan.numbers.requests.get();
     if terminal.get() > plan.numbers.terminals.get() || !is_left {
         return Err(Shortage::NoEnd);
     }
-    let r = Number::new(served_of(served, terminal) + 1).unwrap();
+    let r = Number::new(plan.first.get() + served_of(served, terminal)).unwrap();
     let asked = plan.asked(terminal, r);
     asked_holds(&asked);
     flat_line(out, terminal, &asked);
@@ -83,8 +82,8 @@ fn sent(
     out: &mut Pending,
 ) -> Result<(), Shortage>
     requires { array_vec_len out.old + LONGEST ≤ SIZE }
-    ensures { Sends plan.now (counts_of served.old) out.old.items result
-        (counts_of served.new) out.new.items }
+    ensures { Turns plan.now (counts_of served.old) words.old out.old.items result
+        (counts_of served.new) words.new out.new.items }
 {
     match left(plan, served, random(words, 1, plan.numbers.terminals.get())) {
         Some(terminal) => send(plan, served, terminal, out),
@@ -99,7 +98,7 @@ pub(crate) fn flat<W: Outlet>(plan: &Plan, out: &mut Pending, to: &mut W) -> Res
 {
     let mut served = none_served();
     let mut words = words(plan.numbers.seed, Terminal::new(64).unwrap());
-    for _ in 0..REQUESTS + 1 {
+    for _ in 0..requests_in(plan) + 1 {
         if are_served(plan, &served) {
             return Ok(Ending::Served);
         }

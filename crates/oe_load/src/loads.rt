@@ -1,20 +1,20 @@
 //! The script of a load, from its opening to its end.
-ghost use Rattle.std.specs.Prelude.{◌≡◌, ◌≤◌, ◌+◌, [], Bool, Option, true, false, IfOk};
+ghost use Rattle.std.specs.Prelude.{◌≡◌, ◌≤◌, ◌<◌, ◌+◌, [], Bool, Option, true, false, IfOk};
 ghost use Rattle.arrayvec.specs.ArrayVec.{array_vec_len};
 ghost use Rattle.oe_core.specs.Core.{world_of};
 ghost use Rattle.oe_model.specs.Population.{IsScale};
 ghost use Rattle.oe_load.specs.Loads.{none_served, opening_text, IsScript, IsDone};
-ghost use Rattle.oe_load.specs.Turns.{counts_of, Turned};
+ghost use Rattle.oe_load.specs.Turns.{begun_after, counts_of, Turned, Took};
 ghost use Rattle.oe_ports.specs.Ports.{Sink};
 ghost use Rattle.oe_plans.specs.declared.plans.Plan.{Plan};
 ghost use Rattle.oe_load.specs.Ends.{Wrote, LoadRan};
 
 use crate::flats::flat;
-use crate::picks::{Holders, Pick, note, picked};
-use crate::served::{Served, are_served, none_served};
-use crate::turns::{Shortage, Told, Turn, give_way, take_turn};
+use crate::picks::{Holders, Pick, note, picked, terminal_after};
+use crate::served::{Served, are_served, none_served, served_of};
+use crate::turns::{Outcome, Shortage, Turn, ask, give_way, take_turn};
 use oe_core::Core;
-use oe_numbers::{DriveNumbers, Kinds};
+use oe_numbers::{Kinds, LoadNumbers, Ordinal};
 use oe_plans::Plan;
 use oe_population::populate;
 use oe_ports::output::{flush, make_room};
@@ -29,7 +29,7 @@ use std::alloc::Global;
 use thiserror::Error;
 
 /// No load takes more turns for each of its requests. Most take some twenty.
-const TURNS: u32 = 2_000;
+const TURNS: u64 = 2_000;
 
 /// Why a load is not told whole.
 #[derive(Clone, Copy, Debug, Error)]
@@ -51,23 +51,80 @@ pub(crate) enum Ending {
     Short(Shortage),
 }
 
-/// Whose turn is drawn by which words, and who was answered `Busy`.
+/// How many of the first terminals have begun, or have no transaction; whose turn is drawn by which
+/// words then, and who was answered `Busy`.
 #[derive(Drop)]
 struct Drawing {
+    begun: u32,
     words: Lcg64Xsh32,
     holders: Holders,
+}
+
+/// Counts the requests of all terminals.
+pub(crate) fn requests_in(plan: &Plan) -> u64
+    ensures { result ≤ 63_000_000_000 }
+{
+    u64::from(plan.numbers.terminals.get()) * u64::from(plan.numbers.requests.get())
 }
 
 /// Gives the number of the terminal that an answer `Busy` names, or 0.
 fn holder_in(turn: &Turn) -> u32 {
     match turn {
-        Ok(Told::Waits(holder)) => holder.get(),
+        Ok(Outcome::Waits(holder)) => holder.get(),
         _ => 0,
     }
 }
 
+/// Counts the terminals that have begun, after the next one's request was asked for.
+fn begun_after(plan: &Plan, begun: u32, served: &Served, outcome: &Outcome) -> u32
+    requires { begun < 63 }
+    ensures { result ≡ begun_after plan.now begun (counts_of served.now) outcome.now }
+{
+    match outcome {
+        Outcome::Begun => begun + 1,
+        Outcome::Done => {
+            if served_of(served, terminal_after(begun)) == plan.numbers.requests.get() {
+                begun + 1
+            } else {
+                begun
+            }
+        }
+        Outcome::Waits(_) => begun,
+    }
+}
+
+/// Takes an early turn: the first terminal that has not begun asks for its next request. Where that
+/// is a query, and its last, it has no transaction.
+fn early(
+    plan: &Plan,
+    core: &mut Core,
+    served: &mut Served,
+    drawing: &mut Drawing,
+    out: &mut Pending,
+) -> Turn
+    requires room { array_vec_len out.old + LONGEST ≤ SIZE }
+    requires few { drawing.old.begun < plan.now.numbers.terminals }
+    ensures { Took plan.now drawing.old.begun (world_of core.old) (counts_of served.old)
+        out.old.items result drawing.new.begun (world_of core.new) (counts_of served.new)
+        out.new.items }
+{
+    let _terminals = plan.numbers.terminals.get();
+    let requests = plan.numbers.requests.get();
+    let terminal = terminal_after(drawing.begun);
+    if served_of(served, terminal) >= requests {
+        return Err(Shortage::NoEnd);
+    }
+    match ask(plan, core, served, terminal, out) {
+        Ok(outcome) => {
+            drawing.begun = begun_after(plan, drawing.begun, served, &outcome);
+            Ok(outcome)
+        }
+        Err(shortage) => Err(shortage),
+    }
+}
+
 /// Takes the turn that is picked.
-fn taken(
+fn late(
     plan: &Plan,
     core: &mut Core,
     served: &mut Served,
@@ -75,8 +132,9 @@ fn taken(
     out: &mut Pending,
 ) -> Turn
     requires { array_vec_len out.old + LONGEST ≤ SIZE }
-    ensures { Turned plan.now (world_of core.old) (counts_of served.old) out.old.items result
+    ensures turned { Turned plan.now (world_of core.old) (counts_of served.old) out.old.items result
         (world_of core.new) (counts_of served.new) out.new.items }
+    ensures still { drawing.new.begun ≡ drawing.old.begun }
 {
     match picked(plan, core, served, &drawing.holders, &mut drawing.words) {
         Pick::GiveWay(terminal) => {
@@ -89,6 +147,25 @@ fn taken(
             turn
         }
     }
+}
+
+/// Takes a turn: the terminals begin, one after another; then turns are drawn.
+fn taken(
+    plan: &Plan,
+    core: &mut Core,
+    served: &mut Served,
+    drawing: &mut Drawing,
+    out: &mut Pending,
+) -> Turn
+    requires { array_vec_len out.old + LONGEST ≤ SIZE }
+    ensures { Took plan.now drawing.old.begun (world_of core.old) (counts_of served.old)
+        out.old.items result drawing.new.begun (world_of core.new) (counts_of served.new)
+        out.new.items }
+{
+    if drawing.begun < plan.numbers.terminals.get() {
+        return early(plan, core, served, drawing, out);
+    }
+    late(plan, core, served, drawing, out)
 }
 
 /// Tells whether all requests were served, and nothing is open.
@@ -111,11 +188,11 @@ fn told<W: Outlet>(
 {
     let mut served = none_served();
     let mut drawing = Drawing {
+        begun: 0,
         words: words(plan.numbers.seed, Terminal::new(64).unwrap()),
         holders: [0; 65],
     };
-    let requests = plan.numbers.terminals.get() * plan.numbers.requests.get();
-    for _ in 0..requests * TURNS {
+    for _ in 0..requests_in(plan) * TURNS {
         if is_done(plan, core, &served) {
             return Ok(Ending::Served);
         }
@@ -207,11 +284,12 @@ fn closed<W: Outlet>(
     }
 }
 
-/// Writes a load: T terminals with N requests each, all drawn from the seed, in an order that is
-/// drawn too. Kinds that are not named are left out, where some are named.
+/// Writes a load: T terminals with N requests each, from their `first` on, all drawn from the seed,
+/// in an order that is drawn too. Kinds that are not named are left out, where some are named.
 ///
 /// The script opens the population, and its lines are answered without an error but `Busy`; at its
-/// end nothing is open, and each terminal has had its N requests answered, in their order. A
+/// end nothing is open, and each terminal has had its N requests answered, in their order. It
+/// begins with the first transaction of each terminal, before any of them goes on. A
 /// terminal that is answered `Busy` goes on once its lock is free, or is rolled back and begins
 /// again where terminals wait for one another. Where extents run out, commits are purged.
 ///
@@ -222,16 +300,18 @@ fn closed<W: Outlet>(
 /// failed, and a beginning of that was written.
 pub fn run_load<W: Outlet>(
     alloc: Global,
-    numbers: &DriveNumbers,
+    numbers: &LoadNumbers,
+    first: Ordinal,
     kinds: Kinds,
     is_flat: bool,
     writer: &mut W,
 ) -> Result<(), LoadFault>
-    ensures { LoadRan (record { numbers = numbers.now; kinds = kinds }) is_flat
+    ensures { LoadRan (record { numbers = numbers.now; first = first; kinds = kinds }) is_flat
         (W.sink writer.old) (W.sink writer.new) result }
 {
     let plan = Plan {
         numbers: *numbers,
+        first,
         kinds,
     };
     let mut out = Pending::new();

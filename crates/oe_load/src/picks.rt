@@ -1,5 +1,5 @@
 //! Whose turn it is. No clause speaks of it, but that it is a turn of some terminal, or of none.
-ghost use Rattle.std.specs.Prelude.{◌≤◌, ◌<◌};
+ghost use Rattle.std.specs.Prelude.{◌≡◌, ◌≤◌, ◌<◌, ◌+◌};
 
 use crate::served::{Served, served_of};
 use oe_core::Core;
@@ -23,8 +23,9 @@ pub(crate) enum Pick {
 }
 
 /// Gives the terminal behind those that came before.
-fn terminal_after(before: u32) -> Terminal
+pub(crate) fn terminal_after(before: u32) -> Terminal
     requires { before < 64 }
+    ensures { result ≡ before + 1 }
 {
     Terminal::new(before + 1).unwrap()
 }

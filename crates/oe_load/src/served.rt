@@ -29,7 +29,7 @@ pub(crate) fn served_of(served: &Served, terminal: Terminal) -> u32
 /// Counts one more of a terminal.
 #[tactic(auto, using(crate::proofs::ServedFacts::one_more))]
 pub(crate) fn serve(served: &mut Served, terminal: Terminal)
-    requires { counts_of served.old terminal < 1_000 }
+    requires { counts_of served.old terminal < 1_000_000_000 }
     ensures { counts_of served.new ≡ bump terminal (counts_of served.old) }
 {
     let at = terminal.get() as usize;

@@ -12,7 +12,7 @@ ghost use Rattle.oe_core.specs.Steps.{refusal_in};
 ghost use Rattle.oe_lines.specs.Grammar.{IsQuery};
 ghost use Rattle.oe_plans.specs.declared.plans.Asked.TheVariants as asked;
 ghost use Rattle.oe_load.specs.Loads.{IsNext};
-ghost use Rattle.oe_load.specs.Turns.{counts_of, Turned};
+ghost use Rattle.oe_load.specs.Turns.{counts_of, AsksNext, Turned};
 
 use crate::ranges::asked_holds;
 use crate::served::{Served, serve, served_of};
@@ -53,7 +53,9 @@ impl Debug for Shortage {
 
 /// What the line that was told is answered.
 #[derive(Clone, Copy)]
-pub(crate) enum Told {
+pub(crate) enum Outcome {
+    /// A transaction has begun.
+    Begun,
     /// No refusal.
     Done,
     /// `Busy`, which names that terminal.
@@ -61,7 +63,7 @@ pub(crate) enum Told {
 }
 
 /// What came of a turn. After an error no line was told.
-pub(crate) type Turn = Result<Told, Shortage>;
+pub(crate) type Turn = Result<Outcome, Shortage>;
 
 /// Names what a refusal stops a load for.
 fn shortage_of(refusal: &Refusal) -> Shortage {
@@ -84,15 +86,15 @@ fn begin(
     requires room { array_vec_len out.old + LONGEST ≤ SIZE }
     requires next { IsNext plan.now (counts_of served.now) terminal
         (asked.Transaction request.now) }
-    ensures { Turned plan.now (world_of core.old) (counts_of served.now) out.old.items result
-        (world_of core.new) (counts_of served.now) out.new.items }
+    ensures { AsksNext plan.now (world_of core.old) (counts_of served.now) terminal out.old.items
+        result (world_of core.new) (counts_of served.now) out.new.items }
 {
     ranges_hold(request);
     match core.begin(terminal, request) {
         Ok(()) => {
             let _number = terminal.get();
             begin_line(out, terminal, request);
-            Ok(Told::Done)
+            Ok(Outcome::Begun)
         }
         Err(refusal) => Err(shortage_of(&refusal)),
     }
@@ -109,16 +111,16 @@ fn read(
 ) -> Turn
     requires room { array_vec_len out.old + LONGEST ≤ SIZE }
     requires next { IsNext plan.now (counts_of served.old) terminal (asked.Query query.now) }
-    requires left { counts_of served.old terminal < 1_000 }
+    requires left { counts_of served.old terminal < 1_000_000_000 }
     requires form { IsQuery query.now }
-    ensures { Turned plan.now (world_of core.now) (counts_of served.old) out.old.items result
-        (world_of core.now) (counts_of served.new) out.new.items }
+    ensures { AsksNext plan.now (world_of core.now) (counts_of served.old) terminal out.old.items
+        result (world_of core.now) (counts_of served.new) out.new.items }
 {
     match core.read(core.newest(), query) {
         Answer::Replied(_) => {
             serve(served, terminal);
             read_line(out, query);
-            Ok(Told::Done)
+            Ok(Outcome::Done)
         }
         Answer::Refused(refusal) => Err(shortage_of(&refusal)),
         _ => Err(Shortage::NoEnd),
@@ -141,7 +143,7 @@ pub(crate) fn give_way(
         Answer::RolledBack => {
             let _number = terminal.get();
             rollback_line(out, terminal);
-            Ok(Told::Done)
+            Ok(Outcome::Done)
         }
         Answer::Refused(refusal) => Err(shortage_of(&refusal)),
         _ => Err(Shortage::NoEnd),
@@ -157,7 +159,7 @@ fn purge(plan: &Plan, core: &mut Core, served: &Served, out: &mut Pending) -> Tu
     match core.purge(core.newest()) {
         Answer::Purged(_) => {
             purge_line(out);
-            Ok(Told::Done)
+            Ok(Outcome::Done)
         }
         Answer::Refused(refusal) => Err(shortage_of(&refusal)),
         _ => Err(Shortage::NoEnd),
@@ -206,7 +208,7 @@ fn refused(
         Refusal::Busy(_, holder) => {
             let _number = terminal.get();
             next_line(out, terminal);
-            Ok(Told::Waits(*holder))
+            Ok(Outcome::Waits(*holder))
         }
         Refusal::UndoFull => make_way(plan, core, served, terminal, out),
         other => Err(shortage_of(other)),
@@ -222,7 +224,7 @@ fn committed(
     out: &mut Pending,
 ) -> Turn
     requires room { array_vec_len out.old + LONGEST ≤ SIZE }
-    requires left { counts_of served.old terminal < 1_000 }
+    requires left { counts_of served.old terminal < 1_000_000_000 }
     ensures { (before : World system) (m : ℕ) (y : Reply) →
         Next system before (Advance terminal) (Committed m y) (world_of core.now) →
         Turned plan.now before (counts_of served.old) out.old.items result (world_of core.now)
@@ -231,7 +233,7 @@ fn committed(
     let _number = terminal.get();
     serve(served, terminal);
     next_line(out, terminal);
-    Ok(Told::Done)
+    Ok(Outcome::Done)
 }
 
 /// Advances a terminal's transaction.
@@ -243,7 +245,7 @@ fn advance(
     out: &mut Pending,
 ) -> Turn
     requires room { array_vec_len out.old + LONGEST ≤ SIZE }
-    requires left { counts_of served.old terminal < 1_000 }
+    requires left { counts_of served.old terminal < 1_000_000_000 }
     ensures { Turned plan.now (world_of core.old) (counts_of served.old) out.old.items result
         (world_of core.new) (counts_of served.new) out.new.items }
 {
@@ -251,7 +253,7 @@ fn advance(
     match core.advance(terminal) {
         Advanced::More => {
             next_line(out, terminal);
-            Ok(Told::Done)
+            Ok(Outcome::Done)
         }
         Advanced::Committed(_) => committed(plan, core, served, terminal, out),
         Advanced::Refused(refusal) => refused(plan, core, served, terminal, &refusal, out),
@@ -259,7 +261,7 @@ fn advance(
 }
 
 /// Asks for a terminal's next request.
-fn ask(
+pub(crate) fn ask(
     plan: &Plan,
     core: &mut Core,
     served: &mut Served,
@@ -269,12 +271,12 @@ fn ask(
     requires room { array_vec_len out.old + LONGEST ≤ SIZE }
     requires high { terminal ≤ plan.now.numbers.terminals }
     requires left { counts_of served.old terminal < plan.now.numbers.requests }
-    requires few { counts_of served.old terminal < 1_000 }
-    ensures { Turned plan.now (world_of core.old) (counts_of served.old) out.old.items result
-        (world_of core.new) (counts_of served.new) out.new.items }
+    requires few { counts_of served.old terminal < 1_000_000_000 }
+    ensures { AsksNext plan.now (world_of core.old) (counts_of served.old) terminal out.old.items
+        result (world_of core.new) (counts_of served.new) out.new.items }
 {
     let _number = terminal.get();
-    let r = Number::new(served_of(served, terminal) + 1).unwrap();
+    let r = Number::new(plan.first.get() + served_of(served, terminal)).unwrap();
     let asked = plan.asked(terminal, r);
     asked_holds(&asked);
     match asked {

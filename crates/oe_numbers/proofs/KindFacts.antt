@@ -9,7 +9,7 @@ use Rattle.memchr.specs.Find.{IsFirstByte, Nowhere, Passes, is_byte}
 use Rattle.oe_numbers.specs.declared.kinds.Kind.{Kind}
 use Rattle.oe_numbers.specs.declared.kinds.Kind.TheVariants as kind
 use Rattle.oe_numbers.specs.declared.kinds.Kinds.{Kinds}
-use Rattle.oe_numbers.specs.Kinds.{kind_name, marked, parts_from, parts_of, NameAll}
+use Rattle.oe_numbers.specs.Kinds.{kind_name, marked, none_named, parts_from, parts_of, NameAll, Names}
 
 abbrev HasNoComma : List ℕ → Type 0
 HasNoComma bytes = All (λ b. b ≢ 44) bytes
@@ -79,3 +79,12 @@ pub named : (p : List ℕ) (ps : List (List ℕ)) (x : Kind) (before k : Kinds) 
     → NameAll (p ∷ ps) before k → NameAll ps (marked x before) k
 named p ps x before k e (y, f, r) =
     subst (λ (z : Kind). NameAll ps (marked z before) k) (one_kind y x (sym f ∙ e)) r
+
+-- A WORD NAMES ONE SET OF KINDS
+
+all_one : (ps : List (List ℕ)) (before k j : Kinds) → NameAll ps before k → NameAll ps before j → k ≡ j
+all_one [] before k j h g = h ∙ sym g
+all_one (p ∷ ps) before k j (x, e, h) g = all_one ps (marked x before) k j h (named p ps x before j e g)
+
+pub names_one : (word : List ℕ) (k j : Kinds) → Names word k → Names word j → k ≡ j
+names_one word k j h g = all_one (parts_of word) none_named k j h g

@@ -1,11 +1,13 @@
-//! The numbers of a drive, and how they are read.
+//! The numbers of a drive and of a load, and how they are read.
 //!
 //! A word is a number where it is what the number prints as: digits alone, and no zero before
 //! another digit.
 ghost use Rattle.std.specs.Prelude.{◌≡◌, ◌≢◌, ◌<◌, ◌≤◌, ℕ, length, map, slice_get, decimal, Some, IfSome, IfNone, MatchOption};
 ghost use Rattle.std.specs.Int.{IsInRange};
-ghost use Rattle.oe_numbers.specs.Words.{AreInRange, Says, IsScaleOf, words_of};
+ghost use Rattle.oe_numbers.specs.Words.{AreInRange, AreOfLoad, Says, IsScaleOf, words_of, load_words_of};
 ghost use Rattle.oe_numbers.specs.declared.drives.DriveNumbers.{DriveNumbers};
+ghost use Rattle.oe_numbers.specs.declared.drives.LoadNumbers.{LoadNumbers};
+ghost use Rattle.oe_rows.specs.declared.scales.Scale.{Scale};
 
 use itoa::Buffer;
 use oe_rows::Scale;
@@ -20,6 +22,20 @@ pub struct DriveNumbers {
     pub extents: ExtentCount,
     pub terminals: Number<1, 63>,
     pub requests: Number<1, 1_000>,
+    pub seed: u32,
+}
+
+/// The number of a request among its terminal's in a load, from 1 to 1,000,000,000.
+pub type Ordinal = Number<1, 1_000_000_000>;
+
+/// How large a load's population is, how many undo extents it has, how many terminals ask for how
+/// many requests each, and the seed of all requests.
+#[derive(Clone, Copy)]
+pub struct LoadNumbers {
+    pub scale: Scale,
+    pub extents: ExtentCount,
+    pub terminals: Number<1, 63>,
+    pub requests: Ordinal,
     pub seed: u32,
 }
 
@@ -55,7 +71,7 @@ fn number_at<S: AsStr, const LOW: u32, const HIGH: u32>(
 fn scale_of<S: AsStr>(words: &[S]) -> Option<Scale>
     requires { length words.now ≡ 7 }
     ensures { MatchOption result
-        ((d : DriveNumbers) → AreInRange d → map S.text words.now ≢ words_of d)
+        ((s : Scale) → IsScaleOf (map S.text words.now) s → ⊥)
         (λ s. IsScaleOf (map S.text words.now) s) }
 {
     Some(Scale {
@@ -81,6 +97,31 @@ impl DriveNumbers {
         let requests = number_at(words, 5)?;
         let seed: Number<0, 4_294_967_295> = number_at(words, 6)?;
         Some(DriveNumbers {
+            scale,
+            extents,
+            terminals,
+            requests,
+            seed: seed.get(),
+        })
+    }
+}
+
+impl LoadNumbers {
+    /// Reads the seven numbers of these words. None where they are other words.
+    pub fn read<S: AsStr>(words: &[S]) -> Option<LoadNumbers>
+        ensures { MatchOption result
+            ((d : LoadNumbers) → AreOfLoad d → map S.text words.now ≢ load_words_of d)
+            (λ d. AreOfLoad d × (map S.text words.now ≡ load_words_of d)) }
+    {
+        if words.len() != 7 {
+            return None;
+        }
+        let scale = scale_of(words)?;
+        let extents = number_at(words, 3)?;
+        let terminals = number_at(words, 4)?;
+        let requests = number_at(words, 5)?;
+        let seed: Number<0, 4_294_967_295> = number_at(words, 6)?;
+        Some(LoadNumbers {
             scale,
             extents,
             terminals,

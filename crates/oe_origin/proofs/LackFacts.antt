@@ -8,9 +8,9 @@ use Rattle.oe_audit.specs.Verdict.{condition_of, IsAudited}
 use Rattle.oe_model.specs.Rows.{Rows}
 use Rattle.oe_model.specs.Verdicts.{IsMet, IsFirstRow}
 use Rattle.oe_model.proofs.VerdictFacts.{verdicts_are_exact}
-use Rattle.oe_reading.specs.declared.formats.Format.{Format}
-use Rattle.oe_loading.specs.Loading.{Nine}
-use Rattle.oe_loading.specs.Whole.{AreWhole}
+use Rattle.oe_file_tables.specs.declared.formats.Format.{Format}
+use Rattle.oe_file_loading.specs.Loading.{Nine}
+use Rattle.oe_file_loading.specs.Whole.{AreWhole}
 use Rattle.oe_origin.specs.declared.lacks.Lack.{Lack}
 use Rattle.oe_origin.specs.declared.lacks.Lack.TheVariants as lack
 use Rattle.oe_origin.specs.Lacks.{Lacks}

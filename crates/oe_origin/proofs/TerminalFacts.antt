@@ -10,16 +10,16 @@ use Rattle.oe_rows.specs.declared.histories.History.{History}
 use Rattle.oe_rows.specs.declared.keys.HistoryKey.{HistoryKey}
 use Rattle.oe_rows.specs.declared.keys.Table.TheVariants as table
 use Rattle.oe_model.specs.Rows.{Rows}
-use Rattle.oe_reading.specs.declared.faults.TableFault.{TableFault}
-use Rattle.oe_reading.specs.declared.formats.Format.{Format}
-use Rattle.oe_reading.specs.declared.formats.Format.TheVariants as written
-use Rattle.oe_reading.specs.declared.lines.Numbered.{Numbered}
-use Rattle.oe_reading.specs.Lines.{Spelled, Taken, Begins, TakesHeading, TakesRow, TakesCount, TakesFault}
-use Rattle.oe_reading.specs.Rows.{SpellsHistory}
-use Rattle.oe_reading.specs.Tables.{AreRowsOf, ReadWellAs}
-use Rattle.oe_loading.specs.Loading.{Nine}
-use Rattle.oe_loading.specs.Placing.{IsRowOf}
-use Rattle.oe_loading.specs.Whole.{AreWhole}
+use Rattle.oe_file_tables.specs.declared.faults.TableFault.{TableFault}
+use Rattle.oe_file_tables.specs.declared.formats.Format.{Format}
+use Rattle.oe_file_tables.specs.declared.formats.Format.TheVariants as written
+use Rattle.oe_file_tables.specs.declared.lines.Numbered.{Numbered}
+use Rattle.oe_file_tables.specs.Lines.{Spelled, Taken, Begins, TakesHeading, TakesRow, TakesCount, TakesFault}
+use Rattle.oe_file_tables.specs.Rows.{SpellsHistory}
+use Rattle.oe_file_tables.specs.Tables.{AreRowsOf, ReadWellAs}
+use Rattle.oe_file_loading.specs.Loading.{Nine}
+use Rattle.oe_file_loading.specs.Placing.{IsRowOf}
+use Rattle.oe_file_loading.specs.Whole.{AreWhole}
 use Rattle.oe_origin.specs.Lacks.{AreOfPopulation}
 
 abbrev IsZero : Numbered HistoryKey History → Type 0

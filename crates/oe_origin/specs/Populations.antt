@@ -1,10 +1,10 @@
 -- What nine files come to: a population, or none.
-use Rattle.oe_loading.specs.Loaded.{IsNotLoaded}
-use Rattle.oe_loading.specs.Loading.{Nine}
-use Rattle.oe_loading.specs.Whole.{AreWhole, LacksRow}
+use Rattle.oe_file_loading.specs.Loaded.{IsNotLoaded}
+use Rattle.oe_file_loading.specs.Loading.{Nine}
+use Rattle.oe_file_loading.specs.Whole.{AreWhole, LacksRow}
 use Rattle.oe_model.specs.Conditions.{IsPopulation}
 use Rattle.oe_model.specs.Rows.{Rows}
-use Rattle.oe_reading.specs.declared.formats.Format.{Format}
+use Rattle.oe_file_tables.specs.declared.formats.Format.{Format}
 use Rattle.oe_origin.specs.declared.lacks.Lack.{Lack}
 use Rattle.oe_origin.specs.declared.lacks.Lack.TheVariants as lack
 use Rattle.oe_origin.specs.declared.populations.NoPopulation.{NoPopulation}

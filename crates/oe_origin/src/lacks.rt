@@ -9,7 +9,7 @@ ghost use Rattle.oe_origin.specs.Lacks.{AreOfPopulation, Lacks};
 
 use crate::stocks::no_stock;
 use oe_audit::condition;
-use oe_loading::Apart;
+use oe_file_loading::Apart;
 use oe_requests::{Condition, Verdict};
 use oe_rows::{Key, StockKey};
 use oe_store::Tables;

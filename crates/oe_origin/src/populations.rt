@@ -1,17 +1,17 @@
 //! A population is loaded from nine files: their rows are the tables' rows, and these are such as
 //! to begin from. A folder that is no population is refused, with the first thing that it lacks.
 ghost use Rattle.std.specs.Prelude.{MatchResult};
-ghost use Rattle.oe_loading.specs.Loading.{Nine, nine_of};
-ghost use Rattle.oe_loading.specs.Whole.{AreWhole};
-ghost use Rattle.oe_reading.specs.declared.formats.Format.{Format};
+ghost use Rattle.oe_file_loading.specs.Loading.{Nine, nine_of};
+ghost use Rattle.oe_file_loading.specs.Whole.{AreWhole};
+ghost use Rattle.oe_file_tables.specs.declared.formats.Format.{Format};
 ghost use Rattle.oe_store.specs.Places.{rows};
 ghost use Rattle.oe_origin.specs.Lacks.{AreOfPopulation};
 ghost use Rattle.oe_origin.specs.Populations.{IsOpenedOn, IsNoPopulation, LacksOf};
 
 use crate::lacks::{Lack, first_lack};
-use oe_loading::{LoadError, NotWhole, Sources, load_whole};
+use oe_file_loading::{LoadError, NotWhole, Sources, load_whole};
+use oe_file_tables::Format;
 use oe_ports::ports::Intake;
-use oe_reading::Format;
 use oe_store::Tables;
 use std::alloc::Global;
 
@@ -45,7 +45,7 @@ fn population(tables: Tables) -> Result<Tables, Lack>
 /// `Lacks` where the files are no population: a row refers to a row that is not there; else the
 /// first of conditions 1 to 4 that fails (clause 3.3.2), with the first row at which it does; else
 /// the first STOCK row that is not there. `Unloaded` where the files are not loaded, as `load` of
-/// `oe_loading` has it: so in a file of more than 16 warehouses each line of another is a fault
+/// `oe_file_loading` has it: so in a file of more than 16 warehouses each line of another is a fault
 /// (clause 1.3.1's ranges, and the schema's).
 pub fn load_population<S: Intake>(
     alloc: Global,

@@ -5,22 +5,23 @@ ghost use Rattle.oe_plans.specs.Plans.{generator_of, used_line, used_order, deli
 ghost use Rattle.oe_plans.specs.declared.plans.Asked.TheVariants as spec;
 
 use crate::kinds::kind_drawn;
-use oe_numbers::{DriveNumbers, Kinds};
+use oe_numbers::{Kinds, LoadNumbers, Ordinal};
 use oe_requests::{DeliveryRequest, NewOrderRequest, Query, Request, RequestLine, RequestLines};
 use oe_rows::Scale;
 use oe_terms::columns::{district_in, home};
 use oe_terms::draws::random;
 use oe_terms::orders::new_order;
 use oe_terms::payments::{delivery, order_status, payment, stock_level};
-use oe_terms::{Kind, RequestNumber, words};
+use oe_terms::{Kind, RequestPlace, words};
 use oe_values::{Lines, Number, RequestedItem, Terminal};
 use rand_pcg::Lcg64Xsh32;
 
-/// A load: the scale, the extents, how many terminals send how many requests each, the seed, and
-/// which kinds are drawn.
+/// A load: the scale, the extents, how many terminals ask for how many requests each, the seed,
+/// the number of the first that each asks for, and which kinds are drawn.
 #[derive(Clone, Copy)]
 pub struct Plan {
-    pub numbers: DriveNumbers,
+    pub numbers: LoadNumbers,
+    pub first: Ordinal,
     pub kinds: Kinds,
 }
 
@@ -85,7 +86,7 @@ fn used_order(scale: &Scale, order: &NewOrderRequest) -> NewOrderRequest
 fn delivery_of(
     scale: &Scale,
     terminal: Terminal,
-    r: RequestNumber,
+    r: RequestPlace,
     words: &mut Lcg64Xsh32,
 ) -> Request
     ensures value { result ≡ delivery_of scale.now terminal r words.old }
@@ -109,7 +110,7 @@ fn asked_of_kind(
     kind: Kind,
     scale: &Scale,
     terminal: Terminal,
-    r: RequestNumber,
+    r: RequestPlace,
     words: &mut Lcg64Xsh32,
 ) -> Asked
     ensures value { result ≡ asked_of_kind kind scale.now terminal r words.old }
@@ -129,7 +130,7 @@ fn asked_of_kind(
 
 /// Makes the generator of a terminal's r-th request: the terminal's, a thousand words further for
 /// each.
-fn generator(seed: u32, terminal: Terminal, r: RequestNumber) -> Lcg64Xsh32
+fn generator(seed: u32, terminal: Terminal, r: RequestPlace) -> Lcg64Xsh32
     ensures { result ≡ generator_of seed terminal r }
 {
     let mut words = words(seed, terminal);
@@ -139,7 +140,7 @@ fn generator(seed: u32, terminal: Terminal, r: RequestNumber) -> Lcg64Xsh32
 
 impl Plan {
     /// Gives the r-th request of a terminal.
-    pub fn asked(&self, terminal: Terminal, r: RequestNumber) -> Asked
+    pub fn asked(&self, terminal: Terminal, r: RequestPlace) -> Asked
         ensures value { result ≡ asked_of self.now terminal r }
         ensures known { IsKnown result }
     {

@@ -1,2 +1,2 @@
 pub mod WordFacts
-pub mod AuditFacts
+pub mod OptionFacts

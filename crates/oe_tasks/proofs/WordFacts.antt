@@ -14,14 +14,18 @@ use Rattle.oe_rows.specs.declared.layouts.Layout.{Layout}
 use Rattle.oe_rows.specs.declared.layouts.Layout.TheVariants.{WholeRows, ChangedColumns}
 use Rattle.oe_numbers.specs.declared.kinds.Kinds.{Kinds}
 use Rattle.oe_tasks.specs.Words.{AsksScript, AsksExplain, AsksSerial, AsksDrive, AsksAudit, Names, NamesFile}
-use Rattle.oe_tasks.specs.Words.{IsPlain, Says, no_options, AsksLoad, AreLoadOptions, csv_words, directory_words}
+use Rattle.oe_tasks.specs.Words.{IsPlain, Says, no_options, AsksLoad, AreForAudit, AreForLoad, csv_words}
+use Rattle.oe_tasks.specs.Words.{directory_words}
 use Rattle.oe_tasks.specs.Words.{IsDirectory, AreTablesOptions, AreSerialOptions, layout_word, AsksFile, AsksLayout}
 use Rattle.oe_tasks.specs.Words.{AsksExtents, AsksOpened}
 use Rattle.oe_tasks.specs.declared.SerialOptions.{SerialOptions}
-use Rattle.oe_tasks.specs.declared.AuditOptions.{AuditOptions}
+use Rattle.oe_tasks.specs.declared.options.AuditOptions.{AuditOptions}
+use Rattle.oe_tasks.specs.declared.options.Options.{Options}
 use Rattle.oe_tasks.specs.declared.Task.{Task}
 use Rattle.oe_numbers.specs.declared.drives.DriveNumbers.{DriveNumbers}
-use Rattle.oe_numbers.specs.Words.{AreInRange, words_of}
+use Rattle.oe_numbers.specs.declared.drives.LoadNumbers.{LoadNumbers}
+use Rattle.oe_numbers.specs.Words.{AreInRange, words_of, AreOfLoad, load_words_of}
+use Rattle.oe_tasks.proofs.OptionFacts.{says_one}
 use Rattle.oe_tasks.specs.declared.Task.TheVariants as task
 
 pub plain : (word : List ℕ) → (slice_index word 0 == 45) ≡ false → IsPlain word
@@ -71,7 +75,7 @@ no_script f (x ∷ y ∷ r) h n (task.Serial name from tables csv) a = a
 no_script f (x ∷ y ∷ r) h n (task.Drive d) a = a
 no_script f (x ∷ y ∷ r) h n (task.Opened d e l file) a = a
 no_script f (x ∷ y ∷ r) h n (task.Audit name options) a = a
-no_script f (x ∷ y ∷ r) h n (task.Load d kinds flat) a = a
+no_script f (x ∷ y ∷ r) h n (task.Load d first kinds flat) a = a
 
 -- the mark behind the verb, and a file's name behind it or none
 pub explains : {X : Type 0} (f : X → List ℕ) (ws : List X) (b d : X) → length ws ≡ 3 → b ≡ get_or ws 1 b
@@ -117,7 +121,7 @@ no_explain f (x ∷ y ∷ z ∷ r) h n (task.Serial name from tables csv) a = a
 no_explain f (x ∷ y ∷ z ∷ r) h n (task.Drive d) a = a
 no_explain f (x ∷ y ∷ z ∷ r) h n (task.Opened d e l file) a = a
 no_explain f (x ∷ y ∷ z ∷ r) h n (task.Audit name options) a = a
-no_explain f (x ∷ y ∷ z ∷ r) h n (task.Load d kinds flat) a = a
+no_explain f (x ∷ y ∷ z ∷ r) h n (task.Load d first kinds flat) a = a
 
 pub drives : {X : Type 0} (f : X → List ℕ) (ws : List X) (b : X) (d : DriveNumbers) → 2 ≤ length ws → b ≡ get_or ws 1 b
     → f b ≡ codes "drive" → AreInRange d
@@ -128,24 +132,26 @@ drives f (x ∷ y ∷ r) b d h i e ranges words =
     let whole : take (length (x ∷ y ∷ r) - 2) r ≡ r = take_all (length (x ∷ y ∷ r) - 2) r (omega arith) in
     (ap f (sym i) ∙ e, ranges, ap (map f) (sym whole) ∙ words)
 
-pub audits : {X : Type 0} (f : X → List ℕ) (ws : List X) (b d : X) (name : Bor (List ℕ)) (options : AuditOptions)
-    → 3 ≤ length ws → b ≡ get_or ws 1 b → f b ≡ codes "audit" → d ≡ get_or ws 2 d → name.now ≡ f d
-    → (IsPlain name.now ⊎ (name.now ≡ codes "-")) → Says no_options (map f (take (length ws - 3) (drop 3 ws))) options
+pub audits : {X : Type 0} (f : X → List ℕ) (ws : List X) (b d : X) (name : Bor (List ℕ)) (o : Options)
+    (options : AuditOptions) → 3 ≤ length ws → b ≡ get_or ws 1 b → f b ≡ codes "audit" → d ≡ get_or ws 2 d
+    → name.now ≡ f d → (IsPlain name.now ⊎ (name.now ≡ codes "-"))
+    → Says no_options (map f (take (length ws - 3) (drop 3 ws))) o → AreForAudit o options
     → AsksAudit (map f ws) (task.Audit name options)
-audits f [] b d name options h i e j n p said = absurd (omega (arith, h))
-audits f (x ∷ []) b d name options h i e j n p said = absurd (omega (arith, h))
-audits f (x ∷ y ∷ []) b d name options h i e j n p said = absurd (omega (arith, h))
-audits {X = X} f (x ∷ y ∷ z ∷ r) b d name options h i e j n p said =
+audits f [] b d name o options h i e j n p said own = absurd (omega (arith, h))
+audits f (x ∷ []) b d name o options h i e j n p said own = absurd (omega (arith, h))
+audits f (x ∷ y ∷ []) b d name o options h i e j n p said own = absurd (omega (arith, h))
+audits {X = X} f (x ∷ y ∷ z ∷ r) b d name o options h i e j n p said own =
     let whole : take (length (x ∷ y ∷ z ∷ r) - 3) r ≡ r = take_all (length (x ∷ y ∷ z ∷ r) - 3) r (omega arith) in
     let named : name.now ≡ f z = n ∙ ap f j in (
       ap f (sym i) ∙ e,
       sym named,
       subst (λ word. IsPlain word ⊎ (word ≡ codes "-")) named p,
-      subst (λ (ts : List X). Says no_options (map f ts) options) whole said,
+      (o, subst (λ (ts : List X). Says no_options (map f ts) o) whole said, own),
     )
 
 pub no_audit : {X : Type 0} (f : X → List ℕ) (ws : List X)
-    → ((options : AuditOptions) → Says no_options (map f (take (length ws - 3) (drop 3 ws))) options → ⊥)
+    → ((o : Options) (a : AuditOptions) → Says no_options (map f (take (length ws - 3) (drop 3 ws))) o
+    → AreForAudit o a → ⊥)
     → (t : Task) → AsksAudit (map f ws) t → ⊥
 no_audit f [] n t a = a
 no_audit f (x ∷ []) n t a = a
@@ -156,10 +162,17 @@ no_audit f (x ∷ y ∷ z ∷ r) n (task.Explain name) a = a
 no_audit f (x ∷ y ∷ z ∷ r) n (task.Serial name from tables csv) a = a
 no_audit f (x ∷ y ∷ z ∷ r) n (task.Drive d) a = a
 no_audit f (x ∷ y ∷ z ∷ r) n (task.Opened d e l file) a = a
-no_audit {X = X} f (x ∷ y ∷ z ∷ r) n (task.Audit name options) a =
+no_audit {X = X} f (x ∷ y ∷ z ∷ r) n (task.Audit name options) (verb, named, source, (o, said, own)) =
     let whole : take (length (x ∷ y ∷ z ∷ r) - 3) r ≡ r = take_all (length (x ∷ y ∷ z ∷ r) - 3) r (omega arith) in
-    n options (subst (λ (ts : List X). Says no_options (map f ts) options) (sym whole) a.3)
-no_audit f (x ∷ y ∷ z ∷ r) n (task.Load d kinds flat) a = a
+    n o options (subst (λ (ts : List X). Says no_options (map f ts) o) (sym whole) said) own
+no_audit f (x ∷ y ∷ z ∷ r) n (task.Load d first kinds flat) a = a
+
+-- what the words say is one set of options, and these are no audit's
+pub no_audit_options : (words : List (List ℕ)) (o : Options) → Says no_options words o
+    → ((a : AuditOptions) → AreForAudit o a → ⊥) → (p : Options) (a : AuditOptions) → Says no_options words p
+    → AreForAudit p a → ⊥
+no_audit_options words o said none p a other own =
+    none a (subst (λ (q : Options). AreForAudit q a) (says_one no_options words p o other said) own)
 
 -- LOADS
 
@@ -176,55 +189,91 @@ seven f (x1 ∷ x2 ∷ x3 ∷ x4 ∷ x5 ∷ []) a b c d e g h options is = cc
 seven f (x1 ∷ x2 ∷ x3 ∷ x4 ∷ x5 ∷ x6 ∷ []) a b c d e g h options is = cc
 seven f (x1 ∷ x2 ∷ x3 ∷ x4 ∷ x5 ∷ x6 ∷ x7 ∷ r) a b c d e g h options is = (cc, cc, omega arith)
 
-pub load_parts : {X : Type 0} (f : X → List ℕ) (ws : List X) (d : DriveNumbers) (kinds : Kinds) (flat : Bool)
-    → AsksLoad (map f ws) (task.Load d kinds flat)
-    → (9 ≤ length ws) × AreInRange d × (map f (take 7 (drop 2 ws)) ≡ words_of d)
-    × AreLoadOptions (map f (take (length ws - 9) (drop 9 ws))) kinds flat
-load_parts f [] d kinds flat a = absurd a
-load_parts f (x ∷ []) d kinds flat a = absurd a
-load_parts f (x ∷ y ∷ r) d kinds flat a =
-    let is = seven f r (decimal d.scale.warehouses) (decimal d.scale.customers) (decimal d.scale.items)
-    (decimal d.extents) (decimal d.terminals) (decimal d.requests) (decimal d.seed) a.2 a.3 in
+pub load_parts : {X : Type 0} (f : X → List ℕ) (ws : List X) (d : LoadNumbers) (first : ℕ) (kinds : Kinds) (flat : Bool)
+    → AsksLoad (map f ws) (task.Load d first kinds flat)
+    → (9 ≤ length ws) × AreOfLoad d × (map f (take 7 (drop 2 ws)) ≡ load_words_of d)
+    × ((o : Options) × Says no_options (map f (take (length ws - 9) (drop 9 ws))) o
+    × AreForLoad o d.requests first kinds flat)
+load_parts f [] d first kinds flat a = absurd a
+load_parts f (x ∷ []) d first kinds flat a = absurd a
+load_parts f (x ∷ y ∷ r) d first kinds flat (verb, ranges, (options, is, (o, said, own))) =
+    let parts = seven f r (decimal d.scale.warehouses) (decimal d.scale.customers) (decimal d.scale.items)
+    (decimal d.extents) (decimal d.terminals) (decimal d.requests) (decimal d.seed) options is in
     let long : length (drop 7 r) ≡ length r - 7 = length-drop 7 r in
     let whole : take (length (x ∷ y ∷ r) - 9) (drop 7 r) ≡ drop 7 r =
     take_all (length (x ∷ y ∷ r) - 9) (drop 7 r) (omega (arith, long)) in (
-      omega (arith, is.2),
-      a.1,
-      is.0,
-      subst (λ (ts : List (List ℕ)). AreLoadOptions ts kinds flat) (sym (ap (map f) whole ∙ is.1)) a.4,
+      omega (arith, parts.2),
+      ranges,
+      parts.0,
+      (o, subst (λ (ts : List (List ℕ)). Says no_options ts o) (sym (ap (map f) whole ∙ parts.1)) said, own),
     )
 
-pub loads : {X : Type 0} (f : X → List ℕ) (ws : List X) (b : X) (d : DriveNumbers) (kinds : Kinds) (flat : Bool)
-    → 9 ≤ length ws → b ≡ get_or ws 1 b → f b ≡ codes "load" → AreInRange d
-    → map f (take 7 (drop 2 ws)) ≡ words_of d → AreLoadOptions (map f (take (length ws - 9) (drop 9 ws))) kinds flat
-    → AsksLoad (map f ws) (task.Load d kinds flat)
-loads f [] b d kinds flat h i e ranges words options = absurd (omega (arith, h))
-loads f (x ∷ []) b d kinds flat h i e ranges words options = absurd (omega (arith, h))
-loads {X = X} f (x ∷ y ∷ r) b d kinds flat h i e ranges words options =
+pub loads : {X : Type 0} (f : X → List ℕ) (ws : List X) (b : X) (d : LoadNumbers) (first : ℕ) (kinds : Kinds)
+    (flat : Bool) (o : Options)
+    → 9 ≤ length ws → b ≡ get_or ws 1 b → f b ≡ codes "load" → AreOfLoad d
+    → map f (take 7 (drop 2 ws)) ≡ load_words_of d
+    → Says no_options (map f (take (length ws - 9) (drop 9 ws))) o → AreForLoad o d.requests first kinds flat
+    → AsksLoad (map f ws) (task.Load d first kinds flat)
+loads f [] b d first kinds flat o h i e ranges words said own = absurd (omega (arith, h))
+loads f (x ∷ []) b d first kinds flat o h i e ranges words said own = absurd (omega (arith, h))
+loads {X = X} f (x ∷ y ∷ r) b d first kinds flat o h i e ranges words said own =
     let long : length (drop 7 r) ≡ length r - 7 = length-drop 7 r in
     let whole : take (length (x ∷ y ∷ r) - 9) (drop 7 r) ≡ drop 7 r =
     take_all (length (x ∷ y ∷ r) - 9) (drop 7 r) (omega (arith, long)) in (
       ap f (sym i) ∙ e,
       ranges,
-      map f (drop 7 r),
-      ap (map f) (sym (take-append-drop 7 r))
-          ∙ (map-append f (take 7 r) (drop 7 r) ∙ ap (λ z. z ++ map f (drop 7 r)) words),
-      subst (λ (ts : List X). AreLoadOptions (map f ts) kinds flat) whole options,
+      (
+        map f (drop 7 r),
+        ap (map f) (sym (take-append-drop 7 r))
+            ∙ (map-append f (take 7 r) (drop 7 r) ∙ ap (λ z. z ++ map f (drop 7 r)) words),
+        (o, subst (λ (ts : List X). Says no_options (map f ts) o) whole said, own),
+      ),
     )
 
-pub no_load : {X : Type 0} (f : X → List ℕ) (ws : List X)
-    → ((kinds : Kinds) (flat : Bool) → AreLoadOptions (map f (take (length ws - 9) (drop 9 ws))) kinds flat → ⊥)
+-- the seven numbers are one load's
+one_load : (d e : LoadNumbers) → AreOfLoad d → AreOfLoad e → load_words_of d ≡ load_words_of e → d.requests ≡ e.requests
+one_load d e a b same =
+    let word : decimal d.requests ≡ decimal e.requests = cc in
+    decimal_injective d.requests e.requests (omega (arith, a.5.1)) (omega (arith, b.5.1)) word
+
+pub no_load : {X : Type 0} (f : X → List ℕ) (ws : List X) (e : LoadNumbers) (o : Options)
+    → AreOfLoad e → map f (take 7 (drop 2 ws)) ≡ load_words_of e
+    → Says no_options (map f (take (length ws - 9) (drop 9 ws))) o
+    → ((first : ℕ) (kinds : Kinds) (flat : Bool) → AreForLoad o e.requests first kinds flat → ⊥)
     → (t : Task) → AsksLoad (map f ws) t → ⊥
-no_load f [] n t a = a
-no_load f (x ∷ []) n t a = a
-no_load f (x ∷ y ∷ r) n task.Script a = a
-no_load f (x ∷ y ∷ r) n (task.File name) a = a
-no_load f (x ∷ y ∷ r) n (task.Explain name) a = a
-no_load f (x ∷ y ∷ r) n (task.Serial name from tables csv) a = a
-no_load f (x ∷ y ∷ r) n (task.Drive d) a = a
-no_load f (x ∷ y ∷ r) n (task.Opened d e l file) a = a
-no_load f (x ∷ y ∷ r) n (task.Audit name options) a = a
-no_load f (x ∷ y ∷ r) n (task.Load d kinds flat) a = n kinds flat (load_parts f (x ∷ y ∷ r) d kinds flat a).3
+no_load f [] e o ranges words said n t a = a
+no_load f (x ∷ []) e o ranges words said n t a = a
+no_load f (x ∷ y ∷ r) e o ranges words said n task.Script a = a
+no_load f (x ∷ y ∷ r) e o ranges words said n (task.File name) a = a
+no_load f (x ∷ y ∷ r) e o ranges words said n (task.Explain name) a = a
+no_load f (x ∷ y ∷ r) e o ranges words said n (task.Serial name from tables csv) a = a
+no_load f (x ∷ y ∷ r) e o ranges words said n (task.Drive d) a = a
+no_load f (x ∷ y ∷ r) e o ranges words said n (task.Opened d g l file) a = a
+no_load f (x ∷ y ∷ r) e o ranges words said n (task.Audit name options) a = a
+no_load f (x ∷ y ∷ r) e o ranges words said n (task.Load d first kinds flat) a =
+    let h = load_parts f (x ∷ y ∷ r) d first kinds flat a in
+    let own = h.3.2 in
+    n first kinds flat
+    (subst (λ (q : Options). AreForLoad q e.requests first kinds flat)
+    (says_one no_options (map f (take (length (x ∷ y ∷ r) - 9) (drop 9 (x ∷ y ∷ r)))) h.3.0 o h.3.1 said)
+    (subst (λ (k : ℕ). AreForLoad h.3.0 k first kinds flat)
+    (one_load d e h.1 ranges (sym h.2 ∙ words)) own))
+
+-- and no options of any load
+pub no_load_options : {X : Type 0} (f : X → List ℕ) (ws : List X)
+    → ((o : Options) → Says no_options (map f (take (length ws - 9) (drop 9 ws))) o → ⊥)
+    → (t : Task) → AsksLoad (map f ws) t → ⊥
+no_load_options f [] n t a = a
+no_load_options f (x ∷ []) n t a = a
+no_load_options f (x ∷ y ∷ r) n task.Script a = a
+no_load_options f (x ∷ y ∷ r) n (task.File name) a = a
+no_load_options f (x ∷ y ∷ r) n (task.Explain name) a = a
+no_load_options f (x ∷ y ∷ r) n (task.Serial name from tables csv) a = a
+no_load_options f (x ∷ y ∷ r) n (task.Drive d) a = a
+no_load_options f (x ∷ y ∷ r) n (task.Opened d g l file) a = a
+no_load_options f (x ∷ y ∷ r) n (task.Audit name options) a = a
+no_load_options f (x ∷ y ∷ r) n (task.Load d first kinds flat) a =
+    let h = load_parts f (x ∷ y ∷ r) d first kinds flat a in n h.3.0 h.3.1
 
 pub single : {X : Type 0} (f : X → List ℕ) (ws : List X) (b : X) → length ws ≡ 1 → b ≡ get_or ws 0 b
     → map f ws ≡ f b ∷ []
@@ -238,16 +287,6 @@ pair f [] b d h i j = absurd (omega (arith, h))
 pair f (x ∷ []) b d h i j = absurd (omega (arith, h))
 pair f (x ∷ y ∷ []) b d h i j = ap (λ t. t ∷ f y ∷ []) (ap f (sym i)) ∙ ap (λ t. f b ∷ t ∷ []) (ap f (sym j))
 pair f (x ∷ y ∷ z ∷ r) b d h i j = absurd (omega (arith, h))
-
-pub triple : {X : Type 0} (f : X → List ℕ) (ws : List X) (b d e : X) → length ws ≡ 3 → b ≡ get_or ws 0 b
-    → d ≡ get_or ws 1 d → e ≡ get_or ws 2 e → map f ws ≡ f b ∷ f d ∷ f e ∷ []
-triple f [] b d e h i j k = absurd (omega (arith, h))
-triple f (x ∷ []) b d e h i j k = absurd (omega (arith, h))
-triple f (x ∷ y ∷ []) b d e h i j k = absurd (omega (arith, h))
-triple f (x ∷ y ∷ z ∷ []) b d e h i j k =
-    ap (λ t. t ∷ f y ∷ f z ∷ []) (ap f (sym i)) ∙ ap (λ t. f b ∷ t ∷ f z ∷ []) (ap f (sym j))
-    ∙ ap (λ t. f b ∷ f d ∷ t ∷ []) (ap f (sym k))
-triple f (x ∷ y ∷ z ∷ w ∷ r) b d e h i j k = absurd (omega (arith, h))
 
 -- a file's name alone, or behind the mark
 pub one_name : {X : Type 0} (f : X → List ℕ) (ws : List X) (b : X) (name : Bor (List ℕ)) → length ws ≡ 1
@@ -311,7 +350,7 @@ module _ (d : List ℕ) (n : ℕ) where
   not_file l mark w ws other (task.Serial name from tables csv) a = a
   not_file l mark w ws other (task.Drive e) a = a
   not_file l mark w ws other (task.Audit name options) a = a
-  not_file l mark w ws other (task.Load e kinds flat) a = a
+  not_file l mark w ws other (task.Load e first kinds flat) a = a
 
   -- words that are some, and name no file
   pub no_file : (l : Layout) (ws : List (List ℕ)) → (ws ≡ [] → ⊥) → ((file : List ℕ) → Names ws file → ⊥)
@@ -324,7 +363,7 @@ module _ (d : List ℕ) (n : ℕ) where
   no_file l ws some none (task.Serial name from tables csv) a = a
   no_file l ws some none (task.Drive e) a = a
   no_file l ws some none (task.Audit name options) a = a
-  no_file l ws some none (task.Load e kinds flat) a = a
+  no_file l ws some none (task.Load e first kinds flat) a = a
 
   not_layout : (w : List ℕ) (ws : List (List ℕ)) (t : Task) → AsksLayout d n (codes "--extents" ∷ w ∷ ws) t → ⊥
   not_layout w ws t (None, rest, e, a) =
@@ -586,7 +625,7 @@ no_serial f (x ∷ y ∷ r) n m (task.Explain name) a = a
 no_serial f (x ∷ y ∷ r) n m (task.Opened d e l file) a = a
 no_serial f (x ∷ y ∷ r) n m (task.Drive d) a = a
 no_serial f (x ∷ y ∷ r) n m (task.Audit name options) a = a
-no_serial f (x ∷ y ∷ r) n m (task.Load d kinds flat) a = a
+no_serial f (x ∷ y ∷ r) n m (task.Load d first kinds flat) a = a
 no_serial f (x ∷ y ∷ []) n m (task.Serial name from tables csv) (verb, inl (options, e, plain, o)) = cc
 no_serial {X = X} f (x ∷ y ∷ z ∷ r) n m (task.Serial name from tables csv) (verb, inl (options, e, plain, o)) =
     let whole : take (length (x ∷ y ∷ z ∷ r) - 3) r ≡ r = take_all (length (x ∷ y ∷ z ∷ r) - 3) r (omega arith) in
@@ -609,7 +648,7 @@ no_option f (x ∷ y ∷ z ∷ r) c file h n j is o (task.Explain name) a = a
 no_option f (x ∷ y ∷ z ∷ r) c file h n j is o (task.Opened d e l name) a = a
 no_option f (x ∷ y ∷ z ∷ r) c file h n j is o (task.Drive d) a = a
 no_option f (x ∷ y ∷ z ∷ r) c file h n j is o (task.Audit name options) a = a
-no_option f (x ∷ y ∷ z ∷ r) c file h n j is o (task.Load d kinds flat) a = a
+no_option f (x ∷ y ∷ z ∷ r) c file h n j is o (task.Load d first kinds flat) a = a
 no_option f (x ∷ y ∷ z ∷ r) c file h n j is o (task.Serial name from tables csv) (verb, inl (options, e, plain, m)) =
     let first : f z ≡ name.now = cc in plain (ap (λ t. slice_index t 0) (sym first ∙ ap f (sym j) ∙ sym is) ∙ o)
 no_option f (x ∷ y ∷ z ∷ r) c file h n j is o (task.Serial name from tables csv) (verb, inr m) = n name.now (inr m.0)

@@ -1,14 +1,15 @@
 -- Which words of a command line ask for which task.
-use Rattle.std.specs.Prelude.{◌≡◌, ◌≢◌, ℕ, Bool, true, false, Option, None, Some, List, [], ◌∷◌, ◌++◌, ◌⊎◌, slice_index}
-use Rattle.std.specs.Prelude.{codes, decimal, unwrap_or}
+use Rattle.std.specs.Prelude.{◌≡◌, ◌≢◌, ℕ, ◌+◌, ◌≤◌, Bool, true, false, Option, None, Some, List, [], ◌∷◌, ◌++◌, ◌⊎◌}
+use Rattle.std.specs.Prelude.{codes, decimal, slice_index, unwrap_or}
 use Rattle.std.specs.Borrow.{Bor}
 use Rattle.std.specs.Int.{IsInRange}
-use Rattle.oe_numbers.specs.Words.{AreInRange, words_of}
+use Rattle.oe_numbers.specs.Words.{AreInRange, words_of, AreOfLoad, load_words_of}
 use Rattle.oe_numbers.specs.Kinds.{Names as NamesKinds, none_named}
 use Rattle.oe_numbers.specs.declared.kinds.Kinds.{Kinds}
 use Rattle.oe_rows.specs.declared.layouts.Layout.{Layout}
 use Rattle.oe_rows.specs.declared.layouts.Layout.TheVariants.{WholeRows, ChangedColumns}
-use Rattle.oe_tasks.specs.declared.AuditOptions.{AuditOptions}
+use Rattle.oe_tasks.specs.declared.options.AuditOptions.{AuditOptions}
+use Rattle.oe_tasks.specs.declared.options.Options.{Options}
 use Rattle.oe_tasks.specs.declared.Task.{Task}
 use Rattle.oe_tasks.specs.declared.Task.TheVariants as task
 
@@ -127,64 +128,71 @@ abbrev pub AsksDrive : List (List ℕ) → Task → Type 0
 AsksDrive (program ∷ verb ∷ rest) (task.Drive d) = (verb ≡ codes "drive") × AreInRange d × (rest ≡ words_of d)
 AsksDrive words task = ⊥
 
--- no option of an audit
-abbrev pub no_options : AuditOptions
-no_options = record { initial = None; first = None; is_csv = false }
+-- no option
+abbrev pub no_options : Options
+no_options =
+    record { first = None; initial = None; kinds = None; is_csv = false; is_json = false; is_flat = false }
 
--- an option with a number, which was not said yet
-abbrev pub AddsFirst : AuditOptions → List ℕ → AuditOptions → Type 0
+-- an option with a word behind it, which was not said yet
+abbrev pub AddsFirst : Options → List ℕ → Options → Type 0
 AddsFirst o word p =
     (n : ℕ) × IsInRange 1 4_294_967_295 n × (word ≡ decimal n) × (o.first ≡ None) × (p ≡ record o { first = Some n })
 
-abbrev pub AddsInitial : AuditOptions → List ℕ → AuditOptions → Type 0
+abbrev pub AddsInitial : Options → List ℕ → Options → Type 0
 AddsInitial o word p =
     (n : ℕ) × IsInRange 0 4_294_967_295 n × (word ≡ decimal n) × (o.initial ≡ None)
     × (p ≡ record o { initial = Some n })
 
-abbrev pub Adds : AuditOptions → List ℕ → List ℕ → AuditOptions → Type 0
-Adds o mark word p =
-    ((mark ≡ codes "--first") × AddsFirst o word p) ⊎ ((mark ≡ codes "--initial") × AddsInitial o word p)
+abbrev pub AddsKinds : Options → List ℕ → Options → Type 0
+AddsKinds o word p = (k : Kinds) × NamesKinds word k × (o.kinds ≡ None) × (p ≡ record o { kinds = Some k })
 
-abbrev pub AddsCsv : AuditOptions → List ℕ → AuditOptions → Type 0
-AddsCsv o mark p = (mark ≡ codes "--csv") × (o.is_csv ≡ false) × (p ≡ record o { is_csv = true })
+abbrev pub Adds : Options → List ℕ → List ℕ → Options → Type 0
+Adds o mark word p =
+    ((mark ≡ codes "--first") × AddsFirst o word p)
+    ⊎ ((mark ≡ codes "--initial") × AddsInitial o word p)
+    ⊎ ((mark ≡ codes "--kinds") × AddsKinds o word p)
+
+-- an option that is a word alone
+abbrev pub AddsFlag : Options → List ℕ → Options → Type 0
+AddsFlag o mark p =
+    ((mark ≡ codes "--csv") × (o.is_csv ≡ false) × (p ≡ record o { is_csv = true }))
+    ⊎ ((mark ≡ codes "--json") × (o.is_json ≡ false) × (p ≡ record o { is_json = true }))
+    ⊎ ((mark ≡ codes "--flat") × (o.is_flat ≡ false) × (p ≡ record o { is_flat = true }))
 
 -- the words say options besides those so far, in any order, each at most once
-abbrev pub Says : AuditOptions → List (List ℕ) → AuditOptions → Type 0
+abbrev pub Says : Options → List (List ℕ) → Options → Type 0
 Says o [] p = p ≡ o
-Says o (mark ∷ []) p = AddsCsv o mark p
+Says o (mark ∷ []) p = AddsFlag o mark p
 Says o (mark ∷ word ∷ rest) p =
-    ((q : AuditOptions) × AddsCsv o mark q × Says q (word ∷ rest) p)
-    ⊎ ((q : AuditOptions) × Adds o mark word q × Says q rest p)
+    ((q : Options) × AddsFlag o mark q × Says q (word ∷ rest) p)
+    ⊎ ((q : Options) × Adds o mark word q × Says q rest p)
+
+-- the options of an audit, which has neither `--kinds` nor `--flat`
+abbrev pub AreForAudit : Options → AuditOptions → Type 0
+AreForAudit o a =
+    (o.kinds ≡ None) × (o.is_flat ≡ false)
+    × (a ≡ record { initial = o.initial; first = o.first; is_csv = o.is_csv; is_json = o.is_json })
 
 -- the program's name, `audit`, a source that is not taken for an option, and the options
 abbrev pub AsksAudit : List (List ℕ) → Task → Type 0
 AsksAudit (program ∷ verb ∷ name ∷ rest) (task.Audit source options) =
-    (verb ≡ codes "audit") × (name ≡ source.now) × (IsPlain name ⊎ (name ≡ codes "-")) × Says no_options rest options
+    (verb ≡ codes "audit") × (name ≡ source.now) × (IsPlain name ⊎ (name ≡ codes "-"))
+    × ((o : Options) × Says no_options rest o × AreForAudit o options)
 AsksAudit words task = ⊥
 
--- the words that name kinds of transactions, if any, and that say that requests alone are printed
-abbrev pub kinds_words : Option (List ℕ) → List (List ℕ)
-kinds_words None = []
-kinds_words (Some names) = codes "--kinds" ∷ names ∷ []
-
-abbrev pub flat_words : Bool → List (List ℕ)
-flat_words true = codes "--flat" ∷ []
-flat_words false = []
-
--- these kinds are named, or none
-abbrev pub AreNamed : Option (List ℕ) → Kinds → Type 0
-AreNamed None kinds = kinds ≡ none_named
-AreNamed (Some names) kinds = NamesKinds names kinds
-
--- the words say both, in either order
-abbrev pub AreLoadOptions : List (List ℕ) → Kinds → Bool → Type 0
-AreLoadOptions words kinds flat = (names : Option (List ℕ)) × AreNamed names kinds
-    × ((words ≡ kinds_words names ++ flat_words flat) ⊎ (words ≡ flat_words flat ++ kinds_words names))
+-- The options of a load, which has only `--kinds`, `--first` and `--flat`. Its first request is 1, where none is said;
+-- its last is at most 1,000,000,000.
+abbrev pub AreForLoad : Options → ℕ → ℕ → Kinds → Bool → Type 0
+AreForLoad o requests first kinds flat =
+    (o.initial ≡ None) × (o.is_csv ≡ false) × (o.is_json ≡ false)
+    × (first ≡ unwrap_or o.first 1) × (first + requests ≤ 1_000_000_001)
+    × (kinds ≡ unwrap_or o.kinds none_named) × (flat ≡ o.is_flat)
 
 -- the program's name, `load`, its seven numbers in order, each in its range, and the options
 abbrev pub AsksLoad : List (List ℕ) → Task → Type 0
-AsksLoad (program ∷ verb ∷ rest) (task.Load d kinds flat) = (verb ≡ codes "load") × AreInRange d
-    × (options : List (List ℕ)) × (rest ≡ words_of d ++ options) × AreLoadOptions options kinds flat
+AsksLoad (program ∷ verb ∷ rest) (task.Load d first kinds flat) = (verb ≡ codes "load") × AreOfLoad d
+    × ((options : List (List ℕ)) × (rest ≡ load_words_of d ++ options)
+    × ((o : Options) × Says no_options options o × AreForLoad o d.requests first kinds flat))
 AsksLoad words task = ⊥
 
 abbrev pub Asks : List (List ℕ) → Task → Type 0

@@ -14,7 +14,9 @@ use Rattle.oe_requests.specs.declared.requests.PaymentRequest.{PaymentRequest}
 use Rattle.oe_requests.specs.declared.requests.Errand.{Errand}
 use Rattle.oe_terms.specs.Draws.{random}
 use Rattle.oe_terms.specs.Columns.{home, stamp_of, district_in, customer_number, name_drawn, choice, residence}
-use Rattle.oe_terms.specs.Errands.{line, used_lines, lines, new_order, payment, errand_of, words_after, request_of}
+use Rattle.oe_terms.specs.declared.errands.Kind.{Kind}
+use Rattle.oe_terms.specs.Errands.{line, used_lines, lines, new_order, payment, kind_of, errand_of_kind, errand_of}
+use Rattle.oe_terms.specs.Errands.{words_after, request_of}
 
 -- a customer by last name
 pub named_choice : (customers : ℕ) (g g1 g2 : Lcg) (u : ℕ) (name : List ℕ) → (u, g1) ≡ random 1 100 g
@@ -99,6 +101,12 @@ payment_drawn s t r w g g1 g2 g3 g4 d at c amount stamp ew e1 e2 e3 e4 es =
 
     with_district : DistrictKey × Lcg → PaymentRequest × Lcg
     with_district p = with_residence p.0 (residence s p.0 p.1)
+
+-- an errand of the kind whose turn it is
+pub errand_drawn : (s : Scale) (t r : ℕ) (g g1 : Lcg) (e : Errand) (k : Kind) (n : ℕ) → k ≡ kind_of r → n ≡ r
+    → (e, g1) ≡ errand_of_kind k s t n g → (e, g1) ≡ errand_of s t r g
+errand_drawn s t r g g1 e k n kind is drawn =
+    drawn ∙ (ap (λ (m : ℕ). errand_of_kind k s t m g) is ∙ ap (λ (j : Kind). errand_of_kind j s t r g) kind)
 
 -- one errand more
 pub words_more : (s : Scale) (seed t n m : ℕ) (g g1 : Lcg) (e : Errand) → g ≡ words_after s seed t n → m ≡ n + 1

@@ -4,7 +4,7 @@ ghost use Rattle.std.specs.Prelude.{◌≡◌, ◌<◌, ◌≤◌};
 ghost use Rattle.oe_terms.specs.Columns.{home, other, stamp_of, district_in, customer_number, name_number, name_drawn, item_number, choice, residence};
 
 use crate::draws::{number, number_in, nurand, random};
-use crate::errands::RequestNumber;
+use crate::errands::RequestPlace;
 use crate::names::name_of;
 use oe_requests::CustomerChoice;
 use oe_rows::{DistrictKey, Scale};
@@ -52,7 +52,7 @@ pub fn other(scale: &Scale, warehouse: WarehouseNumber) -> WarehouseNumber
 }
 
 /// Gives the stamp of a terminal's request: r seconds after 2001-01-01T00:00:00.
-pub fn stamp_of(r: RequestNumber) -> Stamp
+pub fn stamp_of(r: RequestPlace) -> Stamp
     ensures { result ≡ stamp_of r }
 {
     match Stamp::from_seconds(FIRST_STAMP + u64::from(r.get())) {

@@ -1,7 +1,7 @@
 //! What a terminal sends, one errand after another.
 ghost use Rattle.std.specs.Prelude.{◌≡◌, ◌≤◌};
 ghost use Rattle.oe_model.specs.Population.{IsScale};
-ghost use Rattle.oe_terms.specs.Errands.{kind_of, errand_of, request_of};
+ghost use Rattle.oe_terms.specs.Errands.{kind_of, errand_of_kind, errand_of, request_of};
 ghost use Rattle.oe_terms.specs.Ranges.{IsErrandOf};
 
 use crate::draws::{number, words};
@@ -12,8 +12,11 @@ use oe_rows::Scale;
 use oe_values::{Number, Terminal};
 use rand_pcg::Lcg64Xsh32;
 
-/// The number of a request among its terminal's, from 1 to 1,000.
+/// The number of a request among its terminal's in a drive, from 1 to 1,000.
 pub type RequestNumber = Number<1, 1_000>;
+
+/// The number of a request among its terminal's, in a drive or a load, from 1 to 2,000,000,000.
+pub type RequestPlace = Number<1, 2_000_000_000>;
 
 /// A kind of request: one of the standard's five transactions (clause 1.1).
 #[derive(Clone, Copy)]
@@ -52,11 +55,17 @@ fn ranges_hold(scale: &Scale, r: RequestNumber)
     let _number = r.get();
 }
 
-// Draws an errand of the kind whose turn it is.
-fn drawn(scale: &Scale, terminal: Terminal, r: RequestNumber, words: &mut Lcg64Xsh32) -> Errand
-    ensures { (result, words.new) ≡ errand_of scale.now terminal r words.old }
+// Draws an errand of a kind.
+fn drawn(
+    kind: Kind,
+    scale: &Scale,
+    terminal: Terminal,
+    r: RequestPlace,
+    words: &mut Lcg64Xsh32,
+) -> Errand
+    ensures { (result, words.new) ≡ errand_of_kind kind scale.now terminal r words.old }
 {
-    match Kind::at(r) {
+    match kind {
         Kind::NewOrder => Errand::Begin(Request::NewOrder(new_order(scale, terminal, r, words))),
         Kind::Payment => Errand::Begin(Request::Payment(payment(scale, terminal, r, words))),
         Kind::OrderStatus => Errand::Read(Query::Status(order_status(scale, terminal, words))),
@@ -71,7 +80,9 @@ pub fn errand(scale: &Scale, terminal: Terminal, r: RequestNumber, words: &mut L
     ensures ranges { IsErrandOf scale.now result }
 {
     ranges_hold(scale, r);
-    drawn(scale, terminal, r, words)
+    let kind = Kind::at(r);
+    let place = number(r.get());
+    drawn(kind, scale, terminal, place, words)
 }
 
 /// Draws what a terminal sends as its r-th: the earlier ones are drawn before it.

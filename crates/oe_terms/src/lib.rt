@@ -11,4 +11,4 @@ pub mod orders;
 pub mod payments;
 
 pub use draws::words;
-pub use errands::{Kind, RequestNumber, errand, request};
+pub use errands::{Kind, RequestNumber, RequestPlace, errand, request};

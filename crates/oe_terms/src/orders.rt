@@ -4,7 +4,7 @@ ghost use Rattle.oe_terms.specs.Errands.{line, used_lines, lines, new_order};
 
 use crate::columns::{customer_number, district_in, home, item_number, other, stamp_of};
 use crate::draws::{number, number_in, random};
-use crate::errands::RequestNumber;
+use crate::errands::RequestPlace;
 use oe_requests::{NewOrderRequest, RequestLine, RequestLines};
 use oe_rows::Scale;
 use oe_values::{LineCount, Lines, Terminal, WarehouseNumber};
@@ -78,7 +78,7 @@ fn lines(
 pub fn new_order(
     scale: &Scale,
     terminal: Terminal,
-    r: RequestNumber,
+    r: RequestPlace,
     words: &mut Lcg64Xsh32,
 ) -> NewOrderRequest
     ensures { (result, words.new) ≡ new_order scale.now terminal r words.old }

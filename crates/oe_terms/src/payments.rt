@@ -4,7 +4,7 @@ ghost use Rattle.oe_terms.specs.Errands.{payment, order_status, delivery, stock_
 
 use crate::columns::{choice, district_in, home, residence, stamp_of};
 use crate::draws::{number, number_in};
-use crate::errands::RequestNumber;
+use crate::errands::RequestPlace;
 use oe_requests::{DeliveriesRequest, LevelQuery, PaymentRequest, StatusQuery};
 use oe_rows::{DistrictKey, Scale, WarehouseKey};
 use oe_values::Terminal;
@@ -14,7 +14,7 @@ use rand_pcg::Lcg64Xsh32;
 pub fn payment(
     scale: &Scale,
     terminal: Terminal,
-    r: RequestNumber,
+    r: RequestPlace,
     words: &mut Lcg64Xsh32,
 ) -> PaymentRequest
     ensures { (result, words.new) ≡ payment scale.now terminal r words.old }
@@ -45,7 +45,7 @@ pub fn order_status(scale: &Scale, terminal: Terminal, words: &mut Lcg64Xsh32) -
 pub fn delivery(
     scale: &Scale,
     terminal: Terminal,
-    r: RequestNumber,
+    r: RequestPlace,
     words: &mut Lcg64Xsh32,
 ) -> DeliveriesRequest
     ensures { (result, words.new) ≡ delivery scale.now terminal r words.old }

@@ -1,7 +1,7 @@
-use Rattle.std.proofs.Common.{◌≡◌, ◌∷◌, [], ℕ, List, Option, Some, None, true, sym, ap, subst, ◌∙◌, rules}
+use Rattle.std.proofs.Common.{◌≡◌, [], true, sym, ◌∙◌, rules}
 use Rattle.std.specs.Option.{option_copied}
-use Rattle.oe_rowlines.specs.Line.{fields_of, left_of}
-use Rattle.oe_comparison.specs.Columns.{is_same, first_other}
+use Rattle.oe_file_rows.specs.Line.{fields_of, left_of}
+use Rattle.oe_comparison.specs.Columns.{is_same}
 use Rattle.oe_comparison.proofs.ColumnFacts.{same_column, none_right, no_field}
 use Rattle.oe_comparison.proofs.columns.first_other.Goals as goal
 

@@ -1,5 +1,5 @@
-use Rattle.std.proofs.Common.{◌≡◌, ℕ, ◌+◌, ◌≤◌, length}
-use Rattle.oe_rowlines.specs.Line.{fields_of}
+use Rattle.std.proofs.Common.{◌≡◌, ◌+◌, ◌≤◌, length}
+use Rattle.oe_file_rows.specs.Line.{fields_of}
 use Rattle.oe_comparison.specs.Columns.{first_other}
 use Rattle.oe_comparison.proofs.columns.first_other.Given as goal
 

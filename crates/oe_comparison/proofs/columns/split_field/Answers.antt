@@ -1,7 +1,7 @@
-use Rattle.std.proofs.Common.{◌≡◌, ◌+◌, ◌∷◌, List, take, drop, sym, ap, ◌∙◌, ℕ}
+use Rattle.std.proofs.Common.{◌+◌, ◌∷◌, List, take, sym, ap, ◌∙◌, ℕ}
 use Rattle.std.proofs.lemmas.List.{take_rest}
-use Rattle.oe_rowlines.specs.Line.{fields_of}
-use Rattle.oe_rowlines.proofs.FieldFacts.{alone, parted}
+use Rattle.oe_file_rows.specs.Line.{fields_of}
+use Rattle.oe_file_rows.proofs.FieldFacts.{alone, parted}
 use Rattle.oe_comparison.proofs.columns.split_field.Goals as goal
 
 pub returns-in-Some-clause-fields : goal.returns-in-Some-clause-fields

@@ -1,13 +1,17 @@
-use Rattle.std.proofs.Common.{◌≡◌, drop}
+use Rattle.std.proofs.Common.{◌+◌, length}
 use Rattle.std.specs.Slice.Iter.{iter_rest}
-use Rattle.oe_comparison.specs.Differences.{difference, keyless}
+use Rattle.oe_comparison.specs.Differences.{differences, keyless}
 use Rattle.oe_comparison.specs.Histories.{history_order}
+use Rattle.oe_comparison.specs.Texts.{history_line_of}
+use Rattle.oe_comparison.proofs.DifferenceFacts.{IsAhead, next_row}
 use Rattle.oe_comparison.proofs.histories.compare_sorted.Given as goal
 
--- the rest differs as the whole does, and no difference was found yet
-abbrev pub invariant-loop-our : goal.invariant-loop-our
-invariant-loop-our l = record {
-  same : difference history_order (keyless (iter_rest l.theirs)) (keyless (drop l.our-index l.ours))
-      ≡ difference history_order (keyless l.fn.theirs) (keyless l.fn.ours);
-  kept : l.report ≡ l.initial.report;
-}
+-- the rows that differ so far were counted, and the first was told
+abbrev pub invariant-loop-their : goal.invariant-loop-their
+invariant-loop-their l =
+    IsAhead history_line_of (differences history_order (keyless l.fn.theirs) (keyless l.fn.ours))
+    (differences history_order (keyless (next_row l.their (iter_rest l.theirs)))
+    (keyless (next_row l.our (iter_rest l.ours)))) l.others l.initial.report l.report
+
+abbrev pub decreases-loop-their : goal.decreases-loop-their
+decreases-loop-their l = length (next_row l.their (iter_rest l.theirs)) + length (next_row l.our (iter_rest l.ours))

@@ -1,13 +1,13 @@
 use Rattle.std.proofs.Common.{refl}
 use Rattle.oe_texts.specs.Dump.{warehouse_columns, district_columns, customer_columns, history_columns}
 use Rattle.oe_texts.specs.Dump.{new_order_columns, order_columns, order_line_columns, item_columns, stock_columns}
-use Rattle.oe_rowlines.specs.Rows.{warehouse_forms, warehouse_values, district_forms, district_values, customer_forms}
-use Rattle.oe_rowlines.specs.Rows.{customer_values, history_forms, history_values, new_order_forms, new_order_values}
-use Rattle.oe_rowlines.specs.Rows.{order_forms, order_values, order_line_forms, order_line_values, item_forms}
-use Rattle.oe_rowlines.specs.Rows.{item_values, stock_forms, stock_values}
-use Rattle.oe_rowlines.proofs.DumpFacts.{read_back, orders_shown, order_lines_shown, stocks_shown}
-use Rattle.oe_rowlines.proofs.RowFacts.{warehouses_same, districts_same, customers_same, histories_same}
-use Rattle.oe_rowlines.proofs.RowFacts.{new_orders_same, orders_same, order_lines_same, items_same, stocks_same}
+use Rattle.oe_file_rows.specs.Rows.{warehouse_forms, warehouse_values, district_forms, district_values, customer_forms}
+use Rattle.oe_file_rows.specs.Rows.{customer_values, history_forms, history_values, new_order_forms, new_order_values}
+use Rattle.oe_file_rows.specs.Rows.{order_forms, order_values, order_line_forms, order_line_values, item_forms}
+use Rattle.oe_file_rows.specs.Rows.{item_values, stock_forms, stock_values}
+use Rattle.oe_file_rows.proofs.DumpFacts.{read_back, orders_shown, order_lines_shown, stocks_shown}
+use Rattle.oe_file_rows.proofs.RowFacts.{warehouses_same, districts_same, customers_same, histories_same}
+use Rattle.oe_file_rows.proofs.RowFacts.{new_orders_same, orders_same, order_lines_same, items_same, stocks_same}
 use Rattle.oe_comparison.proofs.LawFacts.{told_apart}
 use Rattle.oe_comparison.proofs.laws.rows_are_told_apart.Goals as goal
 

@@ -1,4 +1,4 @@
-use Rattle.std.proofs.Common.{◌≡◌, ◌++◌, List, ℕ, codes, ap, sym, ◌∙◌}
+use Rattle.std.proofs.Common.{◌++◌, List, ℕ, codes, ap, ◌∙◌}
 use Rattle.oe_rows.specs.Credit.{money_text}
 use Rattle.oe_texts.specs.Dump.{reference_columns}
 use Rattle.oe_texts.specs.Stamp.{stamp_text}

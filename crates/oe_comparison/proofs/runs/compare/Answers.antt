@@ -1,5 +1,5 @@
 use Rattle.std.proofs.Common.{arith, refl}
-use Rattle.oe_loading.specs.Loading.{nine_of}
+use Rattle.oe_file_loading.specs.Loading.{nine_of}
 use Rattle.oe_store.specs.Places.{rows}
 use Rattle.oe_comparison.proofs.RunFacts.{compares}
 use Rattle.oe_comparison.proofs.runs.compare.Goals as goal

@@ -1,9 +1,9 @@
 use Rattle.std.proofs.Common.{[], inl, inr, subst, sym}
 use Rattle.oe_ports.proofs.Streaming.{sent_none}
-use Rattle.oe_serial.proofs.SentFacts.{is_short}
-use Rattle.oe_serial.specs.Verdicts.{IsDecided}
-use Rattle.oe_serial.specs.declared.verdicts.Decision.TheVariants as decision
-use Rattle.oe_serial.specs.declared.verdicts.Verdict.TheVariants as reply
+use Rattle.oe_file_serial.proofs.SentFacts.{is_short}
+use Rattle.oe_file_serial.specs.Verdicts.{IsDecided}
+use Rattle.oe_file_serial.specs.declared.verdicts.Decision.TheVariants as decision
+use Rattle.oe_file_serial.specs.declared.verdicts.Verdict.TheVariants as reply
 use Rattle.oe_store.specs.Places.{rows}
 use Rattle.oe_comparison.proofs.RunFacts.{leaves, decided, replies_told}
 use Rattle.oe_comparison.proofs.runs.run_comparison.Goals as goal
@@ -12,8 +12,9 @@ pub tell_replies-requires-clause-short : goal.tell_replies-requires-clause-short
 tell_replies-requires-clause-short g c =
     let n = c.in-Differs.number in
     let theirs = c.in-Differs.theirs in
-    is_short c.args.origin c.args.input.now c.decide.new.ours.items (reply.Differs n theirs)
-    (decided c.args.origin c.args.input.now c.decide.new.ours.items c.in-Ok.decision (decision.Differs n theirs)
+    is_short c.args.origin c.args.input.now c.decide.new.ours.items (reply.Differs n theirs c.in-Differs.last)
+    (decided c.args.origin c.args.input.now c.decide.new.ours.items c.in-Ok.decision
+    (decision.Differs n theirs c.in-Differs.last)
     c.in-Differs.is c.in-Ok.ensures)
 
 pub returns-in-Serial : goal.returns-in-Serial
@@ -29,11 +30,13 @@ pub returns-in-Differs : goal.returns-in-Differs
 returns-in-Differs g c =
     let n = c.in-Differs.number in
     let theirs = c.in-Differs.theirs in
-    inl (replies_told c.args.origin c.args.input.now c.as_slice.result.now (reply.Differs n theirs) _ _
+    inl
+    (replies_told c.args.origin c.args.input.now c.as_slice.result.now (reply.Differs n theirs c.in-Differs.last) _ _
     c.tell_replies.result
-    (subst (λ ours. IsDecided c.args.origin c.args.input.now (reply.Differs n theirs) ours)
+    (subst (λ ours. IsDecided c.args.origin c.args.input.now (reply.Differs n theirs c.in-Differs.last) ours)
     (sym c.as_slice.ensures.value)
-    (decided c.args.origin c.args.input.now c.decide.new.ours.items c.in-Ok.decision (decision.Differs n theirs)
+    (decided c.args.origin c.args.input.now c.decide.new.ours.items c.in-Ok.decision
+    (decision.Differs n theirs c.in-Differs.last)
     c.in-Differs.is c.in-Ok.ensures)) tt c.tell_replies.ensures)
 
 pub returns-in-Unreadable : goal.returns-in-Unreadable

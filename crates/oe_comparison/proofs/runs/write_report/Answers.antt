@@ -1,7 +1,7 @@
 use Rattle.std.proofs.Common.{◌++◌, [], ap, ◌∙◌}
 use Rattle.oe_ports.proofs.Streaming.{sent_as, sent_then, sent_cut, cut_as, cut_more}
-use Rattle.oe_serial.specs.Verdicts.{serial_line}
-use Rattle.oe_serial.proofs.SentFacts.{streamed}
+use Rattle.oe_file_serial.specs.Verdicts.{serial_line}
+use Rattle.oe_file_serial.proofs.SentFacts.{streamed}
 use Rattle.oe_comparison.specs.Texts.{last_line}
 use Rattle.oe_comparison.proofs.RunFacts.{streams_behind}
 use Rattle.oe_comparison.proofs.runs.write_report.Goals as goal

@@ -1,8 +1,8 @@
-use Rattle.std.proofs.Common.{◌≡◌, refl, sym, subst, ◌∙◌}
+use Rattle.std.proofs.Common.{refl, sym, subst, ◌∙◌}
 use Rattle.std.proofs.lemmas.Result.{on_ok_weaker}
-use Rattle.oe_reading.specs.Fault as fault
-use Rattle.oe_reading.specs.declared.faults.TableFault.{TableFault}
-use Rattle.oe_loading.specs.Loading.{nine_of}
+use Rattle.oe_file_tables.specs.Fault as fault
+use Rattle.oe_file_tables.specs.declared.faults.TableFault.{TableFault}
+use Rattle.oe_file_loading.specs.Loading.{nine_of}
 use Rattle.oe_store.specs.Places.{rows}
 use Rattle.oe_comparison.specs.Texts.{Told}
 use Rattle.oe_comparison.specs.Tables.{HomesCompared}

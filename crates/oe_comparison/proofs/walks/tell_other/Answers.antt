@@ -1,7 +1,7 @@
-use Rattle.std.proofs.Common.{◌≡◌, ℕ, List, Option, None, false, ap, sym, ◌∙◌, rules}
-use Rattle.std.specs.Prelude.{is_some}
+use Rattle.std.proofs.Common.{◌≡◌, Option, None, Ok, ap, subst, sym, ◌∙◌, refl, rules}
+use Rattle.oe_values.specs.declared.memory.NoMemory.{NoMemory}
 use Rattle.oe_comparison.specs.Columns.{Other, shown, first_other}
-use Rattle.oe_comparison.specs.Walks.{with_column}
+use Rattle.oe_comparison.specs.Walks.{TellsColumn}
 use Rattle.oe_comparison.proofs.ColumnFacts.{none_itself}
 use Rattle.oe_comparison.proofs.walks.tell_other.Goals as goal
 
@@ -13,7 +13,6 @@ returns-then-equals g c =
     let same : shown (columns c.args.their_key.now c.args.theirs.now) ≡ ours =
     λ i. shown (columns (c.requires i) (rows i)) in
     let none : first_other 0 (shown (columns c.args.their_key.now c.args.theirs.now)) ours ≡ None =
-    ap (λ ts. first_other 0 ts ours) same ∙ none_itself 0 ours in (
-      ap is_some (sym none),
-      ap (λ (o : Option Other). with_column g.R.RowLine.key_of c.args.key.now o c.args.report.now) (sym none),
-    )
+    ap (λ ts. first_other 0 ts ours) same ∙ none_itself 0 ours in
+    subst (λ (o : Option Other). TellsColumn {E = NoMemory} g.R.RowLine.key_of c.args.key.now o c.args.others
+    c.args.report.now c.args.report.now (Ok c.args.others)) (sym none) (refl, refl)

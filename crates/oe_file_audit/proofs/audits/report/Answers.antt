@@ -1,3 +1,6 @@
+use Rattle.std.proofs.Common.{length, ap, ◌∙◌}
+use Rattle.oe_audit_report.specs.declared.report.Counts.{Counts}
+use Rattle.oe_audit_report.specs.Report.{failing}
 use Rattle.oe_file_audit.proofs.AuditFacts.{are_of, all_hold, some_fails}
 use Rattle.oe_file_audit.proofs.audits.report.Goals as goal
 
@@ -7,7 +10,8 @@ returns-in-Ok-write_report g c t ready =
       results,
       are_of c.args.options.now t c.args.settled.now ready results (c.in-Ok.ensures c.args.options.now.initial t ready),
       c.in-Ok-write_report.ensures,
-      all_hold results c.count_failing.result c.count_failing.ensures c.if-count_failing-eq0.true,
+      all_hold results c.counted.result.failing (ap (λ (n : Counts). n.failing) c.counted.ensures.is
+          ∙ ap (λ checks. length (failing checks)) c.as_slice.ensures.value) c.if-counted-eq0.true,
     )
 
 pub returns-in-Ok-2 : goal.returns-in-Ok-2
@@ -16,7 +20,8 @@ returns-in-Ok-2 g c t ready =
       results,
       are_of c.args.options.now t c.args.settled.now ready results (c.in-Ok.ensures c.args.options.now.initial t ready),
       c.in-Ok-2.ensures,
-      some_fails results c.count_failing.result c.count_failing.ensures c.if-count_failing-eq0.false,
+      some_fails results c.counted.result.failing (ap (λ (n : Counts). n.failing) c.counted.ensures.is
+          ∙ ap (λ checks. length (failing checks)) c.as_slice.ensures.value) c.if-counted-eq0.false,
     )
 
 pub returns : goal.returns

@@ -1,7 +1,7 @@
 use Rattle.std.proofs.Common.{◌≡◌}
 use Rattle.oe_rows.specs.declared.keys.Table.{Table}
 use Rattle.oe_rows.specs.declared.keys.Table.TheVariants as table
-use Rattle.oe_loading.specs.declared.loading.Sources.{Sources}
+use Rattle.oe_file_loading.specs.declared.loading.Sources.{Sources}
 use Rattle.oe_files.specs.Files.{AreTheirs}
 use Rattle.oe_files.specs.declared.files.TableFile.{TableFile}
 use Rattle.oe_files.proofs.opening.open_tables.Goals as goal

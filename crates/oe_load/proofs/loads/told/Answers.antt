@@ -11,26 +11,27 @@ loop-init g c = at_first c.args.plan.now (g.W.Outlet.sink c.args.to.now) c.args.
 
 pub returns-then-is_done : goal.returns-then-is_done
 returns-then-is_done g c = ends_served c.args.plan.now (g.W.Outlet.sink c.args.to.now) (g.W.Outlet.sink c.loop.to)
-    c.loop.out.items (world_of c.loop.core) (counts_of c.loop.served) c.loop.invariant
+    c.loop.out.items (world_of c.loop.core) (counts_of c.loop.served) c.loop.drawing.begun c.loop.invariant
     (c.is_done.ensures c.if-is_done.true)
 
 pub returns-in-Err : goal.returns-in-Err
 returns-in-Err g c = ends_cut c.args.plan.now (g.W.Outlet.sink c.args.to.now) (g.W.Outlet.sink c.loop.to)
     (g.W.Outlet.sink c.make_room.new.to) c.loop.out.items c.make_room.new.out.items (world_of c.loop.core)
-    (counts_of c.loop.served) _ c.loop.invariant c.in-Err.ensures.stream
+    (counts_of c.loop.served) c.loop.drawing.begun _ c.loop.invariant c.in-Err.ensures.stream
 
 pub returns-in-Err-taken : goal.returns-in-Err-taken
 returns-in-Err-taken g c = ends_short c.args.plan.now (g.W.Outlet.sink c.args.to.now) (g.W.Outlet.sink c.loop.to)
     (g.W.Outlet.sink c.make_room.new.to) c.loop.out.items c.make_room.new.out.items c.taken.new.out.items
-    (world_of c.loop.core) (counts_of c.loop.served) c.in-Err-taken.shortage c.loop.invariant
-    c.in_default.ensures.stream c.in-Err-taken.ensures
+    (world_of c.loop.core) (counts_of c.loop.served) c.loop.drawing.begun c.in-Err-taken.shortage
+    c.loop.invariant c.in_default.ensures.stream c.in-Err-taken.ensures
 
 pub loop-preserved : goal.loop-preserved
 loop-preserved g c = line_more c.args.plan.now (g.W.Outlet.sink c.args.to.now) (g.W.Outlet.sink c.loop.to)
     (g.W.Outlet.sink c.make_room.new.to) c.loop.out.items c.make_room.new.out.items c.taken.new.out.items
-    (world_of c.loop.core) (counts_of c.loop.served) (world_of c.taken.new.core) (counts_of c.taken.new.served)
-    c.loop.invariant c.in_default.ensures.stream c.in_default-taken.ensures
+    (world_of c.loop.core) (counts_of c.loop.served) c.loop.drawing.begun (world_of c.taken.new.core)
+    (counts_of c.taken.new.served) c.taken.new.drawing.begun c.loop.invariant c.in_default.ensures.stream
+    c.in_default-taken.ensures
 
 pub returns : goal.returns
 returns g c = ends_there c.args.plan.now (g.W.Outlet.sink c.args.to.now) (g.W.Outlet.sink c.loop.to) c.loop.out.items
-    (world_of c.loop.core) (counts_of c.loop.served) NoEnd c.loop.invariant
+    (world_of c.loop.core) (counts_of c.loop.served) c.loop.drawing.begun NoEnd c.loop.invariant

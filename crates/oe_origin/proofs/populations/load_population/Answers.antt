@@ -1,4 +1,4 @@
-use Rattle.oe_loading.specs.Loading.{nine_of}
+use Rattle.oe_file_loading.specs.Loading.{nine_of}
 use Rattle.oe_store.specs.Places.{rows}
 use Rattle.oe_origin.proofs.TerminalFacts.{whole_zero}
 use Rattle.oe_origin.proofs.populations.load_population.Goals as goal

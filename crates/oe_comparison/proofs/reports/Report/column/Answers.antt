@@ -1,4 +1,4 @@
-use Rattle.std.proofs.Common.{◌≡◌, ◌++◌, ◌+◌, List, ℕ, Result, Ok, Err, OnOk, codes, ap, sym, ◌∙◌, rules}
+use Rattle.std.proofs.Common.{rules}
 use Rattle.oe_comparison.proofs.TextFacts.{told_column}
 use Rattle.oe_comparison.proofs.reports.Report.column.Goals as goal
 

@@ -1,0 +1,3 @@
+-- The proofs of this crate.
+mod FolderFacts
+mod NoteFacts

@@ -1,0 +1,6 @@
+-- What the clauses of this crate cite.
+pub mod Endings
+pub mod Statuses
+pub mod Notes
+pub mod Opened
+pub mod Folders

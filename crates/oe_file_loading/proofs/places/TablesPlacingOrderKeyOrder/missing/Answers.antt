@@ -1,0 +1,27 @@
+use Rattle.std.proofs.Common.{◌≡◌, Some, [], sym, ap, ◌∙◌, refl, rules}
+use Rattle.std.specs.FinMap.{get}
+use Rattle.oe_rows.specs.declared.keys.Key.TheVariants as key
+use Rattle.oe_rows.specs.declared.rows.Row.TheVariants as row
+use Rattle.oe_model.specs.Keys.{customer_of_order}
+use Rattle.oe_store.specs.Places.{rows}
+use Rattle.oe_file_loading.proofs.PlaceFacts.{none_missing, lent_met, lent_lacks}
+use Rattle.oe_file_loading.proofs.places.TablesPlacingOrderKeyOrder.missing.Goals as goal
+
+pub returns-then-is_none : goal.returns-then-is_none
+returns-then-is_none c =
+    let at_1 : c.customer.result ≡ customer_of_order c.args.key.now c.args.row.now = search rules in
+    let told : c.customer-customer.result ≡ customer_of_order c.args.key.now c.args.row.now = search rules in
+    ap (λ k. Some (key.Customer k)) told
+    ∙ sym (lent_lacks row.Customer c.customer-found.result _ (c.customer-found.ensures ∙ ap (get (rows
+    c.args.self.now).customers) at_1) (key.Customer (customer_of_order c.args.key.now c.args.row.now)) ([]) (rows
+    c.args.self.now) refl
+    c.if-is_none.ensures)
+
+pub returns : goal.returns
+returns c =
+    let at_1 : c.customer.result ≡ customer_of_order c.args.key.now c.args.row.now = search rules in
+    sym (lent_met row.Customer c.customer-found.result _ (c.customer-found.ensures ∙ ap (get (rows
+    c.args.self.now).customers) at_1) (key.Customer (customer_of_order c.args.key.now c.args.row.now)) ([]) (rows
+    c.args.self.now) refl
+    c.if-is_none.ensures
+    ∙ none_missing (rows c.args.self.now))

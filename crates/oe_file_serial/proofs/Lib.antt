@@ -1,0 +1,14 @@
+-- The proofs of this crate.
+mod LineFacts
+mod QueryFacts
+mod ToldFacts
+mod RingFacts
+mod BadFacts
+mod ReasonFacts
+mod ListFacts
+mod ChangeFacts
+mod AloneFacts
+mod WorkFacts
+mod AnswerFacts
+mod VerdictFacts
+pub mod SentFacts

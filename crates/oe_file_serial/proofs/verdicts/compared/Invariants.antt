@@ -1,0 +1,23 @@
+use Rattle.std.proofs.Common.{◌≡◌, ℕ, ◌+◌, ◌≤◌, List, ◌++◌, length}
+use Rattle.std.specs.Prelude.{All}
+use Rattle.oe_model.specs.System.{system}
+use Rattle.oe_core.specs.Core.{world_of}
+use Rattle.oe_file_serial.specs.Files.{IsTold, lines_of}
+use Rattle.oe_file_serial.specs.InOrder.{between}
+use Rattle.oe_file_serial.specs.Worlds.{IsFree}
+use Rattle.oe_file_serial.specs.Verdicts.{AreSerial}
+use Rattle.oe_file_serial.proofs.verdicts.compared.Given as goal
+
+-- the lines so far agree
+abbrev pub invariant-loop-line : goal.invariant-loop-line
+invariant-loop-line l = record {
+  free : IsFree (world_of l.core);
+  told : All IsTold (lines_of l.left);
+  done : (done : List (List ℕ)) × (lines_of l.initial.left ≡ done ++ lines_of l.left)
+      × AreSerial (between system (world_of l.initial.core)) done (between system (world_of l.core))
+      × (l.count ≡ length done);
+  small : l.count + length l.left ≤ length l.initial.left;
+}
+
+abbrev pub decreases-loop-line : goal.decreases-loop-line
+decreases-loop-line l = length l.left

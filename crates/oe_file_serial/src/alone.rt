@@ -1,0 +1,110 @@
+//! One transaction or query alone in a core. A transaction is begun where nothing is open, carried
+//! out to its end, and forgotten once its answer is known, so that no more work is kept than one
+//! transaction's.
+ghost use Rattle.std.specs.Prelude.{◌≡◌, IfOk};
+ghost use Rattle.oe_file_serial.specs.declared.lines.Asked.TheVariants as asked;
+ghost use Rattle.oe_file_serial.specs.Answers.{Answers};
+ghost use Rattle.oe_core.specs.Core.{world_of, last_reply};
+ghost use Rattle.oe_model.specs.System.{system};
+ghost use Rattle.oe_file_serial.specs.InOrder.{between};
+ghost use Rattle.oe_file_serial.specs.Worlds.{IsFree, Ends, IsAnswered, shortage_of};
+
+use crate::answers::{AnswerText, write_answer, write_refusal, write_reply};
+use crate::lines::Asked;
+use crate::verdicts::Shortage;
+use oe_core::{Advanced, Core};
+use oe_requests::{Query, Refusal, Request};
+use oe_values::Terminal;
+
+// Begins a transaction and carries it out to its end.
+fn carried_out(core: &mut Core, terminal: Terminal, request: &Request) -> Advanced
+    requires { IsFree (world_of core.old) }
+    ensures { Ends (between system (world_of core.old)) terminal request.now result
+        (last_reply core.new terminal) (world_of core.new) }
+{
+    if let Err(refusal) = core.begin(terminal, request) {
+        return Advanced::Refused(refusal);
+    }
+    loop {
+        match core.advance(terminal) {
+            Advanced::More => {}
+            ended => return ended,
+        }
+    }
+}
+
+// Forgets the commits so far.
+fn forget(core: &mut Core)
+    requires { IsFree (world_of core.old) }
+    ensures free { IsFree (world_of core.new) }
+    ensures same { between system (world_of core.new) ≡ between system (world_of core.old) }
+{
+    let _purged = core.purge(core.newest());
+}
+
+// Tells what a transaction was refused for want of, where it has no reason of its own.
+fn shortage(refusal: &Refusal) -> Option<Shortage>
+    ensures { result ≡ shortage_of refusal.now }
+{
+    match refusal {
+        Refusal::NoMemory => Some(Shortage::NoMemory),
+        Refusal::UndoFull => Some(Shortage::UndoFull),
+        _ => None,
+    }
+}
+
+// Carries a transaction out alone, and writes the text that it is answered.
+#[tactic(none)]
+fn transacted(
+    core: &mut Core,
+    terminal: Terminal,
+    request: &Request,
+    out: &mut AnswerText,
+) -> Result<(), Shortage>
+    requires { IsFree (world_of core.old) }
+    ensures { IfOk result (λ o. IsAnswered (between system (world_of core.old))
+        (asked.Transaction terminal request.now) out.new.items (world_of core.new)) }
+{
+    out.clear();
+    match carried_out(core, terminal, request) {
+        Advanced::Committed(moment) => {
+            write_reply(core, terminal, moment, out);
+            forget(core);
+            Ok(())
+        }
+        Advanced::Refused(refusal) => match shortage(&refusal) {
+            Some(shortage) => Err(shortage),
+            None => {
+                write_refusal(&refusal, out);
+                Ok(())
+            }
+        },
+        Advanced::More => unreachable!(),
+    }
+}
+
+// Writes the text that a query of the tables as they stand is answered.
+#[tactic(none)]
+fn enquired(core: &Core, query: &Query, out: &mut AnswerText)
+    requires { IsFree (world_of core.now) }
+    ensures { Answers (between system (world_of core.now)) (asked.Query query.now) out.new.items
+        (between system (world_of core.now)) }
+{
+    out.clear();
+    write_answer(&core.read(core.newest(), query), out);
+}
+
+/// Has one transaction or query answered, alone, and writes the text of its answer.
+pub(crate) fn answered(core: &mut Core, asked: &Asked, out: &mut AnswerText) -> Result<(), Shortage>
+    requires { IsFree (world_of core.old) }
+    ensures { IfOk result (λ o. IsAnswered (between system (world_of core.old)) asked.now
+        out.new.items (world_of core.new)) }
+{
+    match asked {
+        Asked::Transaction(terminal, request) => transacted(core, *terminal, request, out),
+        Asked::Query(query) => {
+            enquired(core, query, out);
+            Ok(())
+        }
+    }
+}

@@ -1,0 +1,22 @@
+//! Whether the replies of another engine are those of its transactions and queries one at a time,
+//! in the order in which it says that they took effect. Clause numbers are TPC Benchmark C 5.11's.
+#![tactic(auto)]
+
+mod alone;
+mod answers;
+mod changes;
+pub mod faults;
+mod lines;
+pub mod origins;
+mod reasons;
+mod reports;
+mod texts;
+pub mod verdicts;
+
+pub use answers::AnswerText;
+pub use faults::write_bad_lines;
+pub use lines::BadLines;
+pub use origins::{Opening, Origin};
+pub use reasons::{BadLine, Behind, Why};
+pub use reports::{SerialFault, run_serial, status, write_verdict};
+pub use verdicts::{Decision, Shortage, Verdict, decide};

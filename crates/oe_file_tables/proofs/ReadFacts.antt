@@ -1,0 +1,369 @@
+-- A file goes on by one byte or one line.
+use Rattle.std.proofs.Common.{◌≡◌, ◌≢◌, ℕ, ◌+◌, ◌<◌, ◌≤◌, inl, inr, Bool, true, false, List, [], ◌∷◌}
+use Rattle.std.proofs.Common.{◌++◌, length, take, drop, get_or, Option, Some, None, sym, ap, subst, ◌∙◌, refl}
+use Rattle.std.proofs.Common.{append_assoc, arith}
+use Rattle.std.specs.Prelude.{All, ⊤, Result, Ok, Err}
+use Rattle.oe_ports.specs.Ports.{Source, Reads}
+use Rattle.std.specs.List.{flat_map}
+use Rattle.std.proofs.lemmas.List.{append-nil, length_push, drop_more, get_or-take, get_or_default, length-take-le}
+use Rattle.std.proofs.lemmas.List.{take-append-drop}
+use Rattle.std.proofs.lemmas.List.Elements.{All-push, All-append}
+use Rattle.std.proofs.lemmas.Grind.{flat_map-append}
+use Rattle.std.proofs.lemmas.Bool.{eqb-true, eq-eqb}
+use Rattle.memchr.specs.Find.{IsFirstByte, Nowhere, Passes, is_byte}
+use Rattle.oe_rows.specs.declared.keys.Table.{Table}
+use Rattle.oe_file_tables.specs.declared.faults.TableFault.{TableFault}
+use Rattle.oe_file_tables.specs.declared.faults.Wrong.{Wrong}
+use Rattle.oe_file_tables.specs.declared.faults.Wrong.TheVariants as wrong
+use Rattle.oe_file_rows.specs.declared.forms.LineFault.{LineFault}
+use Rattle.oe_file_tables.specs.declared.formats.Format.{Format}
+use Rattle.oe_file_tables.specs.declared.formats.Format.TheVariants as written
+use Rattle.oe_file_tables.specs.declared.lines.Numbered.{Numbered}
+use Rattle.oe_file_tables.specs.declared.lines.Reading as reading
+use Rattle.oe_file_tables.specs.Fault.{Told, shown, pushed, all_pushed}
+use Rattle.oe_file_tables.specs.Format.{text_in, heads, null_place, spelled_as}
+use Rattle.oe_file_tables.specs.Record.{line_of}
+use Rattle.oe_file_tables.specs.Lines.{IsInLine, ended, with_last, said_of, IsWrong, counts, Taken, Begins, TakesRow}
+use Rattle.oe_file_tables.specs.Lines.{TakesHeading, TakesCount, TakesFault, Stands, Holds, AreAll}
+use Rattle.oe_file_tables.specs.Tables.{TableReadAs, TableRead, ReadWellAs, ReadWell}
+use Rattle.oe_file_tables.specs.Twice.{twice_in}
+use Rattle.oe_file_tables.proofs.RecordFacts.{some_inj}
+use Rattle.oe_file_tables.proofs.TwiceFacts.{none_each, once}
+use Rattle.oe_rows.specs.declared.keys.Key.{Key}
+use Rattle.std.specs.Cmp.{IsTotalOrder}
+use Rattle.std.specs.declared.cmp.Ordering.{Ordering}
+use Rattle.oe_file_tables.specs.Reading.{CountsOne, TakesOne, TakesRead, Standing, Finished}
+
+-- ---- the number of the next line
+
+shown_below : (n : ℕ) → n < 18446744073709551615 → shown n ≡ n
+shown_below n h = omega arith
+
+shown_past : (n : ℕ) → 18446744073709551615 ≤ n → shown n ≡ 18446744073709551615
+shown_past n h = omega arith
+
+pub shown_next : (n m : ℕ) → n ≡ shown m → shown (n + 1) ≡ shown (m + 1)
+shown_next n m e = omega (arith, e)
+
+-- ---- one line more
+
+module _ {K X : Type 0} (format : Format) (spells : ℕ → List ℕ → K × X → Type 0) (table : Table)
+    (start : Told TableFault) (ls : List (List ℕ)) (line : List ℕ) (count n : ℕ) (next : n ≡ shown (count + 1)) where
+  at_next : count ≡ shown (length ls) → n ≡ shown (length ls + 1)
+  at_next e = next ∙ shown_next count (length ls) e
+
+  at_end : count ≡ shown (length ls) → n ≡ shown (length (ls ++ line ∷ []))
+  at_end e = at_next e ∙ ap shown (sym (length_push ls line))
+
+  pub fault_stands : (counted headed : Bool) (rows : List (Numbered K X)) (told told' : Told TableFault) (w : Wrong)
+      → Stands format spells table start ls counted headed count rows told
+      → IsWrong format spells table counted headed n line w
+      → told' ≡ pushed (record { table = table; line = n; wrong = w }) told
+      → Stands format spells table start (ls ++ line ∷ []) (counts format spells table counted w) headed n rows told'
+  fault_stands counted headed rows told told' w s wrong e =
+      let at = at_next s.3 in (
+        record { table = table; line = shown (length ls + 1); wrong = w } ∷ s.0,
+        TakesFault line w s.1 (subst (λ (n : ℕ). IsWrong format spells table counted headed n line w) at wrong),
+        e ∙ ap (pushed (record { table = table; line = n; wrong = w })) s.2
+            ∙ ap (λ (m : ℕ). pushed (record { table = table; line = m; wrong = w }) (all_pushed s.0 start)) at,
+        at_end s.3,
+      )
+
+  pub heading_stands : (headed : Bool) (rows : List (Numbered K X)) (told : Told TableFault)
+      → Stands format spells table start ls false headed count rows told
+      → heads format n (text_in format line) ≡ true
+      → Stands format spells table start (ls ++ line ∷ []) false true n rows told
+  heading_stands headed rows told s is = (
+    s.0,
+    TakesHeading line s.1 (subst (λ (n : ℕ). heads format n (text_in format line) ≡ true) (at_next s.3) is),
+    s.2,
+    at_end s.3,
+  )
+
+  pub row_stands : (headed : Bool) (rows rows' : List (Numbered K X)) (told told' : Told TableFault) (r : K × X)
+      → Stands format spells table start ls false headed count rows told
+      → spelled_as format table spells n (text_in format line) r
+      → rows' ≡ rows ++ record { line = n; key = r.0; row = r.1 } ∷ [] → told' ≡ told
+      → Stands format spells table start (ls ++ line ∷ []) false headed n rows' told'
+  row_stands headed rows rows' told told' r s spelled e f =
+      let at = at_next s.3 in (
+        s.0,
+        subst (λ rs. Taken format spells table (ls ++ line ∷ []) false headed rs s.0)
+            (sym (e ∙ ap (λ (m : ℕ). rows ++ record { line = m; key = r.0; row = r.1 } ∷ []) at))
+            (TakesRow line r s.1
+            (subst (λ (n : ℕ). spelled_as format table spells n (text_in format line) r) at spelled)),
+        f ∙ s.2,
+        at_end s.3,
+      )
+
+  pub count_stands : (headed : Bool) (rows rows' : List (Numbered K X)) (told told' : Told TableFault) (said : ℕ)
+      → Stands format spells table start ls false headed count rows told → said_of (text_in format line) ≡ Some said
+      → rows' ≡ rows → CountsOne table headed said n told told'
+      → Stands format spells table start (ls ++ line ∷ []) true headed n rows' told'
+  count_stands headed rows rows' told told' said s says e (inl h) = (
+    s.0,
+    subst (λ rs. Taken format spells table (ls ++ line ∷ []) true headed rs s.0) (sym e)
+        (TakesCount line said s.1 says (h.0 ∙ at_next s.3)),
+    h.1 ∙ s.2,
+    at_end s.3,
+  )
+  count_stands headed rows rows' told told' said s says e (inr h) =
+      subst (λ rs. Stands format spells table start (ls ++ line ∷ []) true headed n rs told') (sym e)
+      (fault_stands false headed rows told told' (wrong.Miscount said) s (says, h.0) h.1)
+
+  pub one_stands : (headed : Bool) (rows rows' : List (Numbered K X)) (told told' : Told TableFault)
+      → heads format n (text_in format line) ≡ false
+      → Stands format spells table start ls false headed count rows told
+      → TakesOne format spells table n (text_in format line) rows told rows' told'
+      → Stands format spells table start (ls ++ line ∷ []) false headed n rows' told'
+  one_stands headed rows rows' told told' none s (inl h) =
+      row_stands headed rows rows' told told' h.0 s h.1 h.2 h.3
+  one_stands headed rows rows' told told' none s (inr (inl h)) =
+      subst (λ rs. Stands format spells table start (ls ++ line ∷ []) false headed n rs told') (sym h.2)
+      (fault_stands false headed rows told told' (wrong.NoRow h.0) s (none, h.1) h.3)
+  one_stands headed rows rows' told told' none s (inr (inr h)) =
+      subst (λ rs. Stands format spells table start (ls ++ line ∷ []) false headed n rs told') (sym h.2)
+      (fault_stands false headed rows told told' wrong.NoRecord s (none, h.0, h.1) h.3)
+
+pub stands_as : {format : Format} {K X : Type 0} {spells : ℕ → List ℕ → K × X → Type 0} {table : Table}
+    {start : Told TableFault} {ls : List (List ℕ)} {b c h i : Bool} {n m : ℕ} {rows : List (Numbered K X)}
+    {told : Told TableFault}
+    → c ≡ b → i ≡ h → m ≡ n
+    → Stands format spells table start ls b h n rows told → Stands format spells table start ls c i m rows told
+stands_as e f g s = rw (e, f, g) s
+
+-- what was read of a line's text
+
+module _ {K X : Type 0} (spells : ℕ → List ℕ → K × X → Type 0) (table : Table) (n : ℕ)
+    (rows rows' : List (Numbered K X)) (told told' : Told TableFault) where
+  pub takes_dump : (text : List ℕ) (read : Result (K × X) LineFault)
+      → ((r : K × X) → read ≡ Ok r → spells n text r) → ((r : K × X) → spells n text r → read ≡ Ok r)
+      → TakesRead table n read rows told rows' told' → TakesOne written.Dump spells table n text rows told rows' told'
+  takes_dump text (Ok r) found finds h = inl (r, found r refl, h.0, h.1)
+  takes_dump text (Err f) found finds h = inr (inl (f, λ r s. absurd (let e = finds r s in cc), h.0, h.1))
+
+  pub takes_csv : (text line : List ℕ) (read : Result (K × X) LineFault) → line_of (null_place table) text ≡ Some line
+      → ((r : K × X) → read ≡ Ok r → spells n line r) → ((r : K × X) → spells n line r → read ≡ Ok r)
+      → TakesRead table n read rows told rows' told' → TakesOne written.Csv spells table n text rows told rows' told'
+  takes_csv text line (Ok r) is found finds h = inl (r, (line, is, found r refl), h.0, h.1)
+  takes_csv text line (Err f) is found finds h =
+      inr
+      (inl (
+        f,
+        λ r s. absurd (let e = finds r (subst (λ l. spells n l r) (some_inj _ _ (sym s.1 ∙ is)) s.2) in cc),
+        h.0,
+        h.1,
+      ))
+
+-- ---- where a line ends in a piece
+
+front_in_line : (p : List ℕ) (n : ℕ) → n ≤ length p → Nowhere (Passes (is_byte 10) p) 0 n → IsInLine (take n p)
+front_in_line p n fits none = λ k d h e.
+    let len : length (take n p) ≡ n = length-take-le n p fits in
+    let below : k < n = omega (arith, h, len) in
+    let inside : k < length p = omega (arith, below, fits) in
+    none k (omega arith) below
+    (eq-eqb (get_or p k 0) 10 (get_or_default p k 0 d inside ∙ sym (get_or-take n p k d below) ∙ e))
+
+pub no_end : (p : List ℕ) → IsFirstByte (is_byte 10) p None → IsInLine p
+no_end p none = λ k d h e. none k (omega arith) h (eq-eqb (get_or p k 0) 10 (get_or_default p k 0 d h ∙ e))
+
+pub before_end : (p : List ℕ) (n : ℕ) → IsFirstByte (is_byte 10) p (Some n) → IsInLine (take n p)
+before_end p n first = front_in_line p n (omega (arith, first.0.high)) first.0.before
+
+pub with_end : (p : List ℕ) (n : ℕ) → IsFirstByte (is_byte 10) p (Some n) → p ≡ take n p ++ 10 ∷ drop (n + 1) p
+with_end p n first =
+    sym (take-append-drop n p) ∙ ap (λ z. take n p ++ z) (drop_more p n 0 first.0.high)
+    ∙ ap (λ b. take n p ++ b ∷ drop (n + 1) p) (eqb-true (get_or p n 0) 10 first.1)
+
+-- ---- the input so far
+
+all_none : {A : Type 0} (P : A → Type 0) → All P []
+all_none P k d h = absurd (omega (arith, h))
+
+module _ {K X : Type 0} (format : Format) (spells : ℕ → List ℕ → K × X → Type 0) (table : Table) where
+  pub standing_start : (start : Told TableFault) (r : reading.Reading K X) → r.lot.rows ≡ [] → r.lot.count ≡ 0
+      → r.lot.is_counted ≡ false → r.lot.is_headed ≡ false → r.line.items ≡ [] → r.over ≡ false
+      → Standing format spells table start [] r start
+  standing_start start r e f g k h o = record {
+    lines = [];
+    line = [];
+    whole = refl;
+    each = all_none IsInLine;
+    tail = all_none (λ b. b ≢ 10);
+    stands = ([], rw (e, g, k) Begins, refl, f);
+    holds = rw (h, o) (refl, omega arith);
+  }
+
+  pub standing_bytes : (start : Told TableFault) (input more : List ℕ) (r r' : reading.Reading K X)
+      (told : Told TableFault) → IsInLine more → r'.lot ≡ r.lot
+      → ((line : List ℕ) → Holds r.line.items r.over line → Holds r'.line.items r'.over (line ++ more))
+      → Standing format spells table start input r told → Standing format spells table start (input ++ more) r' told
+  standing_bytes start input more r r' told free same keeps s = record {
+    lines = s.lines;
+    line = s.line ++ more;
+    whole = ap (λ z. z ++ more) s.whole ∙ append_assoc (flat_map ended s.lines) s.line more;
+    each = s.each;
+    tail = All-append (λ b. b ≢ 10) s.line more s.tail free;
+    stands =
+        subst (λ l. Stands format spells table start s.lines l.is_counted l.is_headed l.count l.rows told)
+        (sym same) s.stands;
+    holds = keeps s.line s.holds;
+  }
+
+  pub standing_line : (start : Told TableFault) (input last : List ℕ) (r r' : reading.Reading K X)
+      (told told' : Told TableFault) → IsInLine last
+      → ((line : List ℕ) → Holds r.line.items r.over line → (start : Told TableFault) (ls : List (List ℕ))
+      → Stands format spells table start ls r.lot.is_counted r.lot.is_headed r.lot.count r.lot.rows told
+      → Stands format spells table start (ls ++ (line ++ last) ∷ []) r'.lot.is_counted r'.lot.is_headed r'.lot.count
+      r'.lot.rows told')
+      → r'.line.items ≡ [] → r'.over ≡ false
+      → Standing format spells table start input r told
+      → Standing format spells table start ((input ++ last) ++ 10 ∷ []) r' told'
+  standing_line start input last r r' told told' free takes e o s =
+      let line = s.line ++ last in
+      record {
+        lines = s.lines ++ line ∷ [];
+        line = [];
+        whole = ap (λ z. (z ++ last) ++ 10 ∷ []) s.whole
+            ∙ ap (λ z. z ++ 10 ∷ []) (append_assoc (flat_map ended s.lines) s.line last)
+            ∙ append_assoc (flat_map ended s.lines) line (10 ∷ [])
+            ∙ ap (λ z. flat_map ended s.lines ++ z) (sym (append-nil (line ++ 10 ∷ [])))
+            ∙ sym (flat_map-append ended s.lines (line ∷ [])) ∙ sym (append-nil _);
+        each = All-push IsInLine s.lines line s.each (All-append (λ b. b ≢ 10) s.line last s.tail free);
+        tail = all_none (λ b. b ≢ 10);
+        stands = takes s.line s.holds start s.lines s.stands;
+        holds = rw (e, o) (refl, omega arith);
+      }
+
+  -- the end of the input
+
+  pub finished_none : (start : Told TableFault) (input : List ℕ) (r : reading.Reading K X) (told : Told TableFault)
+      → r.line.items ≡ [] → r.over ≡ false
+      → Standing format spells table start input r told → Finished format spells table start input r told
+  finished_none start input r told e o s =
+      let empty : s.line ≡ [] = sym (subst (λ b. Holds r.line.items b s.line) o s.holds).0 ∙ e in (
+        s.lines,
+        r.lot.is_counted,
+        r.lot.is_headed,
+        s.stands.0,
+        record {
+          whole = s.lines;
+          last = s.line;
+          bytes_are = s.whole;
+          each = s.each;
+          tail = s.tail;
+          lines_are = ap (with_last s.lines) (sym empty);
+        },
+        s.stands.1,
+        s.stands.2,
+      )
+
+  not_begun : (held : List ℕ) (o : Bool) → Holds held o [] → (o ≡ false → 0 < length held) → ⊥
+  not_begun held true h begun = omega (arith, h)
+  not_begun held false h begun = omega (arith, begun refl, ap length h.0)
+
+  pub finished_line : (start : Told TableFault) (input : List ℕ) (r r' : reading.Reading K X)
+      (told told' : Told TableFault) → (r.over ≡ false → 0 < length r.line.items)
+      → ((line : List ℕ) → Holds r.line.items r.over line → (start : Told TableFault) (ls : List (List ℕ))
+      → Stands format spells table start ls r.lot.is_counted r.lot.is_headed r.lot.count r.lot.rows told
+      → Stands format spells table start (ls ++ line ∷ []) r'.lot.is_counted r'.lot.is_headed r'.lot.count
+      r'.lot.rows told')
+      → Standing format spells table start input r told → Finished format spells table start input r' told'
+  finished_line start input r r' told told' begun takes s = by_line s.line refl
+    where
+      by_line : (line : List ℕ) → s.line ≡ line → Finished format spells table start input r' told'
+      by_line [] e = absurd (not_begun r.line.items r.over (subst (Holds r.line.items r.over) e s.holds) begun)
+      by_line (b ∷ line) e =
+          let stands = takes s.line s.holds start s.lines s.stands in (
+            s.lines ++ s.line ∷ [],
+            r'.lot.is_counted,
+            r'.lot.is_headed,
+            stands.0,
+            record {
+              whole = s.lines;
+              last = s.line;
+              bytes_are = s.whole;
+              each = s.each;
+              tail = s.tail;
+              lines_are = ap (λ z. s.lines ++ z ∷ []) e ∙ sym (ap (with_last s.lines) e);
+            },
+            stands.1,
+            stands.2,
+          )
+
+-- ---- what calls of the reader gave
+
+abbrev pub ReadSoFar : Option Source → Option Source → List ℕ → Type 0
+ReadSoFar None now read = ⊤
+ReadSoFar (Some a) None read = ⊥
+ReadSoFar (Some a) (Some b) read = (a.remaining ≡ read ++ b.remaining) × (b.failures ≡ a.failures)
+
+pub read_none : (s : Option Source) → ReadSoFar s s []
+read_none None = tt
+read_none (Some a) = (refl, refl)
+
+pub read_more : (E : Type 0) (s now new : Option Source) (read buf : List ℕ) (n : ℕ) → ReadSoFar s now read
+    → Reads {E = E} now new (Ok n) buf → ReadSoFar s new (read ++ take n buf)
+read_more E None now new read buf n h g = tt
+read_more E (Some a) None new read buf n h g = absurd h
+read_more E (Some a) (Some b) None read buf n h g = absurd g
+read_more E (Some a) (Some b) (Some d) read buf n h g = (
+  h.0 ∙ ap (λ z. read ++ z) g.0 ∙ sym (append_assoc read (take n buf) d.remaining),
+  g.1 ∙ h.1,
+)
+
+pub read_all : (E : Type 0) (s now new : Option Source) (read buf : List ℕ) → ReadSoFar s now read
+    → Reads {E = E} now new (Ok 0) buf → 0 < length buf → AreAll s new read
+read_all E None now new read buf h g room = tt
+read_all E (Some a) None new read buf h g room = absurd h
+read_all E (Some a) (Some b) None read buf h g room = absurd g
+read_all E (Some a) (Some b) (Some d) read buf h g room =
+    let end : d.remaining ≡ [] = g.2 refl room in
+    (h.0 ∙ ap (λ z. read ++ z) (g.0 ∙ end) ∙ append-nil read, end, g.1 ∙ h.1)
+
+-- ---- where no fault was told
+
+pushed_some : (n : ℕ) → shown (n + 1) ≡ 0 → ⊥
+pushed_some n e = omega (arith, e)
+
+pub none_pushed : (fs : List TableFault) (t : Told TableFault) → (all_pushed fs t).count ≡ 0 → (fs ≡ []) × (t.count ≡ 0)
+none_pushed [] t e = (refl, e)
+none_pushed (f ∷ fs) t e = absurd (pushed_some (all_pushed fs t).count e)
+
+-- a file in which nothing was told
+pub table_read_as : {K X : Type 0} (format : Format) (cmp : K → K → Ordering) (total : IsTotalOrder cmp)
+    (key_of : K → Key) (spells : ℕ → List ℕ → K × X → Type 0) (table : Table) (old new : Option Source)
+    (start told : Told TableFault) (rows : List (Numbered K X))
+    → TableReadAs format cmp key_of spells table old new start told rows → told.count ≡ 0
+    → ReadWellAs format cmp spells table old new rows × (start.count ≡ 0)
+table_read_as format cmp total key_of spells table old new start told rows l e =
+    let read = l.read in
+    let twice = none_each (twice_in cmp table key_of rows) l.middle
+    (sym (ap (λ (t : Told TableFault). t.count) l.twice) ∙ e) in
+    let none = none_pushed read.2.3 start (sym (ap (λ (t : Told TableFault). t.count) read.2.6) ∙ twice.1) in (
+      (
+        (
+          read.0,
+          read.1,
+          (
+            read.2.0,
+            read.2.1,
+            read.2.2,
+            l.taken,
+            read.2.4,
+            subst (λ fs. Taken format spells table read.2.0 read.2.1 read.2.2 l.taken fs) none.0 read.2.5,
+            l.moved,
+          ),
+        ),
+        once cmp total table key_of rows l.sorted twice.0,
+      ),
+      none.1,
+    )
+
+pub table_read : {K X : Type 0} (cmp : K → K → Ordering) (total : IsTotalOrder cmp) (key_of : K → Key)
+    (spells : ℕ → List ℕ → K × X → Type 0) (table : Table) (old new : Option Source) (start told : Told TableFault)
+    (rows : List (Numbered K X)) → TableRead cmp key_of spells table old new start told rows → told.count ≡ 0
+    → ReadWell cmp spells table old new rows × (start.count ≡ 0)
+table_read cmp total key_of spells table old new start told rows =
+    table_read_as written.Dump cmp total key_of spells table old new start told rows

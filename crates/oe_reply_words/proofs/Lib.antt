@@ -1,0 +1,4 @@
+-- The proofs of this crate.
+pub mod PartFacts
+mod OtherFacts
+mod RowFacts

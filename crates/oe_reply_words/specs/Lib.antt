@@ -1,0 +1,4 @@
+-- What the clauses of this crate cite.
+pub mod Parts
+pub mod Others
+pub mod Rows

@@ -1,0 +1,11 @@
+//! What a reply's words are: which of them differs, the row that it tells of, and whether a
+//! transaction changed that row. Clause numbers are TPC Benchmark C 5.11's.
+#![tactic(auto)]
+
+pub mod others;
+pub mod parts;
+pub mod rows;
+
+pub use others::other_line;
+pub use parts::{decimal, parted_at};
+pub use rows::{Change, changes, row_told};

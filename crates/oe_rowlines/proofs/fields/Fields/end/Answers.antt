@@ -1,8 +1,0 @@
-use Rattle.std.proofs.Common.{sym}
-use Rattle.oe_rowlines.specs.Line.{ended}
-use Rattle.oe_rowlines.proofs.FieldFacts.{not_ended}
-use Rattle.oe_rowlines.proofs.fields.Fields.end.Goals as goal
-
-pub returns-in-Some : goal.returns-in-Some
-unfolding ended
-returns-in-Some c = rw (← c.self.view_is) (rw c.in-Some.is (sym (not_ended c.in-Some.field-0.now)))

@@ -1,5 +1,0 @@
-use Rattle.oe_rowlines.proofs.FieldFacts.{field_count, eight}
-use Rattle.oe_rowlines.proofs.histories.has_eight.Goals as goal
-
-pub returns : goal.returns
-returns c = rw c.tabs.ensures (eight _ _ (field_count c.args.line.now))
