@@ -1,4 +1,4 @@
--- What is told on standard error of what a command came to; but for the line that names a fault or a file, which no
+-- What a command tells on standard error of its answer; but for the line that names a fault or a file, which no
 -- clause sees.
 use Rattle.std.specs.Prelude.{ℕ, List, flat_map, Option, None, Some, Result, Ok, Err}
 use Rattle.oe_comparison.specs.Faults as table_lines

@@ -55,7 +55,7 @@ script_from_status (Ok x) = 0
 script_from_status (Err (from_fault.NoPopulation error)) = no_population_status aim.Answers error
 script_from_status (Err (from_fault.Fault fault)) = 1
 
--- a file of replies: that of its verdict, and 3 without memory, extents or output
+-- a file of replies: its verdict's status, and 3 without memory, extents or output
 abbrev pub serial_status : Result serial.Verdict SerialFault → ℕ
 serial_status (Ok verdict) = decided.status_of verdict
 serial_status (Err fault) = 3
@@ -65,7 +65,7 @@ serial_from_status (Ok verdict) = decided.status_of verdict
 serial_from_status (Err (from_fault.NoPopulation error)) = no_population_status aim.Judges error
 serial_from_status (Err (from_fault.Fault fault)) = 3
 
--- its tables beside files: that of the verdict
+-- its tables beside files: the verdict's status
 abbrev pub comparison_fault_status : ComparisonFault → ℕ
 comparison_fault_status (compared_fault.Short shortage) = 3
 comparison_fault_status (compared_fault.Stopped stop) = stop_status aim.Judges stop
@@ -80,7 +80,7 @@ comparison_from_status (Ok verdict) = compared.status_of verdict
 comparison_from_status (Err (from_fault.NoPopulation error)) = no_population_status aim.Judges error
 comparison_from_status (Err (from_fault.Fault fault)) = comparison_fault_status fault
 
--- an audit: that of its verdict, and 3 without memory or output
+-- an audit: its verdict's status, and 3 without memory or output
 abbrev pub source_status : source.Stop → ℕ
 source_status source_stop.NoMemory = 3
 source_status (source_stop.Read cause) = 2

@@ -28,8 +28,8 @@ pub fn answer_load<R: Eprint + AllocGlobal, W: Output>(
     is_flat: bool,
     writer: &mut W,
 ) -> io::Result<u8>
-    ensures { Comes (LoadRan (record { numbers = numbers.now; first = first; kinds = kinds }) is_flat
-        (W.sink writer.old) (W.sink writer.new)) load_status result }
+    ensures { Comes (LoadRan (record { numbers = numbers.now; first = first; kinds = kinds })
+        is_flat (W.sink writer.old) (W.sink writer.new)) load_status result }
 {
     let answer = run_load(rt.alloc(), numbers, first, kinds, is_flat, writer);
     tell(rt, &answer, writer)

@@ -53,8 +53,8 @@ fn tell_help<R: Print + Eprint>(rt: &R, error: &Error) -> io::Result<u8>
 /// Says why a command line is refused, or gives the help or the version that it asks for.
 pub fn tell_usage<R: Print + Eprint>(rt: &R, error: &Error) -> io::Result<u8>
     ensures no_memory { kind_of error.now ≡ kind.OutOfMemory → EndsWith 1 result }
-    ensures help { (kind_of error.now ≡ kind.DisplayHelp) ⊎ (kind_of error.now ≡ kind.DisplayVersion)
-        → IfOk result (λ status. status ≤ 1) }
+    ensures help { (kind_of error.now ≡ kind.DisplayHelp)
+        ⊎ (kind_of error.now ≡ kind.DisplayVersion) → IfOk result (λ status. status ≤ 1) }
     ensures refused { kind_of error.now ≢ kind.OutOfMemory → kind_of error.now ≢ kind.DisplayHelp
         → kind_of error.now ≢ kind.DisplayVersion → EndsWith 2 result }
 {

@@ -1,4 +1,4 @@
--- One text behind another, of which the last may not go out.
+-- One text behind another; the last may not go out.
 use Rattle.std.proofs.Common.{◌≡◌, List, ℕ, ◌++◌, Option, Result, Ok, Err, refl}
 use Rattle.oe_ports.specs.Ports.{Sink, Sent, Cut, Streams}
 use Rattle.oe_ports.proofs.Streaming.{sent_then, sent_cut, cut_more, streams_as}
@@ -13,7 +13,7 @@ pub streams_from : {T E : Type 0} (a b : Option Sink) (h i t u : List ℕ) (r : 
     → Streams a h b i t r → Streams a h b i u r
 streams_from a b h i t u r e p = streams_as a b h h i t u r refl e p
 
--- three texts, of which the first does not go out whole, the second does not, or the third may not
+-- three texts: the first or the second does not go out whole, or the third may not
 module _ (a b : Option Sink) (h t u v : List ℕ) where
   pub cut_first : Cut a h b t → Cut a h b (t ++ u ++ v)
   cut_first p = cut_more a b h (t ++ u) v (cut_more a b h t u p)

@@ -117,7 +117,7 @@ IsLacking given t (lack.Rows name) = (rows_of t name ≡ 0) × (without_rows nam
 IsLacking given t (lack.Room name) = 2 ^ 32 ≤ rows_of t name
 IsLacking given t lack.Initial = (given ≡ None) × MatchOption t.early ⊥ (HasOtherNumber t.customers)
 
--- the number of customers of the first district, by which the number of first orders is so many; none where that is
+-- the number of customers of the first district, which is the number of first orders too; none where that is
 -- lacking
 abbrev pub IsSized : Option ℕ → Facts → ℕ → Option ℕ → Type 0
 IsSized given t initial each =

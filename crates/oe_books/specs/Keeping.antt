@@ -80,7 +80,7 @@ pub record KeepsRows (t : Facts) (b : Books) : Type 0 where
   pub stocks : IsOf KeepsStocks t.stocks b.stocks
   pub initial : b.orders.kept.initial ≡ b.lines.kept.sums.initial
 
--- the books are of these facts; so many first orders were given
+-- the books are of these facts; `given` is the number of first orders that the caller gave
 pub record Keeps (given : Option ℕ) (t : Facts) (b : Books) : Type 0 where
   pub rows : KeepsRows t b
   pub initial : IsInitial given t b.initial b.orders.kept.initial

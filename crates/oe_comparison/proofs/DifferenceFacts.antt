@@ -94,7 +94,7 @@ pair_left s t (Some p) h = sym h
 
 -- ---- what was told so far
 
--- what is left of all rows that differ, behind n of them, of which the first was told
+-- what is left of all rows that differ, behind n of them: the walk told the first
 abbrev pub IsAhead : {D : Type 0} → (D → List ℕ) → List D → List D → ℕ → Told → Told → Type 0
 IsAhead line all rest zero start now = (rest ≡ all) × (now ≡ start)
 IsAhead line all rest (suc n) start now = (suc n + length rest ≡ length all) × (now ≡ with_first line all start)

@@ -68,7 +68,7 @@ pub record IsFirst {K : Type 0} (cmp : K → K → Ordering) (theirs ours : List
   pub same : AreSame their_front our_front
   pub begins : BeginsSo cmp their_rest our_rest d
 
--- No row differs exactly where all are the same; else the first that is told is the first that differs.
+-- No row differs exactly where all are the same; else the first of the list is the first row that differs.
 pub record Differences_are_first {K : Type 0} (cmp : K → K → Ordering) : Type 0 where
   pub none : (theirs ours : List (K × List (List ℕ))) → (differences cmp theirs ours ≡ []) ↔ AreSame theirs ours
   pub some : (theirs ours : List (K × List (List ℕ))) (d : Difference K) (ds : List (Difference K))

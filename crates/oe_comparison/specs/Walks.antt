@@ -4,7 +4,7 @@ use Rattle.oe_rows.specs.declared.keys.Key.{Key}
 use Rattle.oe_comparison.specs.Columns.{Other}
 use Rattle.oe_comparison.specs.Texts.{Told, with_line, column_line}
 
--- one row more differs; its line is told where it is the first
+-- one row more differs; the walk tells its line where it is the first
 abbrev pub TellsOne : {E : Type 0} → List ℕ → ℕ → Told → Told → Result ℕ E → Type 0
 TellsOne line n old new (Ok m) = (m ≡ n + 1) × (new ≡ (if n == 0 then with_line line old else old))
 TellsOne line n old new (Err e) = Unit {0}

@@ -35,8 +35,8 @@ fn compare_table<K: TableKey + Drop, R: RowLine<K> + DumpedRow<K> + ComparedRow 
     report: &mut Report,
 ) -> Result<(), Stop>
     ensures { OnOk result (TableCompared format K.cmp R.key_of R.spells R.own_table
-        (IsTold R.own_table K.cmp R.key_of R.columns) (S.source source.old) (S.source source.new) faults.old
-        faults.new ours.entry report.old report.new) }
+        (IsTold R.own_table K.cmp R.key_of R.columns) (S.source source.old) (S.source source.new)
+        faults.old faults.new ours.entry report.old report.new) }
 {
     let theirs = match read_table_as::<K, R, S>(alloc, format, source, faults) {
         Ok(theirs) => theirs,

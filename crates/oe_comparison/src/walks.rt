@@ -1,5 +1,5 @@
-//! A file's rows beside a table's, both in the order of their keys: the first that differs is told,
-//! and how many more do.
+//! A file's rows beside a table's, both in the order of their keys: a walk tells the first that
+//! differs, and counts the others.
 ghost use Rattle.std.specs.Prelude.{◌≡◌, ◌+◌, OnOk, IfOk};
 ghost use Rattle.oe_comparison.specs.Columns.{shown, first_other};
 ghost use Rattle.oe_comparison.specs.Tables.{IsTold};

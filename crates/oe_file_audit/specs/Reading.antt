@@ -15,7 +15,7 @@ use Rattle.oe_file_audit.specs.declared.reading.Spelled.{Spelled}
 use Rattle.oe_file_audit.specs.declared.reading.TableSource.{TableSource}
 use Rattle.oe_file_audit.specs.declared.reading.Unread.{Unread}
 
--- the books are of these facts; so many first orders were given
+-- the books are of these facts; `given` is the number of first orders that the caller gave
 abbrev pub Holds : Option ℕ → Entered → List Fact → Type 0
 Holds given e facts = Keeps given (parted facts) e.books
 

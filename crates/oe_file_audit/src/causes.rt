@@ -97,7 +97,7 @@ fn are_shifted(faults: &[SourceFault]) -> bool
     follow && is_misfit(misfit.column, &second.wrong) && is_misfit(misfit.column, &third.wrong)
 }
 
-/// Gives the likely cause of a table file's faults, of which the first are given.
+/// Gives the likely cause of a table file's faults, by the first of them.
 pub fn cause_of(format: Format, faults: &[SourceFault]) -> Option<Cause>
     ensures { result ≡ cause_of format faults.now }
 {

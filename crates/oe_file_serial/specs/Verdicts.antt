@@ -51,8 +51,8 @@ pub record IsFirstOther (b : Between system) (lines : List (List ℕ)) (number :
   pub agree : AreSerial b before mid
   pub differs : Differs mid line theirs ours
 
--- all lines agree, are so many, and end there; or one is the first that does not agree, and a line before it is told
--- that changed a row, or none is
+-- all n lines agree, and end there; or one is the first that does not agree, and the verdict names a line before it
+-- that changed a row, or none
 abbrev pub IsVerdict : Between system → List (List ℕ) → Verdict → List ℕ → Between system → Type 0
 IsVerdict b lines (verdict.Serial n) ours end = AreSerial b lines end × (n ≡ length lines)
 IsVerdict b lines (verdict.Differs number theirs last) ours end =

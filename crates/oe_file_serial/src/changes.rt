@@ -1,8 +1,8 @@
 //! Which line changed a row last. Nothing here takes memory or can fail.
-ghost use Rattle.std.specs.Prelude.{◌≡◌, ◌≤◌, ◌+◌, ◌⊎◌, Some, length, IfSome, IsTrue};
+ghost use Rattle.std.specs.Prelude.{◌≤◌, ◌+◌, length, IfSome, IsTrue};
 ghost use Rattle.std.specs.List.{All};
 ghost use Rattle.oe_file_serial.specs.Files.{IsTold, lines_of};
-ghost use Rattle.oe_file_serial.specs.Changes.{TellsTransaction, ChangesRow, IsChange};
+ghost use Rattle.oe_file_serial.specs.Changes.{TellsTransaction, ChangesRow, IsLater, IsChange};
 
 use crate::lines::{Asked, read_words, told};
 use oe_reply_words::{Change, changes, parted_at, row_told};
@@ -42,8 +42,7 @@ fn changed(line: &[u8], row: &Key) -> bool
 // Gives a line's change of a row, or else the last before it.
 fn later(line: &[u8], row: &Key, number: u128, last: Option<Change>) -> Option<Change>
     requires { length line.now ≤ 1_024 }
-    ensures { (result ≡ last)
-        ⊎ ((result ≡ Some (record { row = row.now; line = number })) × ChangesRow line.now row.now) }
+    ensures { IsLater line.now row.now number last result }
 {
     if changed(line, row) {
         Some(Change {
@@ -74,8 +73,8 @@ fn changed_before(lines: &[u8], count: u128, row: &Key) -> Option<Change>
     last
 }
 
-/// Finds the last of the first `count` lines whose transaction changed the row that the first word
-/// of a line tells of which differs from `ours`.
+/// Finds the row of the first word in which a line differs from `ours`, and the last of the first
+/// `count` lines that changed this row.
 pub(crate) fn last_change(lines: &[u8], count: u128, line: &[u8], ours: &[u8]) -> Option<Change>
     requires told { All IsTold (lines_of lines.now) }
     requires short { length line.now ≤ 1_024 }

@@ -30,7 +30,7 @@ cut_off a b c i text s k = cut_as a c [] (text ++ []) text (append-nil text) (se
 
 -- A SCRIPT SO FAR
 
--- lines were told that led to this world, and to so many terminals that have begun; they are written or wait
+-- the load told lines that led to this world, and to `begun` terminals that have begun; it wrote them, or they wait
 abbrev pub Standing : Plan → Option Sink → Option Sink → List ℕ → World system → (ℕ → ℕ) → ℕ → Type 0
 Standing p a b i w s begun =
     (cs : List Command) × IsScript p cs w s × Phase p begun cs s × Sent a [] b i (script_text p cs)

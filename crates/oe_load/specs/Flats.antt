@@ -26,11 +26,11 @@ words_of (asked.Query q) = query_words q
 abbrev pub flat_text : ℕ → Asked → List ℕ
 flat_text t a = joined (decimal t ∷ words_of a) ++ 10 ∷ []
 
--- the terminal that comes so many behind one, round
+-- the terminal that comes this number of places behind one, round
 abbrev pub behind : Plan → ℕ → ℕ → ℕ
 behind p t n = (t - 1 + n) % p.numbers.terminals + 1
 
--- the first of so many terminals that has requests left, behind `before` others from one on
+-- the first of this number of terminals that has requests left, behind `before` others from one on
 abbrev pub left_behind : Plan → (ℕ → ℕ) → ℕ → ℕ → ℕ → Option ℕ
 left_behind p served t before zero = None
 left_behind p served t before (suc n) =

@@ -37,7 +37,7 @@ numbers_to (suc n) = numbers_to n ++ suc n ∷ []
 abbrev pub BeginTogether : Plan → List Command → Type 0
 BeginTogether p cs = (rest : List ℕ) × (first_begun cs ≡ numbers_to p.numbers.terminals ++ rest)
 
--- A line where the first `begun` terminals have begun, or have no transaction; it leaves so many. The next terminal
+-- A line where the first `begun` terminals have begun, or have no transaction; it leaves the last number. The next one
 -- begins or reads; where it has read its last, it has no transaction. Once all have begun a line may be any.
 pub data Opens (p : Plan) (begun : ℕ) (served : ℕ → ℕ) : Command → (ℕ → ℕ) → ℕ → Type 0 where
   begins : (q : Request) → begun < p.numbers.terminals

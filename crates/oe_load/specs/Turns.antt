@@ -55,7 +55,7 @@ begun_after p begun after outcome.Begun = suc begun
 begun_after p begun after outcome.Done = if after (suc begun) == p.numbers.requests then suc begun else begun
 begun_after p begun after (outcome.Waits u) = begun
 
--- A line was told, and leaves so many terminals that have begun; or nothing was written.
+-- The load told a line, and `now` terminals have begun behind it; or it wrote nothing.
 abbrev pub Steps : Plan → ℕ → World system → (ℕ → ℕ) → List ℕ → ℕ → World system → (ℕ → ℕ) → List ℕ → Type 0
 Steps p begun w served text now v after more =
     (c : Command) × Told p w served c v after × Opens p begun served c after now × (more ≡ text ++ line_text c)

@@ -6,8 +6,8 @@ use Rattle.oe_rows.specs.declared.scales.Scale.{Scale}
 use Rattle.oe_numbers.specs.declared.drives.DriveNumbers.{DriveNumbers}
 use Rattle.oe_numbers.specs.declared.drives.LoadNumbers.{LoadNumbers}
 
--- Each number is in its range: the population's scale, the extents, the terminals, the requests of each, of which there
--- are at most `most`, and the seed.
+-- Each number is in its range: the population's scale, the extents, the terminals, the requests of each (at most
+-- `most`), and the seed.
 abbrev pub AreNumbers : ℕ → Scale → ℕ → ℕ → ℕ → ℕ → Type 0
 AreNumbers most scale extents terminals requests seed =
     IsInRange 1 16 scale.warehouses

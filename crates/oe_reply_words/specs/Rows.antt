@@ -56,7 +56,7 @@ changes_customer (request.Deliveries q) reply k = (q.warehouse.warehouse == k.wa
 changes_customer (request.Rename q) reply k = is_customer q.customer k
 changes_customer (request.NewOrder q) reply k = false
 
--- an order of which a line takes from the stock (clause 2.4.2.2)
+-- an order with a line that takes from the stock (clause 2.4.2.2)
 abbrev pub changes_stock : Request → StockKey → Bool
 changes_stock (request.NewOrder q) k = list_any (is_ordered k) q.lines
 changes_stock q k = false

@@ -129,7 +129,7 @@ fn changes_customer(request: &Request, reply: &[u8], key: &CustomerKey) -> bool
     }
 }
 
-// Tells whether a request changes a STOCK row: an order of which a line takes from it (clause
+// Tells whether a request changes a STOCK row: an order with a line that takes from it (clause
 // 2.4.2.2).
 fn changes_stock(request: &Request, key: &StockKey) -> bool
     ensures { result ≡ changes_stock request.now key.now }

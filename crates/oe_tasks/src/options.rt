@@ -213,7 +213,7 @@ fn number_in<const LOW: u32>(said: Option<Number<LOW, 4_294_967_295>>) -> Option
     }
 }
 
-/// Takes the options of a load of so many requests a terminal; none where others are said, or where
+/// Takes the options of a load of that number of requests a terminal; none where others are said, or where
 /// the number of the last request is past 1,000,000,000.
 pub(crate) fn load_options(o: &Options, requests: Ordinal) -> Option<LoadOptions>
     ensures { MatchOption result
