@@ -4,3 +4,4 @@ pub mod Statuses
 pub mod Notes
 pub mod Opened
 pub mod Folders
+pub mod Said

@@ -1,15 +1,20 @@
 -- What a command tells on standard error of its answer; but for the line that names a fault or a file, which no
 -- clause sees.
-use Rattle.std.specs.Prelude.{ℕ, List, flat_map, Option, None, Some, Result, Ok, Err}
+use Rattle.std.specs.Prelude.{ℕ, List, flat_map, Option, None, Some, Result, Ok, Err, unwrap_or}
 use Rattle.oe_comparison.specs.Faults as table_lines
 use Rattle.oe_comparison.specs.declared.runs.Verdict as comparison
 use Rattle.oe_comparison.specs.declared.runs.Verdict.TheVariants as compared
 use Rattle.oe_comparison.specs.declared.runs.ComparisonFault.{ComparisonFault}
 use Rattle.oe_fields.specs.declared.fields.Format.{Format}
+use Rattle.oe_fields.specs.declared.fields.Format.TheVariants.{Tabs}
+use Rattle.oe_file_audit.specs.declared.faults.Side.TheVariants as side
 use Rattle.oe_file_audit.specs.Faults as audit_lines
 use Rattle.oe_file_audit.specs.declared.audits.Verdict as audit
 use Rattle.oe_file_audit.specs.declared.audits.Verdict.TheVariants as audited
 use Rattle.oe_file_audit.specs.declared.audits.AuditFault.{AuditFault}
+use Rattle.oe_from.specs.Gaps.{gap_line}
+use Rattle.oe_from.specs.declared.loads.FollowingFault.{FollowingFault}
+use Rattle.oe_from.specs.declared.loads.FollowingFault.TheVariants as following
 use Rattle.oe_from.specs.declared.scripts.OpenedFault.{OpenedFault}
 use Rattle.oe_from.specs.declared.serials.FromFault.{FromFault}
 use Rattle.oe_from.specs.declared.serials.FromFault.TheVariants as from_fault
@@ -33,11 +38,15 @@ comparison_verdict_note compared.Same = None
 comparison_verdict_note (compared.Differs count) = None
 comparison_verdict_note (compared.Unreadable faults) = Some (table_lines.faults_text faults)
 
--- the fields of a folder's files have a format, which a likely cause speaks of; a dump's have none
+-- the fields of a folder's files have a format, which a likely cause speaks of; a dump's have none, and earlier files
+-- have tabs where a dump is audited
 abbrev pub audit_verdict_note : Option Format → audit.Verdict → Option (List ℕ)
 audit_verdict_note format audited.Holds = None
 audit_verdict_note format audited.Fails = None
-audit_verdict_note format (audited.Unreadable faults) = Some (flat_map (audit_lines.source_text format) faults.items)
+audit_verdict_note format (audited.Unreadable faults) =
+    Some (flat_map (audit_lines.source_text side.Now format) faults.items)
+audit_verdict_note format (audited.UnreadableBefore faults) =
+    Some (flat_map (audit_lines.source_text side.Before (Some (unwrap_or format Tabs))) faults.items)
 audit_verdict_note format (audited.Lacking lack) = Some (audit_lines.lack_line lack)
 
 abbrev pub no_population_note : NoPopulation → Option (List ℕ)
@@ -49,6 +58,12 @@ abbrev pub script_from_note : Result (Unit {0}) (FromFault OpenedFault) → Opti
 script_from_note (Ok x) = None
 script_from_note (Err (from_fault.NoPopulation error)) = no_population_note error
 script_from_note (Err (from_fault.Fault fault)) = None
+
+abbrev pub following_note : Result (Unit {0}) (FromFault FollowingFault) → Option (List ℕ)
+following_note (Ok x) = None
+following_note (Err (from_fault.NoPopulation error)) = no_population_note error
+following_note (Err (from_fault.Fault (following.NoScale gap))) = Some (gap_line gap)
+following_note (Err (from_fault.Fault (following.Load fault))) = None
 
 abbrev pub serial_note : Result serial.Verdict SerialFault → Option (List ℕ)
 serial_note (Ok verdict) = verdict_note verdict

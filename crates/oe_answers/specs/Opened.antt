@@ -9,8 +9,12 @@ use Rattle.oe_fields.specs.declared.fields.Format.TheVariants as field_format
 use Rattle.oe_file_audit.specs.Audits.{DumpAudited, TablesAudited}
 use Rattle.oe_file_audit.specs.declared.audits.Options.{Options}
 use Rattle.oe_file_audit.specs.declared.reading.TableSource.{TableSource}
-use Rattle.oe_files.specs.Files.{nine, reader_of, LacksMemory}
-use Rattle.oe_files.specs.declared.files.TableFile.{TableFile}
+use Rattle.oe_file_loading.specs.Files.{nine, reader_of, LacksMemory}
+use Rattle.oe_file_loading.specs.declared.files.TableFile.{TableFile}
+use Rattle.oe_numbers.specs.declared.forms.Form.{Form}
+use Rattle.oe_tasks.specs.declared.options.AuditOptions.{AuditOptions}
+use Rattle.oe_from.specs.Loads.{LoadFromRan}
+use Rattle.oe_from.specs.declared.loads.Following.{Following}
 use Rattle.oe_from.specs.Scripts.{ScriptFromRan}
 use Rattle.oe_from.specs.Serials.{ComparisonFromRan, SerialFromRan}
 use Rattle.oe_comparison.specs.Runs.{ComparisonRan}
@@ -26,12 +30,16 @@ use Rattle.oe_script.specs.Session.{ScriptHeard, ScriptRan}
 use Rattle.oe_file_serial.specs.Verdicts.{SerialRan}
 use Rattle.oe_file_serial.specs.declared.origins.Origin.TheVariants as origin
 use Rattle.oe_answers.specs.Endings.{fault_status, EndsWith, EndsUnread, Comes, Tells}
-use Rattle.oe_answers.specs.Statuses.{script_status, script_from_status, serial_status, serial_from_status}
+use Rattle.oe_answers.specs.Said.{audit_options, field_format}
+use Rattle.oe_answers.specs.Statuses.{following_status, script_status, script_from_status, serial_status}
+use Rattle.oe_answers.specs.Statuses.{serial_from_status}
 use Rattle.oe_answers.specs.Statuses.{comparison_status, comparison_from_status, audit_status}
-use Rattle.oe_answers.specs.Notes.{script_from_note, serial_note, serial_from_note, comparison_note}
+use Rattle.oe_answers.specs.Notes.{following_note, script_from_note, serial_note, serial_from_note, comparison_note}
 use Rattle.oe_answers.specs.Notes.{comparison_from_note, audit_note}
 use Rattle.oe_answers.specs.declared.endings.Aim.{Aim}
 use Rattle.oe_answers.specs.declared.endings.Aim.TheVariants as aim
+use Rattle.oe_answers.specs.declared.folders.Audited.{Audited}
+use Rattle.oe_answers.specs.declared.folders.Audited.TheVariants as audited
 
 -- nothing is known of what is left to read of files that the system opened
 abbrev pub unknown : Nine
@@ -96,6 +104,12 @@ module _ {E : Type 0} (old new told told' : Option Sink) where
   OpenedAnswered source extents layout from (Err cause) after result =
       (after ≡ Err cause) × Silent (λ n. n ≡ 1) result
 
+  -- a load on a folder's tables: the nine are open, and it was written; or one is not
+  abbrev pub FollowingAnswered : {R F : Type 0} → Sources (TableFile R F) → Following → Form → Result ℕ E → Type 0
+  FollowingAnswered from f form result = IfOpen aim.Answers from
+      (Tells (LoadFromRan format.Dump unknown unknown f form old new) following_status following_note told told' result)
+      result
+
   -- FILES OF REPLIES
 
   abbrev pub Decided : List ℕ → Result ℕ E → Type 0
@@ -133,25 +147,47 @@ module _ {E : Type 0} (old new told told' : Option Sink) where
 
   -- AUDITS
 
+  -- the earlier files are open, if they are given, and the audit went on behind them; or they are not, or their folder
+  -- can't be read
+  abbrev pub BehindEarlier : {S : Type 0} → Option (Result (Option (Vec (TableSource S) Global)) Error)
+      → (Option (List (TableSource S)) → Type 0) → Result ℕ E → Type 0
+  BehindEarlier None Then result = Then None
+  BehindEarlier (Some (Ok (Some sources))) Then result = Then (Some sources.items)
+  BehindEarlier (Some (Ok None)) Then result = Silent (λ n. n ≡ 2) result
+  BehindEarlier (Some (Err cause)) Then result = (new ≡ old) × (told' ≡ told) × EndsUnread cause result
+
   -- the files of all tables are open, and were audited; or they are not, or the folder can't be read
   abbrev pub FolderAnswered : {S : Type 0} → (S → Option (List ℕ)) → Options → fields.Format
+      → Option (Result (Option (Vec (TableSource S) Global)) Error)
       → Result (Option (Vec (TableSource S) Global)) Error → Result ℕ E → Type 0
-  FolderAnswered remaining options format (Ok (Some sources)) result =
-      Tells (TablesAudited remaining options format sources.items old new) audit_status (audit_note (Some format))
-      told told' result
-  FolderAnswered remaining options format (Ok None) result = Silent (λ n. n ≡ 2) result
-  FolderAnswered remaining options format (Err cause) result = (new ≡ old) × (told' ≡ told) × EndsUnread cause result
+  FolderAnswered remaining options format before (Ok (Some sources)) result =
+      BehindEarlier before
+      (λ earlier. Tells (TablesAudited remaining options format earlier sources.items old new) audit_status
+      (audit_note (Some format)) told told' result) result
+  FolderAnswered remaining options format before (Ok None) result = Silent (λ n. n ≡ 2) result
+  FolderAnswered remaining options format before (Err cause) result =
+      (new ≡ old) × (told' ≡ told) × EndsUnread cause result
 
   -- the dump is open, and was audited; but no dump is of comma-separated values
-  abbrev pub DumpAnsweredAs : fields.Format → Options → Option (List ℕ) → Option (List ℕ) → Result ℕ E → Type 0
-  DumpAnsweredAs field_format.Commas options a b result = Silent (λ n. n ≡ 2) result
-  DumpAnsweredAs field_format.Tabs options a b result =
-      Tells (DumpAudited options a b old new) audit_status (audit_note None) told told' result
+  abbrev pub DumpAnsweredAs : {B : Type 0} → (B → Option (List ℕ)) → fields.Format → Options
+      → Option (Result (Option (Vec (TableSource B) Global)) Error) → Option (List ℕ) → Result ℕ E → Type 0
+  DumpAnsweredAs of_earlier field_format.Commas options before a result = Silent (λ n. n ≡ 2) result
+  DumpAnsweredAs of_earlier field_format.Tabs options before a result =
+      BehindEarlier before
+      (λ earlier. Tells (DumpAudited of_earlier options earlier a old new) audit_status (audit_note None) told told'
+      result) result
 
-  abbrev pub DumpAnswered : {S : Type 0} → (S → Option (List ℕ)) → fields.Format → Options → Result S Error
-      → Result S Error → Result ℕ E → Type 0
-  DumpAnswered remaining format options (Ok a) (Ok b) result =
-      DumpAnsweredAs format options (remaining a) (remaining b) result
-  DumpAnswered remaining format options (Ok a) (Err cause) result = ⊥
-  DumpAnswered remaining format options (Err cause) after result =
-      (after ≡ Err cause) × (new ≡ old) × (told' ≡ told) × EndsUnread cause result
+  abbrev pub DumpAnswered : {B S : Type 0} → (B → Option (List ℕ)) → (S → Option (List ℕ)) → fields.Format → Options
+      → Option (Result (Option (Vec (TableSource B) Global)) Error) → Result S Error → Result ℕ E → Type 0
+  DumpAnswered of_earlier remaining format options before (Ok a) result =
+      DumpAnsweredAs of_earlier format options before (remaining a) result
+  DumpAnswered of_earlier remaining format options before (Err cause) result =
+      (new ≡ old) × (told' ≡ told) × EndsUnread cause result
+
+  -- of either
+  abbrev pub AuditAnswered : {F D : Type 0} → (F → Option (List ℕ)) → (D → Option (List ℕ)) → AuditOptions
+      → Option (Result (Option (Vec (TableSource F) Global)) Error) → Audited F D → Result ℕ E → Type 0
+  AuditAnswered of_file of_dump said before (audited.Folder sources) result =
+      FolderAnswered of_file (audit_options said) (field_format said.separator) before sources result
+  AuditAnswered of_file of_dump said before (audited.Dump source) result =
+      DumpAnswered of_file of_dump (field_format said.separator) (audit_options said) before source result

@@ -11,6 +11,8 @@ use Rattle.oe_file_audit.specs.declared.audits.AuditFault.TheVariants as audit_f
 use Rattle.oe_file_audit.specs.declared.reading.Unread.{Unread}
 use Rattle.oe_filelines.specs.declared.lines.Stop as source
 use Rattle.oe_filelines.specs.declared.lines.Stop.TheVariants as source_stop
+use Rattle.oe_from.specs.declared.loads.FollowingFault.{FollowingFault}
+use Rattle.oe_from.specs.declared.loads.FollowingFault.TheVariants as following
 use Rattle.oe_from.specs.declared.scripts.OpenedFault.{OpenedFault}
 use Rattle.oe_from.specs.declared.serials.FromFault.{FromFault}
 use Rattle.oe_from.specs.declared.serials.FromFault.TheVariants as from_fault
@@ -55,6 +57,13 @@ script_from_status (Ok x) = 0
 script_from_status (Err (from_fault.NoPopulation error)) = no_population_status aim.Answers error
 script_from_status (Err (from_fault.Fault fault)) = 1
 
+-- a load on a folder's tables: 2 where they lack something of a load
+abbrev pub following_status : Result (Unit {0}) (FromFault FollowingFault) → ℕ
+following_status (Ok x) = 0
+following_status (Err (from_fault.NoPopulation error)) = no_population_status aim.Answers error
+following_status (Err (from_fault.Fault (following.NoScale gap))) = 2
+following_status (Err (from_fault.Fault (following.Load fault))) = 1
+
 -- a file of replies: its verdict's status, and 3 without memory, extents or output
 abbrev pub serial_status : Result serial.Verdict SerialFault → ℕ
 serial_status (Ok verdict) = decided.status_of verdict
@@ -91,5 +100,6 @@ unread_status unread = source_status unread.stop
 abbrev pub audit_status : Result audit.Verdict AuditFault → ℕ
 audit_status (Ok verdict) = audited.status_of verdict
 audit_status (Err (audit_fault.Unread unread)) = unread_status unread
+audit_status (Err (audit_fault.UnreadBefore unread)) = unread_status unread
 audit_status (Err audit_fault.NoMemory) = 3
 audit_status (Err audit_fault.Write) = 3

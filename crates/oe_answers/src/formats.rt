@@ -1,46 +1,39 @@
-//! The formats of files, by whether they are comma-separated values, and the form of a report.
-ghost use Rattle.std.specs.Prelude.{◌≡◌, if◌then◌else◌};
-ghost use Rattle.oe_fields.specs.declared.fields.Format.TheVariants as field;
-ghost use Rattle.oe_file_tables.specs.declared.formats.Format.TheVariants as row;
-ghost use Rattle.oe_audit_report.specs.declared.forms.Form.TheVariants as form;
+//! What the options of a command line come to: the formats of files, and the form of a report.
+ghost use Rattle.std.specs.Prelude.{◌≡◌};
+ghost use Rattle.oe_answers.specs.Said.{row_format, field_format, audit_options};
 
 use oe_file_audit::{Form, Options};
+use oe_tasks::{AuditOptions, Separator};
 
 /// Gives the format of files whose rows are compared or loaded.
-pub fn row_format(is_csv: bool) -> oe_file_tables::Format
-    ensures { result ≡ (if is_csv then row.Csv else row.Dump) }
+pub(crate) fn row_format(separator: Separator) -> oe_file_tables::Format
+    ensures { result ≡ row_format separator }
 {
-    if is_csv {
-        oe_file_tables::Format::Csv
-    } else {
-        oe_file_tables::Format::Dump
+    match separator {
+        Separator::Tabs => oe_file_tables::Format::Dump,
+        Separator::Commas => oe_file_tables::Format::Csv,
     }
 }
 
 /// Gives the format of files that are audited.
-pub fn field_format(is_csv: bool) -> oe_fields::Format
-    ensures { result ≡ (if is_csv then field.Commas else field.Tabs) }
+pub(crate) fn field_format(separator: Separator) -> oe_fields::Format
+    ensures { result ≡ field_format separator }
 {
-    if is_csv {
-        oe_fields::Format::Commas
-    } else {
-        oe_fields::Format::Tabs
+    match separator {
+        Separator::Tabs => oe_fields::Format::Tabs,
+        Separator::Commas => oe_fields::Format::Commas,
     }
 }
 
 /// Gives the options of an audit: how many orders the population had in each district, behind how
-/// many rows each list is cut, and whether the report is JSON.
-pub fn audit_options(initial: Option<u32>, first: Option<u32>, is_json: bool) -> Options
-    ensures { result ≡ (record {
-      initial = initial;
-      first = first;
-      form = (if is_json then form.Json else form.Text);
-    }) }
+/// many rows each list is cut, and the form of the report.
+pub(crate) fn audit_options(said: &AuditOptions) -> Options
+    ensures { result ≡ audit_options said.now }
 {
-    let form = if is_json { Form::Json } else { Form::Text };
+    let form = if said.is_json { Form::Json } else { Form::Text };
     Options {
-        initial,
-        first,
+        initial: said.initial,
+        first: said.first,
         form,
     }
 }

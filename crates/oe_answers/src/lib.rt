@@ -8,19 +8,20 @@
 pub mod audits;
 pub mod endings;
 pub mod folders;
-pub mod formats;
+mod formats;
 pub mod loads;
 mod nine;
 mod notes;
+pub mod progress;
 pub mod scripts;
 pub mod serials;
 pub mod usage;
 
-pub use audits::{audit_dump, audit_folder};
+pub use audits::answer_audit;
 pub use endings::{Aim, Output, fail};
-pub use folders::open_folder;
-pub use formats::{audit_options, field_format, row_format};
-pub use loads::answer_load;
-pub use scripts::{explain, opened_script, script};
+pub use folders::{Audited, BeforeFolder, open_audited, open_before};
+pub use loads::{answer_following, answer_load};
+pub use progress::{Progress, Watched};
+pub use scripts::{explain, open_script, opened_script, script};
 pub use serials::{Replies, serial};
 pub use usage::{refuse, tell_usage};

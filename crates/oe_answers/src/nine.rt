@@ -8,9 +8,8 @@ ghost use Rattle.oe_answers.specs.Statuses.{stop_status, no_population_status};
 
 use crate::endings::{Aim, fail};
 use oe_comparison::write_faults;
-use oe_file_loading::{LoadError, Sources};
+use oe_file_loading::{LoadError, Openness, Sources, TableFile, tell_closed, tell_unread};
 use oe_file_tables::Stop;
-use oe_files::{Openness, TableFile, tell_closed, tell_unread};
 use oe_origin::{NoPopulation, write_lack};
 use oe_ports::faults::SystemFault;
 use oe_ports::ports::Outlet;

@@ -4,7 +4,7 @@ ghost use Rattle.oe_answers.specs.Notes.{verdict_note, comparison_verdict_note, 
 
 use oe_comparison::Verdict as ComparisonVerdict;
 use oe_fields::Format;
-use oe_file_audit::Verdict as AuditVerdict;
+use oe_file_audit::{Side, Verdict as AuditVerdict};
 use oe_file_serial::Verdict;
 use oe_ports::ports::Outlet;
 
@@ -40,7 +40,16 @@ pub(crate) fn tell_audit<E: Outlet>(format: Option<Format>, verdict: &AuditVerdi
     match verdict {
         AuditVerdict::Holds | AuditVerdict::Fails => {}
         AuditVerdict::Unreadable(faults) => {
-            let _told = oe_file_audit::write_faults(format, faults.as_slice(), errors);
+            let _told = oe_file_audit::write_faults(Side::Now, format, faults.as_slice(), errors);
+        }
+        AuditVerdict::UnreadableBefore(faults) => {
+            let format = Some(format.unwrap_or(Format::Tabs));
+            let _told = oe_file_audit::write_faults(
+                Side::Before,
+                format,
+                faults.as_slice(),
+                errors,
+            );
         }
         AuditVerdict::Lacking(lack) => {
             let _told = oe_file_audit::write_lack(*lack, errors);

@@ -10,18 +10,24 @@ ghost use Rattle.oe_answers.specs.Statuses.{script_status, script_from_status};
 use crate::endings::{Aim, Output, fail};
 use crate::nine::{closed_status, no_population};
 use oe_explain::{Explainer, explain_script};
-use oe_file_loading::Sources;
+use oe_file_loading::{Sources, TableFile};
 use oe_file_tables::Format;
-use oe_files::TableFile;
 use oe_from::{FromFault, OpenedFault, run_script_from};
 use oe_ports::ports::{Intake, Outlet};
+use oe_ports::standard::Standard;
 use oe_rows::Layout;
 use oe_script::script::run_script;
 use oe_script::session::ScriptFault;
 use oe_values::ExtentCount;
-use std::io;
 use std::io::Read;
+use std::rt::Files;
 use std::time::Clock;
+use std::{fs, io};
+
+/// Opens the file of a script.
+pub fn open_script<R: Files>(rt: &R, name: &str) -> io::Result<Standard<R::File>> {
+    Ok(Standard(fs::open(rt, name)?))
+}
 
 // Says why the file of a script can't be opened.
 fn unopened<R: Eprint>(rt: &R, name: &str, cause: &io::Error) -> io::Result<u8>

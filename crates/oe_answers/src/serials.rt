@@ -1,27 +1,32 @@
 //! Files of replies: whether they are serial, and what differs between tables. Status 0 is that of
 //! what is serial and the same, 1 that of what is not, 2 that of what can't be judged, and 3 that
 //! of a fault.
+ghost use Rattle.std.specs.Prelude.{◌≡◌};
 ghost use Rattle.oe_answers.specs.Endings.{EndsWith, Told};
 ghost use Rattle.oe_answers.specs.Notes.{serial_note, serial_from_note};
 ghost use Rattle.oe_answers.specs.Notes.{comparison_note, comparison_from_note};
 ghost use Rattle.oe_answers.specs.Opened.{Decided, DecidedFrom, Compared, ComparedFrom};
 ghost use Rattle.oe_answers.specs.Opened.{SerialAnswered};
+ghost use Rattle.oe_answers.specs.Said.{row_format};
 ghost use Rattle.oe_answers.specs.Statuses.{serial_status, serial_from_status};
-ghost use Rattle.oe_answers.specs.Statuses.{comparison_fault_status, comparison_status, comparison_from_status};
+ghost use Rattle.oe_answers.specs.Statuses.{comparison_fault_status, comparison_status};
+ghost use Rattle.oe_answers.specs.Statuses.{comparison_from_status};
 
 use crate::endings::{Aim, Output, fail, unread};
+use crate::formats::row_format;
 use crate::nine::{closed_status, no_population, stopped};
 use crate::notes::{tell_comparison, tell_verdict};
 use oe_comparison::{ComparisonFault, Verdict as ComparisonVerdict, run_comparison};
-use oe_file_loading::Sources;
+use oe_file_loading::{Sources, TableFile};
 use oe_file_serial::{Origin, SerialFault, Verdict, run_serial};
 use oe_file_tables::Format;
-use oe_files::TableFile;
 use oe_from::{FromFault, run_comparison_from, run_serial_from};
 use oe_ports::ports::Outlet;
-use std::io;
+use oe_tasks::Separator;
 use std::io::Read;
+use std::rt::Files;
 use std::time::Clock;
+use std::{fs, io};
 
 // Names the fault of a file of replies.
 fn fault_of<R: Eprint, W: Output>(rt: &R, fault: SerialFault, writer: &W) -> io::Result<u8>
@@ -222,11 +227,23 @@ pub struct Replies<'a> {
     pub bytes: io::Result<Vec<u8>>,
 }
 
+impl<'a> Replies<'a> {
+    /// Reads the file of that name.
+    pub fn read<R: Files + AllocGlobal>(rt: &R, name: &'a str) -> Self
+        ensures { result.name ≡ name.entry }
+    {
+        Replies {
+            name,
+            bytes: fs::read(rt, name),
+        }
+    }
+}
+
 /// Tells whether replies are serial, from the population in nine files where there are such, and
 /// what differs between the tables at the end and nine others, where there are such.
 pub fn serial<'p, 'r, R: Clock + Eprint + AllocGlobal, F: Read + Drop, W: Output, E: Outlet>(
     rt: &R,
-    format: Format,
+    separator: Separator,
     replies: &Replies<'_>,
     from: &mut Option<Sources<TableFile<'p, 'r, R, F>>>,
     tables: &mut Option<Sources<TableFile<'p, 'r, R, F>>>,
@@ -234,8 +251,9 @@ pub fn serial<'p, 'r, R: Clock + Eprint + AllocGlobal, F: Read + Drop, W: Output
     errors: &mut E,
 ) -> io::Result<u8>
     ensures { SerialAnswered (W.sink writer.old) (W.sink writer.new) (E.sink errors.old)
-        (E.sink errors.new) format from.old tables.old replies.now.bytes result }
+        (E.sink errors.new) (row_format separator) from.old tables.old replies.now.bytes result }
 {
+    let format = row_format(separator);
     let bytes = match &replies.bytes {
         Ok(bytes) => bytes.as_slice(),
         Err(cause) => return unread(rt, replies.name, cause),

@@ -14,6 +14,10 @@ use Rattle.oe_books.specs.declared.parts.Condition.{Condition}
 use Rattle.oe_books.specs.declared.parts.Condition.TheVariants as condition
 use Rattle.oe_books.specs.declared.parts.Movement.{Movement}
 use Rattle.oe_books.specs.declared.parts.Movement.TheVariants as movement
+use Rattle.oe_books.specs.declared.parts.Before.{Before}
+use Rattle.oe_books.specs.declared.parts.Before.TheVariants as before
+use Rattle.oe_books.specs.declared.parts.Lasting.{Lasting}
+use Rattle.oe_books.specs.declared.parts.Lasting.TheVariants as lasting
 use Rattle.oe_audit_report.specs.declared.figures.Label.{Label}
 
 abbrev pub name_of : Check → List ℕ
@@ -41,6 +45,8 @@ name_of check.PaymentCount = codes "payment count"
 name_of check.DeliveryCount = codes "delivery count"
 name_of check.AllLocal = codes "all local"
 name_of check.Quantity = codes "quantity"
+name_of check.StockBefore = codes "stock before"
+name_of check.ColumnsBefore = codes "columns before"
 
 -- what the key is of, the names of both figures, and whether these are money
 abbrev pub Names : Type 0
@@ -100,9 +106,22 @@ movement_label movement.DeliveryCount = ([], codes "C_DELIVERY_CNT", codes "deli
 movement_label movement.AllLocal = ([], codes "remote by O_ALL_LOCAL", codes "by its lines", false)
 movement_label movement.Quantity = ([], codes "S_QUANTITY", codes "bound", false)
 
+abbrev pub lasting_name : Lasting → List ℕ
+lasting_name lasting.Warehouses = codes "warehouse"
+lasting_name lasting.Districts = codes "district"
+lasting_name lasting.Customers = codes "customer"
+lasting_name lasting.Items = codes "item"
+lasting_name lasting.Stocks = codes "stock"
+
+abbrev pub before_label : Before → Names
+before_label (before.Gone table) = (lasting_name table, codes "rows before", codes "rows now", false)
+before_label (before.Changed table) = (lasting_name table, codes "print before", codes "print now", false)
+before_label before.Moved = ([], codes "(S_QUANTITY + S_YTD) mod 91", codes "now", false)
+
 abbrev pub label_of : Part → Names
 label_of (part.Once p) = once_label p
 label_of (part.Reference p) = reference_label p
 label_of (part.Extent p) = extent_label p
 label_of (part.Condition p) = condition_label p
 label_of (part.Movement p) = movement_label p
+label_of (part.Before p) = before_label p

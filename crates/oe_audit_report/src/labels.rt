@@ -1,9 +1,9 @@
 //! The names of checks, and of the two figures that each part of a check compares.
 ghost use Rattle.std.specs.Prelude.{◌≡◌, ◌≤◌, [], true, false, length};
-ghost use Rattle.oe_audit_report.specs.Labels.{name_of, once_label, reference_label, extent_label, condition_label, movement_label, label_of, named};
+ghost use Rattle.oe_audit_report.specs.Labels.{name_of, once_label, reference_label, extent_label, condition_label, movement_label, lasting_name, before_label, label_of, named};
 
 use crate::figures::Label;
-use oe_books::{Check, Condition, Extent, Movement, Once, Part, Reference};
+use oe_books::{Before, Check, Condition, Extent, Lasting, Movement, Once, Part, Reference};
 
 /// Gives the name of a check.
 pub fn check_name(check: Check) -> &'static str
@@ -35,6 +35,8 @@ pub fn check_name(check: Check) -> &'static str
         Check::DeliveryCount => "delivery count",
         Check::AllLocal => "all local",
         Check::Quantity => "quantity",
+        Check::StockBefore => "stock before",
+        Check::ColumnsBefore => "columns before",
     }
 }
 
@@ -148,6 +150,31 @@ fn movement(part: Movement) -> Label
     }
 }
 
+// Gives what a key is of.
+fn lasting_name(table: Lasting) -> &'static str
+    ensures value { result.now ≡ lasting_name table }
+    ensures most { length result.now ≤ 10 }
+{
+    match table {
+        Lasting::Warehouses => "warehouse",
+        Lasting::Districts => "district",
+        Lasting::Customers => "customer",
+        Lasting::Items => "item",
+        Lasting::Stocks => "stock",
+    }
+}
+
+// Gives the label of a part.
+fn before(part: Before) -> Label
+    ensures { named result ≡ before_label part }
+{
+    match part {
+        Before::Gone(table) => counts(lasting_name(table), "rows before", "rows now"),
+        Before::Changed(table) => counts(lasting_name(table), "print before", "print now"),
+        Before::Moved => counts("", "(S_QUANTITY + S_YTD) mod 91", "now"),
+    }
+}
+
 /// Gives the label of a part of a check.
 pub fn label_of(part: Part) -> Label
     ensures { named result ≡ label_of part }
@@ -158,5 +185,6 @@ pub fn label_of(part: Part) -> Label
         Part::Extent(part) => extent(part),
         Part::Condition(part) => condition(part),
         Part::Movement(part) => movement(part),
+        Part::Before(part) => before(part),
     }
 }

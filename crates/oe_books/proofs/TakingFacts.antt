@@ -1,5 +1,5 @@
 -- A CUSTOMER, an ORDER or an ORDER-LINE row more, by which the number of first orders is known otherwise.
-use Rattle.std.proofs.Common.{◌≡◌, ℕ, [], ◌∷◌, ◌++◌, Option, sym, subst, ◌∙◌}
+use Rattle.std.proofs.Common.{◌≡◌, ℕ, Bool, [], ◌∷◌, ◌++◌, Option, sym, subst, ◌∙◌}
 use Rattle.oe_facts.specs.declared.facts.CustomerFact.{CustomerFact}
 use Rattle.oe_facts.specs.declared.facts.OrderFact.{OrderFact}
 use Rattle.oe_facts.specs.declared.facts.OrderLineFact.{OrderLineFact}
@@ -78,4 +78,22 @@ module _ (g : Option ℕ) (t : Facts) (b : Books) where
       initial = h.initial ∙ sym same;
     };
     initial = line_more g t x b.initial b.orders.kept.initial begun;
+  }
+
+  -- whether the books are lost is in no sum
+  pub told_lost : (l : Bool) → Keeps g t b → Keeps g t (record b { is_lost = l })
+  told_lost l h = record {
+    rows = record {
+      warehouses = h.rows.warehouses;
+      districts = h.rows.districts;
+      customers = h.rows.customers;
+      histories = h.rows.histories;
+      new_orders = h.rows.new_orders;
+      orders = h.rows.orders;
+      lines = h.rows.lines;
+      items = h.rows.items;
+      stocks = h.rows.stocks;
+      initial = h.rows.initial;
+    };
+    initial = h.initial;
   }

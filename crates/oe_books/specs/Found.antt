@@ -46,7 +46,13 @@ use Rattle.oe_books.specs.declared.findings.TableRows.{TableRows}
 use Rattle.oe_books.specs.declared.findings.Results.{Results}
 use Rattle.oe_books.specs.declared.findings.PartFound.{PartFound}
 use Rattle.oe_books.specs.declared.findings.CheckFound.{CheckFound}
-use Rattle.oe_books.specs.Parts.{parts_of, all_checks}
+use Rattle.oe_books.specs.declared.parts.Lasting.{Lasting}
+use Rattle.oe_books.specs.declared.parts.Lasting.TheVariants as lasting
+use Rattle.oe_books.specs.declared.parts.Before.{Before}
+use Rattle.oe_books.specs.declared.parts.Before.TheVariants as before
+use Rattle.oe_books.specs.Parts.{parts_of}
+use Rattle.oe_earlier.specs.Changes.{gone, changed, moved}
+use Rattle.oe_earlier.specs.Traces.{Traced}
 use Rattle.oe_books.specs.Facts.{Facts, rows_of}
 use Rattle.oe_books.specs.Closing.{tables}
 use Rattle.oe_books.specs.Keys.{of_number, of_district, of_customer, of_order, of_stock, of_block}
@@ -88,6 +94,27 @@ initial_of s = s.books.orders.kept.initial
 -- how many rows each table has
 abbrev pub rows_each : Facts → List TableRows
 rows_each t = map (λ name. record { table = name; rows = rows_of t name }) tables
+
+-- Of what earlier rows brought to their keys, and of what rows bring now.
+module _ (b n : Traced) where
+  abbrev pub AreGone : Lasting → List Finding → Type 0
+  AreGone lasting.Warehouses = OfNumbers (gone nat_eq b.warehouses n.warehouses)
+  AreGone lasting.Districts = OfDistricts (gone same_district b.districts n.districts)
+  AreGone lasting.Customers = OfCustomers (gone same_customer b.customers n.customers)
+  AreGone lasting.Items = OfNumbers (gone nat_eq b.items n.items)
+  AreGone lasting.Stocks = OfStocks (gone same_stock b.stocks n.stocks)
+
+  abbrev pub AreChanged : Lasting → List Finding → Type 0
+  AreChanged lasting.Warehouses = OfNumbers (changed nat_eq b.warehouses n.warehouses)
+  AreChanged lasting.Districts = OfDistricts (changed same_district b.districts n.districts)
+  AreChanged lasting.Customers = OfCustomers (changed same_customer b.customers n.customers)
+  AreChanged lasting.Items = OfNumbers (changed nat_eq b.items n.items)
+  AreChanged lasting.Stocks = OfStocks (changed same_stock b.stocks n.stocks)
+
+  abbrev pub IsCompared : Before → List Finding → Type 0
+  IsCompared (before.Gone table) = AreGone table
+  IsCompared (before.Changed table) = AreChanged table
+  IsCompared before.Moved = OfStocks (moved b.residues n.residues)
 
 -- Of these facts, where the population had `initial` orders in each district, and a district has `each` customers.
 module _ (initial each : ℕ) (t : Facts) where
@@ -142,22 +169,24 @@ module _ (initial each : ℕ) (t : Facts) where
   Moves movement.AllLocal = OfOrders (all_local t.orders t.lines)
   Moves movement.Quantity = OfStocks (stock_quantity t.stocks)
 
-  -- the list of a part of a check
-  abbrev pub IsFound : Part → List Finding → Type 0
-  IsFound (part.Once p) = AreOnce p
-  IsFound (part.Reference p) = Refers p
-  IsFound (part.Extent p) = Extends p
-  IsFound (part.Condition p) = Fails p
-  IsFound (part.Movement p) = Moves p
+  module _ (b n : Traced) where
+    -- the list of a part of a check
+    abbrev pub IsFound : Part → List Finding → Type 0
+    IsFound (part.Once p) = AreOnce p
+    IsFound (part.Reference p) = Refers p
+    IsFound (part.Extent p) = Extends p
+    IsFound (part.Condition p) = Fails p
+    IsFound (part.Movement p) = Moves p
+    IsFound (part.Before p) = IsCompared b n p
 
-  -- the lists of these parts, one of each
-  abbrev pub ArePartsFound : List Part → List PartFound → Type 0
-  ArePartsFound = AllZip (λ part f. (f.part ≡ part) × IsFound part f.found.items)
+    -- the lists of these parts, one of each
+    abbrev pub ArePartsFound : List Part → List PartFound → Type 0
+    ArePartsFound = AllZip (λ part f. (f.part ≡ part) × IsFound part f.found.items)
 
-  -- the lists of these checks, part by part
-  abbrev pub AreChecksFound : List Check → List CheckFound → Type 0
-  AreChecksFound = AllZip (λ check f. (f.check ≡ check) × ArePartsFound (parts_of check) f.parts.items)
+    -- the lists of these checks, part by part
+    abbrev pub AreChecksFound : List Check → List CheckFound → Type 0
+    AreChecksFound = AllZip (λ check f. (f.check ≡ check) × ArePartsFound (parts_of check) f.parts.items)
 
-  -- how many rows each table has, and the lists of all checks
-  abbrev pub AreResults : Results → Type 0
-  AreResults r = (r.rows ≡ rows_each t) × AreChecksFound all_checks r.checks.items
+    -- how many rows each table has, and the lists of these checks
+    abbrev pub AreResults : List Check → Results → Type 0
+    AreResults checks r = (r.rows ≡ rows_each t) × AreChecksFound checks r.checks.items

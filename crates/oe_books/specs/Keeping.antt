@@ -1,5 +1,6 @@
 -- What is kept of the facts of nine tables.
-use Rattle.std.specs.Prelude.{◌≡◌, ℕ, ◌<◌, ◌-◌, ◌^◌, min, List, [], length, Option, Some, None, unwrap_or, MatchOption}
+use Rattle.std.specs.Prelude.{◌≡◌, ℕ, ◌<◌, ◌-◌, ◌^◌, min, List, [], length, Option, Some, None, unwrap_or}
+use Rattle.std.specs.Prelude.{MatchOption, true}
 use Rattle.oe_facts.specs.declared.facts.CustomerFact.{CustomerFact}
 use Rattle.oe_facts.specs.declared.facts.DistrictFact.{DistrictFact}
 use Rattle.oe_facts.specs.declared.facts.HistoryFact.{HistoryFact}
@@ -84,6 +85,10 @@ pub record KeepsRows (t : Facts) (b : Books) : Type 0 where
 pub record Keeps (given : Option ℕ) (t : Facts) (b : Books) : Type 0 where
   pub rows : KeepsRows t b
   pub initial : IsInitial given t b.initial b.orders.kept.initial
+
+-- memory was refused while a row was taken, which may be in part of the sums
+abbrev pub IsLost : Books → Type 0
+IsLost b = b.is_lost ≡ true
 
 -- behind a further CUSTOMER row
 abbrev pub behind_customer : Initial → Initial

@@ -1,7 +1,7 @@
 -- The checks, and their parts.
-use Rattle.std.specs.Prelude.{List, [], ◌∷◌}
+use Rattle.std.specs.Prelude.{List, [], ◌∷◌, ◌++◌}
 use Rattle.oe_books.specs.declared.parts.Part.{Part}
-use Rattle.oe_books.specs.declared.parts.Part.TheVariants.{Once, Reference, Extent, Condition, Movement}
+use Rattle.oe_books.specs.declared.parts.Part.TheVariants.{Once, Reference, Extent, Condition, Movement, Before}
 use Rattle.oe_books.specs.declared.parts.Check.{Check}
 use Rattle.oe_books.specs.declared.parts.Check.TheVariants as check
 use Rattle.oe_books.specs.declared.parts.Once.TheVariants as once
@@ -9,6 +9,15 @@ use Rattle.oe_books.specs.declared.parts.Reference.TheVariants as reference
 use Rattle.oe_books.specs.declared.parts.Extent.TheVariants as extent
 use Rattle.oe_books.specs.declared.parts.Condition.TheVariants as condition
 use Rattle.oe_books.specs.declared.parts.Movement.TheVariants as movement
+use Rattle.oe_books.specs.declared.parts.Before.TheVariants.{Gone, Changed, Moved}
+use Rattle.oe_books.specs.declared.parts.Lasting.{Lasting}
+use Rattle.oe_books.specs.declared.parts.Lasting.TheVariants as lasting
+use Rattle.oe_books.specs.declared.parts.Asked.{Asked}
+use Rattle.oe_books.specs.declared.parts.Asked.TheVariants as asked
+
+-- of each earlier row of a table: there is still one, and its columns have the print that they had
+abbrev pub lasts : Lasting → List Part → List Part
+lasts table parts = Before (Gone table) ∷ Before (Changed table) ∷ parts
 
 abbrev pub parts_of : Check → List Part
 parts_of check.Keys =
@@ -41,6 +50,10 @@ parts_of check.PaymentCount = Movement movement.PaymentCount ∷ []
 parts_of check.DeliveryCount = Movement movement.DeliveryCount ∷ []
 parts_of check.AllLocal = Movement movement.AllLocal ∷ []
 parts_of check.Quantity = Movement movement.Quantity ∷ []
+parts_of check.StockBefore = Before (Gone lasting.Stocks) ∷ Before Moved ∷ []
+parts_of check.ColumnsBefore =
+    lasts lasting.Warehouses (lasts lasting.Districts (lasts lasting.Customers
+    (lasts lasting.Items (lasts lasting.Stocks []))))
 
 -- in the order of a report
 abbrev pub all_checks : List Check
@@ -50,3 +63,8 @@ all_checks =
     ∷ check.Condition7 ∷ check.Condition8 ∷ check.Condition9 ∷ check.Condition10 ∷ check.Condition12 ∷ check.StockYtd
     ∷ check.StockOrders ∷ check.StockRemote ∷ check.PaymentCount ∷ check.DeliveryCount ∷ check.AllLocal
     ∷ check.Quantity ∷ []
+
+-- those against earlier rows stand behind the others
+abbrev pub asked_checks : Asked → List Check
+asked_checks asked.Rows = all_checks
+asked_checks asked.Earlier = all_checks ++ check.StockBefore ∷ check.ColumnsBefore ∷ []

@@ -2,10 +2,11 @@
 //!
 //! How many orders of each district the population had is asked for as soon as an ORDER or an
 //! ORDER-LINE row comes: it is given, or it is the number of CUSTOMER rows that a district has by
-//! then. Only memory can be refused; the books are lost then.
-ghost use Rattle.std.specs.Prelude.{◌≡◌, ℕ, Option, OnOk};
+//! then. Only memory can be refused; the books are lost then, and stay so: they take no fact, and
+//! are not closed.
+ghost use Rattle.std.specs.Prelude.{◌≡◌, ℕ, Option, OnOk, is_err, false, IsErr};
 ghost use Rattle.oe_books.specs.Facts.{Facts, no_facts, with_fact};
-ghost use Rattle.oe_books.specs.Keeping.{KeepsRows, Keeps, IsBegun, behind_customer};
+ghost use Rattle.oe_books.specs.Keeping.{KeepsRows, Keeps, IsBegun, IsLost, behind_customer};
 
 use crate::rows::{
     Lines, Rows, add_customer, add_district, add_history, add_item, add_line, add_new_order,
@@ -33,6 +34,8 @@ pub(crate) enum Initial {
 #[derive(Drop)]
 pub struct Books {
     alloc: Global,
+    // Memory was refused, so that a row may be in part of the sums.
+    pub(crate) is_lost: bool,
     pub(crate) initial: Initial,
     pub(crate) warehouses: Rows<Warehouses>,
     pub(crate) districts: Rows<Districts>,
@@ -59,11 +62,13 @@ impl Books {
     /// Begins without a row. `given` is the number of orders that the population had in each
     /// district; where it is none, that is the number of the district's customers.
     pub fn new(alloc: Global, given: Option<u32>) -> Books
-        ensures { Keeps given no_facts result }
+        ensures keeps { Keeps given no_facts result }
+        ensures lost { result.is_lost ≡ false }
     {
         let initial = given.unwrap_or(0);
         Books {
             alloc,
+            is_lost: false,
             initial: match given {
                 Some(_) => Initial::Given,
                 None => Initial::Open,
@@ -96,8 +101,8 @@ impl Books {
         self.lines.kept = Lines::new(self.alloc, initial);
     }
 
-    /// Takes one fact more. Where memory is refused, the books are lost.
-    pub fn take(&mut self, fact: &Fact) -> Result<(), AllocError>
+    // Takes one fact more. Where memory is refused, its row may be in part of the sums.
+    fn enter(&mut self, fact: &Fact) -> Result<(), AllocError>
         ensures { OnOk result ((given : Option ℕ) (t : Facts) → Keeps given t self.old
             → Keeps given (with_fact t fact.now) self.new) }
     {
@@ -121,5 +126,20 @@ impl Books {
             Fact::Item(fact) => add_item(&mut self.items, fact),
             Fact::Stock(fact) => add_stock(&mut self.stocks, fact),
         }
+    }
+
+    /// Takes one fact more. Where memory is refused, the books are lost; lost books take none.
+    pub fn take(&mut self, fact: &Fact) -> Result<(), AllocError>
+        ensures keeps { OnOk result ((given : Option ℕ) (t : Facts) → Keeps given t self.old
+            → Keeps given (with_fact t fact.now) self.new) }
+        ensures lost { self.new.is_lost ≡ is_err result }
+        ensures stays { IsLost self.old → IsErr result × (self.new ≡ self.old) }
+    {
+        if self.is_lost {
+            return Err(AllocError);
+        }
+        let entered = self.enter(fact);
+        self.is_lost = entered.is_err();
+        entered
     }
 }

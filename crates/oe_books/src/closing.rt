@@ -1,10 +1,10 @@
 //! The end of the rows: books are closed, and stand settled for the checks, or lack what no check
 //! can do without.
-ghost use Rattle.std.specs.Prelude.{◌≡◌, ◌<◌, ◌^◌, ℕ, Option, IfOk};
+ghost use Rattle.std.specs.Prelude.{◌≡◌, ◌<◌, ◌^◌, ℕ, Option, IfOk, IsErr};
 ghost use Rattle.oe_books.specs.Facts.{Facts};
 ghost use Rattle.oe_ledgers.specs.Figures.{AreFew};
 ghost use Rattle.oe_ledgers.specs.Settling.{AreSettledCustomers};
-ghost use Rattle.oe_books.specs.Keeping.{KeepsRows, Keeps, IsBegun};
+ghost use Rattle.oe_books.specs.Keeping.{KeepsRows, Keeps, IsBegun, IsLost};
 ghost use Rattle.oe_books.specs.Closing.{count_of, lack_of, lack_at, first_lack, AreSettledBooks, IsSized, IsClosed};
 
 use crate::books::{Books, Initial};
@@ -144,11 +144,16 @@ impl Books {
     #[inline(never)]
     fn discard(self) {}
 
-    /// Closes the books behind the last row. Where memory is refused, they are lost.
+    /// Closes the books behind the last row. Where memory is refused, or was before, they are lost.
     pub fn close(mut self, alloc: Global) -> Result<Closed, AllocError>
-        ensures { (given : Option ℕ) (t : Facts) → Keeps given t self
+        ensures closed { (given : Option ℕ) (t : Facts) → Keeps given t self
             → IfOk result (IsClosed given t) }
+        ensures lost { IsLost self → IsErr result }
     {
+        if self.is_lost {
+            self.discard();
+            return Err(AllocError);
+        }
         if let Some(lack) = self.lack() {
             self.discard();
             return Ok(Closed::Lacking(lack));

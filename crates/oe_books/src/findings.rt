@@ -3,13 +3,17 @@ ghost use Rattle.std.specs.Prelude.{◌≡◌, ℕ, Bool, List, Option, map, IfO
 ghost use Rattle.std.specs.declared.cmp.Ordering.{Ordering};
 ghost use Rattle.oe_tally.specs.Walks.{AreAll};
 ghost use Rattle.oe_books.specs.Facts.{Facts};
-ghost use Rattle.oe_books.specs.Found.{AreOnce, Refers, Extends, Fails, Moves, IsFound, ArePartsFound, AreChecksFound, AreResults, rows_each, Lists, finding_of, initial_of};
-ghost use Rattle.oe_books.specs.Parts.{all_checks};
+ghost use Rattle.oe_books.specs.Found.{AreOnce, Refers, Extends, Fails, Moves, AreGone, AreChanged, IsCompared, IsFound, ArePartsFound, AreChecksFound, AreResults, rows_each, Lists, finding_of, initial_of};
+ghost use Rattle.oe_books.specs.Parts.{asked_checks};
+ghost use Rattle.oe_earlier.specs.Traces.{Traced};
+ghost use Rattle.oe_earlier.specs.Keeping.{KeepsCompared, AreSettledCompared};
 ghost use Rattle.oe_books.specs.Closing.{AreSettled, IsReady, count_of};
 
 use crate::closing::Settled;
 use crate::keys::{Key, RowKey};
-use crate::parts::{CHECKS, Check, Condition, Extent, Movement, Once, Part, Reference};
+use crate::parts::{
+    Asked, Before, Check, Condition, Extent, Lasting, Movement, Once, Part, Reference, asked_checks,
+};
 use oe_checks::accounts::{condition_10, condition_12};
 use oe_checks::conditions::{
     condition_1, condition_2_of_new_orders, condition_2_of_orders, condition_3, condition_4,
@@ -30,6 +34,7 @@ use oe_checks::references::{
 };
 use oe_checks::schema::{orders_without_gap, ten_districts};
 use oe_checks::sizes::{customers_each, stocked};
+use oe_earlier::{Compared, changed, gone, moved};
 use oe_facts::Table;
 use oe_line_numbers::numbers::lines_once;
 use std::alloc::{AllocError, Global};
@@ -297,11 +302,80 @@ fn movements_found(alloc: Global, part: Movement, s: &Settled) -> Result<Vec<Fin
     }
 }
 
+// Gives the rows of a table that are gone.
+fn gone_found(
+    alloc: Global,
+    table: Lasting,
+    compared: &Compared,
+) -> Result<Vec<Finding>, AllocError>
+    requires { AreSettledCompared compared.now }
+    ensures { (b n : Traced) → KeepsCompared b n compared.now
+        → IfOk result (λ found. AreGone b n table found.items) }
+{
+    let before = &compared.before;
+    let now = &compared.current;
+    match table {
+        Lasting::Warehouses => listed(alloc, gone(alloc, &before.warehouses, &now.warehouses)),
+        Lasting::Districts => listed(alloc, gone(alloc, &before.districts, &now.districts)),
+        Lasting::Customers => listed(alloc, gone(alloc, &before.customers, &now.customers)),
+        Lasting::Items => listed(alloc, gone(alloc, &before.items, &now.items)),
+        Lasting::Stocks => listed(alloc, gone(alloc, &before.stocks, &now.stocks)),
+    }
+}
+
+// Gives the rows of a table whose columns have changed that no transaction changes.
+fn changed_found(
+    alloc: Global,
+    table: Lasting,
+    compared: &Compared,
+) -> Result<Vec<Finding>, AllocError>
+    requires { AreSettledCompared compared.now }
+    ensures { (b n : Traced) → KeepsCompared b n compared.now
+        → IfOk result (λ found. AreChanged b n table found.items) }
+{
+    let before = &compared.before;
+    let now = &compared.current;
+    match table {
+        Lasting::Warehouses => listed(alloc, changed(alloc, &before.warehouses, &now.warehouses)),
+        Lasting::Districts => listed(alloc, changed(alloc, &before.districts, &now.districts)),
+        Lasting::Customers => listed(alloc, changed(alloc, &before.customers, &now.customers)),
+        Lasting::Items => listed(alloc, changed(alloc, &before.items, &now.items)),
+        Lasting::Stocks => listed(alloc, changed(alloc, &before.stocks, &now.stocks)),
+    }
+}
+
+// Gives what a part finds.
+fn before_found(
+    alloc: Global,
+    part: Before,
+    compared: &Compared,
+) -> Result<Vec<Finding>, AllocError>
+    requires { AreSettledCompared compared.now }
+    ensures { (b n : Traced) → KeepsCompared b n compared.now
+        → IfOk result (λ found. IsCompared b n part found.items) }
+{
+    match part {
+        Before::Gone(table) => gone_found(alloc, table, compared),
+        Before::Changed(table) => changed_found(alloc, table, compared),
+        Before::Moved => {
+            let before = &compared.before.residues;
+            listed(alloc, moved(alloc, before, &compared.current.residues))
+        }
+    }
+}
+
 /// Gives what a part of a check finds.
-pub fn found(alloc: Global, part: Part, settled: &Settled) -> Result<Vec<Finding>, AllocError>
-    requires { AreSettled settled.now }
-    ensures { (given : Option ℕ) (t : Facts) → IsReady given t settled.now → IfOk result
-        (λ found. IsFound (initial_of settled.now) settled.now.each t part found.items) }
+pub fn found(
+    alloc: Global,
+    part: Part,
+    settled: &Settled,
+    compared: &Compared,
+) -> Result<Vec<Finding>, AllocError>
+    requires settled { AreSettled settled.now }
+    requires compared { AreSettledCompared compared.now }
+    ensures { (given : Option ℕ) (t : Facts) → IsReady given t settled.now
+        → (b n : Traced) → KeepsCompared b n compared.now → IfOk result
+        (λ found. IsFound (initial_of settled.now) settled.now.each t b n part found.items) }
 {
     match part {
         Part::Once(part) => once_found(alloc, part, settled),
@@ -309,6 +383,7 @@ pub fn found(alloc: Global, part: Part, settled: &Settled) -> Result<Vec<Finding
         Part::Extent(part) => extents_found(alloc, part, settled),
         Part::Condition(part) => conditions_found(alloc, part, settled),
         Part::Movement(part) => movements_found(alloc, part, settled),
+        Part::Before(part) => before_found(alloc, part, compared),
     }
 }
 
@@ -317,14 +392,18 @@ fn parts_found(
     alloc: Global,
     parts: &[Part],
     settled: &Settled,
+    compared: &Compared,
 ) -> Result<Vec<PartFound>, AllocError>
-    requires { AreSettled settled.now }
-    ensures { (given : Option ℕ) (t : Facts) → IsReady given t settled.now → IfOk result
-        (λ found. ArePartsFound (initial_of settled.now) settled.now.each t parts.now found.items) }
+    requires settled { AreSettled settled.now }
+    requires compared { AreSettledCompared compared.now }
+    ensures { (given : Option ℕ) (t : Facts) → IsReady given t settled.now
+        → (b n : Traced) → KeepsCompared b n compared.now → IfOk result
+        (λ found. ArePartsFound (initial_of settled.now) settled.now.each t b n parts.now
+        found.items) }
 {
     let mut all = Vec::new(alloc);
     for part in parts {
-        let found = match found(alloc, *part, settled) {
+        let found = match found(alloc, *part, settled, compared) {
             Ok(found) => found,
             Err(refused) => return Err(refused),
         };
@@ -336,15 +415,22 @@ fn parts_found(
 }
 
 // Gives what each check finds, in the order of a report.
-fn all_found(alloc: Global, settled: &Settled) -> Result<Vec<CheckFound>, AllocError>
-    requires { AreSettled settled.now }
-    ensures { (given : Option ℕ) (t : Facts) → IsReady given t settled.now → IfOk result
-        (λ found. AreChecksFound (initial_of settled.now) settled.now.each t all_checks
+fn all_found(
+    alloc: Global,
+    checks: &[Check],
+    settled: &Settled,
+    compared: &Compared,
+) -> Result<Vec<CheckFound>, AllocError>
+    requires settled { AreSettled settled.now }
+    requires compared { AreSettledCompared compared.now }
+    ensures { (given : Option ℕ) (t : Facts) → IsReady given t settled.now
+        → (b n : Traced) → KeepsCompared b n compared.now → IfOk result
+        (λ found. AreChecksFound (initial_of settled.now) settled.now.each t b n checks.now
         found.items) }
 {
     let mut all = Vec::new(alloc);
-    for check in &CHECKS {
-        let parts = match parts_found(alloc, check.parts(), settled) {
+    for check in checks {
+        let parts = match parts_found(alloc, check.parts(), settled, compared) {
             Ok(parts) => parts,
             Err(refused) => return Err(refused),
         };
@@ -387,13 +473,21 @@ impl Settled {
         ]
     }
 
-    /// Counts the rows of each table, and gives what each check finds.
-    pub fn results(&self, alloc: Global) -> Result<Results, AllocError>
-        requires { AreSettled self.now }
-        ensures { (given : Option ℕ) (t : Facts) → IsReady given t self.now → IfOk result
-            (AreResults (initial_of self.now) self.now.each t) }
+    /// Counts the rows of each table, and gives what each check finds. Earlier rows are looked at
+    /// by the checks against them alone.
+    pub fn results(
+        &self,
+        alloc: Global,
+        asked: Asked,
+        compared: &Compared,
+    ) -> Result<Results, AllocError>
+        requires settled { AreSettled self.now }
+        requires compared { AreSettledCompared compared.now }
+        ensures { (given : Option ℕ) (t : Facts) → IsReady given t self.now
+            → (b n : Traced) → KeepsCompared b n compared.now → IfOk result
+            (AreResults (initial_of self.now) self.now.each t b n (asked_checks asked)) }
     {
-        match all_found(alloc, self) {
+        match all_found(alloc, asked_checks(asked), self, compared) {
             Ok(checks) => Ok(Results {
                 rows: self.rows(),
                 checks,

@@ -13,4 +13,6 @@ pub use books::Books;
 pub use closing::{Closed, Lack, Settled};
 pub use findings::{CheckFound, Finding, PartFound, Results, TableRows};
 pub use keys::Key;
-pub use parts::{CHECKS, Check, Condition, Extent, Movement, Once, Part, Reference};
+pub use parts::{
+    Asked, Before, CHECKS, Check, Condition, Extent, Lasting, Movement, Once, Part, Reference,
+};

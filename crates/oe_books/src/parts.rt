@@ -1,7 +1,7 @@
 //! The checks of an audit, and the parts that they have. A part has one list of keys at which it
 //! fails, and two figures at each.
 ghost use Rattle.std.specs.Prelude.{◌≡◌};
-ghost use Rattle.oe_books.specs.Parts.{parts_of};
+ghost use Rattle.oe_books.specs.Parts.{parts_of, asked_checks};
 
 /// A primary key, which stands once (clause 1.3.1).
 #[derive(Clone, Copy)]
@@ -110,6 +110,27 @@ pub enum Movement {
     Quantity,
 }
 
+/// A table whose rows stay as long as the database (clause 1.4).
+#[derive(Clone, Copy)]
+pub enum Lasting {
+    Warehouses,
+    Districts,
+    Customers,
+    Items,
+    Stocks,
+}
+
+/// What is asked of rows against earlier ones.
+#[derive(Clone, Copy)]
+pub enum Before {
+    /// Of each row there is still one.
+    Gone(Lasting),
+    /// The columns that no transaction changes have the print that they had.
+    Changed(Lasting),
+    /// (S_QUANTITY + S_YTD) mod 91 is what it was (clause 2.4.2.2).
+    Moved,
+}
+
 /// A part of a check.
 #[derive(Clone, Copy)]
 pub enum Part {
@@ -118,6 +139,7 @@ pub enum Part {
     Extent(Extent),
     Condition(Condition),
     Movement(Movement),
+    Before(Before),
 }
 
 /// A check of an audit: what it asks for.
@@ -171,6 +193,10 @@ pub enum Check {
     AllLocal,
     /// S_QUANTITY is 10 to 100.
     Quantity,
+    /// (S_QUANTITY + S_YTD) mod 91 of each earlier STOCK row is what it was.
+    StockBefore,
+    /// No column of an earlier row has changed that no transaction changes.
+    ColumnsBefore,
 }
 
 /// The checks, in the order of a report.
@@ -201,6 +227,55 @@ pub const CHECKS: [Check; 24] = [
     Check::Quantity,
 ];
 
+/// The same, and behind them those against earlier rows.
+pub const CHECKS_BEFORE: [Check; 26] = [
+    Check::Keys,
+    Check::References,
+    Check::Districts,
+    Check::Stocks,
+    Check::Customers,
+    Check::Orders,
+    Check::Condition1,
+    Check::Condition2,
+    Check::Condition3,
+    Check::Condition4,
+    Check::Condition5,
+    Check::Condition6,
+    Check::Condition7,
+    Check::Condition8,
+    Check::Condition9,
+    Check::Condition10,
+    Check::Condition12,
+    Check::StockYtd,
+    Check::StockOrders,
+    Check::StockRemote,
+    Check::PaymentCount,
+    Check::DeliveryCount,
+    Check::AllLocal,
+    Check::Quantity,
+    Check::StockBefore,
+    Check::ColumnsBefore,
+];
+
+/// Which checks are made.
+#[derive(Clone, Copy)]
+pub enum Asked {
+    /// Those of rows alone.
+    Rows,
+    /// Those against earlier rows too.
+    Earlier,
+}
+
+/// Gives the checks that are made, in the order of a report.
+pub fn asked_checks(asked: Asked) -> &'static [Check]
+    ensures { result.now ≡ asked_checks asked }
+{
+    match asked {
+        Asked::Rows => &CHECKS,
+        Asked::Earlier => &CHECKS_BEFORE,
+    }
+}
+
 const KEYS: [Part; 8] = [
     Part::Once(Once::Warehouses),
     Part::Once(Once::Districts),
@@ -228,6 +303,24 @@ const REFERENCES: [Part; 10] = [
 const CONDITION2: [Part; 2] = [
     Part::Condition(Condition::SecondOfOrders),
     Part::Condition(Condition::SecondOfNewOrders),
+];
+
+const STOCK_BEFORE: [Part; 2] = [
+    Part::Before(Before::Gone(Lasting::Stocks)),
+    Part::Before(Before::Moved),
+];
+
+const COLUMNS_BEFORE: [Part; 10] = [
+    Part::Before(Before::Gone(Lasting::Warehouses)),
+    Part::Before(Before::Changed(Lasting::Warehouses)),
+    Part::Before(Before::Gone(Lasting::Districts)),
+    Part::Before(Before::Changed(Lasting::Districts)),
+    Part::Before(Before::Gone(Lasting::Customers)),
+    Part::Before(Before::Changed(Lasting::Customers)),
+    Part::Before(Before::Gone(Lasting::Items)),
+    Part::Before(Before::Changed(Lasting::Items)),
+    Part::Before(Before::Gone(Lasting::Stocks)),
+    Part::Before(Before::Changed(Lasting::Stocks)),
 ];
 
 impl Check {
@@ -260,6 +353,8 @@ impl Check {
             Check::DeliveryCount => &[Part::Movement(Movement::DeliveryCount)],
             Check::AllLocal => &[Part::Movement(Movement::AllLocal)],
             Check::Quantity => &[Part::Movement(Movement::Quantity)],
+            Check::StockBefore => &STOCK_BEFORE,
+            Check::ColumnsBefore => &COLUMNS_BEFORE,
         }
     }
 }

@@ -104,11 +104,11 @@ names_are (c ∷ cs) = ap (λ ns. c.name.now ∷ ns) (names_are cs)
 abbrev pub PlacedSo : Table → List Column → List (List ℕ) → List ℕ → ℕ → Type 0
 PlacedSo t cs fields ps k = heading_places t fields ≡ prepended ps (placed_from (names_in (drop k cs)) k fields)
 
-none_prepended : (r : Result (List ℕ) LayoutFault) → prepended [] r ≡ r
+pub none_prepended : (r : Result (List ℕ) LayoutFault) → prepended [] r ≡ r
 none_prepended (Ok ps) = refl
 none_prepended (Err e) = refl
 
-one_prepended : (ps : List ℕ) (p : ℕ) (r : Result (List ℕ) LayoutFault)
+pub one_prepended : (ps : List ℕ) (p : ℕ) (r : Result (List ℕ) LayoutFault)
     → prepended ps (r >>= λ qs. Ok (p ∷ qs)) ≡ prepended (ps ++ p ∷ []) r
 one_prepended ps p (Ok qs) = ap Ok (sym (append_assoc ps (p ∷ []) qs))
 one_prepended ps p (Err e) = refl

@@ -1,2 +1,4 @@
+pub mod ConstantFacts
 pub mod HeadingFacts
+pub mod PrintFacts
 pub mod RowFacts

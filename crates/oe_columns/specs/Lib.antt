@@ -1,4 +1,6 @@
 pub mod Columns
+pub mod Constants
 pub mod Facts
 pub mod Headings
+pub mod Prints
 pub mod Values

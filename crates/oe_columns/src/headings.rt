@@ -134,7 +134,7 @@ fn look_at(name: &str, seen: Named, place: usize, text: &[u8]) -> Named
 }
 
 /// Finds where a heading names a column.
-fn find_name(name: &str, format: Format, line: &[u8]) -> Named
+pub(crate) fn find_name(name: &str, format: Format, line: &[u8]) -> Named
     ensures { result ≡ named name.now (fields_of format line.now) }
 {
     let mut fields = Fields::new(format, line);
@@ -149,7 +149,7 @@ fn find_name(name: &str, format: Format, line: &[u8]) -> Named
 }
 
 /// Gives the one place of a column.
-fn placed(column: usize, named: Named) -> Result<usize, LayoutFault>
+pub(crate) fn placed(column: usize, named: Named) -> Result<usize, LayoutFault>
     ensures { result ≡ placed column named }
 {
     match named {

@@ -1,7 +1,7 @@
 -- The texts of a list's elements from the front.
 use Rattle.std.proofs.Common.{◌≡◌, ℕ, ◌+◌, ◌<◌, ◌≤◌, sym, ◌∙◌, ap, List, [], ◌∷◌, ◌++◌, length, get_or, take, drop}
 use Rattle.std.specs.List.{flat_map}
-use Rattle.std.proofs.lemmas.List.{append-nil, append_assoc, take_more, take-append-drop, take_all}
+use Rattle.std.proofs.lemmas.List.{append-nil, take_more, take-append-drop, take_all}
 use Rattle.std.proofs.lemmas.List.Concat.{flat_map-append}
 
 module _ {X : Type 0} (f : X → List ℕ) (xs : List X) where
@@ -23,8 +23,3 @@ module _ {X : Type 0} (f : X → List ℕ) (xs : List X) where
 
   pub front_all : (n : ℕ) → length xs ≤ n → flat_map f (take n xs) ≡ flat_map f xs
   front_all n l = ap (flat_map f) (take_all n xs l)
-
--- what was appended, and one text more
-pub and_then : (start text more front all : List ℕ) → front ≡ start ++ text → all ≡ front ++ more
-    → all ≡ start ++ (text ++ more)
-and_then start text more front all e f = f ∙ ap (λ t. t ++ more) e ∙ append_assoc start text more

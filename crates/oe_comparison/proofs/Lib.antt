@@ -2,7 +2,9 @@
 mod ColumnFacts
 mod DifferenceFacts
 mod LawFacts
+mod CountFacts
 mod HistoryFacts
+mod OftenFacts
 mod TextFacts
 mod RunFacts
 mod TableFacts

@@ -9,7 +9,6 @@ use Rattle.oe_file_serial.specs.declared.origins.Origin.{Origin}
 use Rattle.oe_file_serial.specs.declared.verdicts.Decision.{Decision}
 use Rattle.oe_file_serial.specs.declared.verdicts.Decision.TheVariants as decision
 use Rattle.oe_file_serial.specs.declared.verdicts.Verdict as replies
-use Rattle.oe_file_serial.specs.declared.verdicts.Verdict.TheVariants as reply
 use Rattle.oe_file_tables.specs.declared.formats.Format.{Format}
 use Rattle.oe_file_loading.specs.Loading.{Nine}
 use Rattle.oe_comparison.specs.Texts.{Told}

@@ -1,12 +1,8 @@
 -- Lines that are appended piece by piece.
-use Rattle.std.proofs.Common.{◌≡◌, ℕ, ◌+◌, List, ◌++◌, append_assoc, ap, ◌∙◌, Result, Ok, Err, OnOk, codes}
+use Rattle.std.proofs.Common.{◌≡◌, ℕ, ◌+◌, List, ◌++◌, ap, ◌∙◌, Result, Ok, Err, OnOk, codes}
 use Rattle.oe_rows.specs.declared.keys.Key.{Key}
+use Rattle.oe_reply_words.proofs.PartFacts.{and_then}
 use Rattle.oe_comparison.specs.Texts.{Told, with_piece, with_line, column_front, column_line}
-
--- one text behind another
-pub and_then : (start text more front all : List ℕ) → front ≡ start ++ text → all ≡ front ++ more
-    → all ≡ start ++ (text ++ more)
-and_then start text more front all e f = f ∙ ap (λ t. t ++ more) e ∙ append_assoc start text more
 
 -- the line of a column that differs
 pub told_column : {T E : Type 0} (k : Key) (place : ℕ) (theirs ours : List ℕ) (old a b c d new : Told) (r : Result T E)

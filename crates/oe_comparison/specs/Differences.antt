@@ -33,13 +33,24 @@ abbrev pub differences : {K : Type 0} → (K → K → Ordering) → List (K × 
 differences cmp [] = map (λ o. Missing o.0)
 differences cmp (t ∷ ts) = from_row cmp t (differences cmp ts)
 
--- the rows of a file, and the rows of a table, as they are compared
+-- rows with their keys, as they are compared: each key with the texts of the columns
+abbrev pub with_columns : {K X : Type 0} → (K → X → List (List ℕ)) → List (K × X) → List (K × List (List ℕ))
+with_columns columns es = map (λ e. (e.0, columns e.0 e.1)) es
+
+-- a file's row with its key
+abbrev pub keyed : {K X : Type 0} → Numbered K X → K × X
+keyed n = (n.key, n.row)
+
+-- the rows of a file, and the rows of a table
 abbrev pub theirs_shown : {K X : Type 0} → (K → X → List (List ℕ)) → List (Numbered K X) → List (K × List (List ℕ))
 theirs_shown columns ns = map (λ n. (n.key, shown (columns n.key n.row))) ns
 
 abbrev pub ours_shown : {K X : Type 0} → (K → X → List (List ℕ)) → List (K × X) → List (K × List (List ℕ))
 ours_shown columns es = map (λ e. (e.0, shown (columns e.0 e.1))) es
 
--- rows that have no key: each stands for itself
+-- rows that have no key: each is its own key, and stands for itself
+abbrev pub own_key : {X : Type 0} → X → X × X
+own_key x = (x, x)
+
 abbrev pub keyless : {X : Type 0} → List X → List (X × List (List ℕ))
 keyless rows = map (λ x. (x, [])) rows

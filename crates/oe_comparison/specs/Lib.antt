@@ -7,6 +7,8 @@ pub mod Walks
 pub mod Tables
 pub mod Runs
 pub mod Laws
+pub mod Counts
+pub mod Often
 pub mod Names
 pub mod Forms
 pub mod Faults

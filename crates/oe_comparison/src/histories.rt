@@ -1,20 +1,21 @@
 //! HISTORY rows, which have no key in the standard: those of a file and of this order are sorted by
 //! their columns, and compared from the front.
-ghost use Rattle.std.specs.Prelude.{◌≡◌, ◌≤◌, ◌++◌, ◌∷◌, [], length, OnOk, IfOk, map};
+ghost use Rattle.std.specs.Prelude.{◌≡◌, ◌++◌, ◌∷◌, [], OnOk, IfOk, map};
+ghost use Rattle.oe_rows.specs.declared.keys.Table.TheVariants as table;
 ghost use Rattle.oe_comparison.specs.Differences.{differences, keyless};
 ghost use Rattle.oe_comparison.specs.Histories.{history_order, AreSorted};
 ghost use Rattle.oe_comparison.specs.Tables.{AreHistoriesTold};
-ghost use Rattle.oe_comparison.specs.Texts.{often_line, with_histories};
-ghost use Rattle.oe_comparison.specs.Walks.{TellsOne};
+ghost use Rattle.oe_comparison.specs.Texts.{history_line_of, with_histories};
 
 use crate::reports::Report;
-use crate::walks::one_more;
+use crate::sides::{Comparing, RowWalk, Turn, compare_sides};
 use oe_file_tables::Batches;
 use oe_rows::{History, HistoryKey, Table};
 use oe_table::shelf_walks::Rows;
 use oe_values::NoMemory;
 use std::alloc::Global;
 use std::cmp::Ordering;
+use std::slice::Iter;
 
 const FILE: &[u8; 8] = b"the file";
 
@@ -82,17 +83,57 @@ fn sort(rows: &mut Vec<History>) -> Result<(), NoMemory>
     }
 }
 
-// Tells of a row that stands more often there, where it is the first that does, and counts it.
-fn tell_often(row: &History, side: &[u8], others: u64, report: &mut Report) -> Result<u64, NoMemory>
-    requires { length side.now ≤ 100 }
-    ensures { TellsOne (often_line row.now side.now) others report.old report.new result }
-{
-    if others > 0 {
-        return one_more(others);
+impl<'a> RowWalk<'a, History, History> for Iter<'a, History> {
+    ghost use Rattle.std.specs.Slice.Iter.{iter_rest};
+    ghost use Rattle.oe_comparison.specs.Differences.{own_key};
+
+    ghost left = { λ it. map own_key (iter_rest it) };
+
+    fn next_row(&mut self) -> Option<(&'a History, &'a History)> {
+        match self.next() {
+            Some(row) => Some((row, row)),
+            None => None,
+        }
     }
-    match report.more_often(row, side) {
-        Ok(()) => Ok(1),
-        Err(refusal) => Err(refusal),
+}
+
+/// Each row is its own key, by all its columns: two of one key differ in none.
+struct ByColumns;
+
+impl Comparing<History, History> for ByColumns {
+    ghost order_of = { history_order };
+
+    ghost columns_of = { λ h x. [] };
+
+    ghost line_at = { history_line_of };
+
+    ghost own_table = { table.History };
+
+    fn table() -> Table {
+        Table::History
+    }
+
+    fn order(theirs: &History, ours: &History) -> Ordering {
+        order_of(theirs, ours)
+    }
+
+    fn extra(key: &History, report: &mut Report) -> Result<(), NoMemory> {
+        report.more_often(key, FILE)
+    }
+
+    fn missing(key: &History, report: &mut Report) -> Result<(), NoMemory> {
+        report.more_often(key, ORDER)
+    }
+
+    fn both(
+        _their_key: &History,
+        _theirs: &History,
+        _key: &History,
+        _ours: &History,
+        others: u64,
+        _report: &mut Report,
+    ) -> Result<Turn, NoMemory> {
+        Ok(Turn::Passed(Ordering::Equal, others))
     }
 }
 
@@ -102,50 +143,11 @@ fn compare_sorted(theirs: &[History], ours: &[History], report: &mut Report) -> 
         ≡ with_histories (differences history_order (keyless theirs.now) (keyless ours.now))
         report.old) }
 {
-    let mut theirs = theirs.iter();
-    let mut ours = ours.iter();
-    let mut their = theirs.next();
-    let mut our = ours.next();
-    let mut others = 0;
-    loop {
-        match (their, our) {
-            (None, None) => return report.more(Table::History, others),
-            (Some(file), None) => {
-                others = match tell_often(file, FILE, others, report) {
-                    Ok(count) => count,
-                    Err(refusal) => return Err(refusal),
-                };
-                their = theirs.next();
-            }
-            (None, Some(order)) => {
-                others = match tell_often(order, ORDER, others, report) {
-                    Ok(count) => count,
-                    Err(refusal) => return Err(refusal),
-                };
-                our = ours.next();
-            }
-            (Some(file), Some(order)) => match order_of(file, order) {
-                Ordering::Less => {
-                    others = match tell_often(file, FILE, others, report) {
-                        Ok(count) => count,
-                        Err(refusal) => return Err(refusal),
-                    };
-                    their = theirs.next();
-                }
-                Ordering::Greater => {
-                    others = match tell_often(order, ORDER, others, report) {
-                        Ok(count) => count,
-                        Err(refusal) => return Err(refusal),
-                    };
-                    our = ours.next();
-                }
-                Ordering::Equal => {
-                    their = theirs.next();
-                    our = ours.next();
-                }
-            },
-        }
-    }
+    compare_sides::<ByColumns, Iter<'_, History>, Iter<'_, History>, History, History>(
+        theirs.iter(),
+        ours.iter(),
+        report,
+    )
 }
 
 /// Tells of the first HISTORY row, in the order of its columns, that stands more often in the file

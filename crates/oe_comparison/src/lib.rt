@@ -12,9 +12,12 @@ pub mod names;
 pub mod reports;
 pub mod rows;
 pub mod runs;
+mod sides;
 mod tables;
 mod walks;
 
 pub use faults::write_faults;
-pub use laws::{differences_are_first, rows_are_told_apart};
+pub use laws::{
+    differences_are_counted, differences_are_first, histories_are_counted, rows_are_told_apart,
+};
 pub use runs::{ComparisonFault, Verdict, run_comparison, status};

@@ -1,74 +1,59 @@
-//! A file's rows beside a table's, both in the order of their keys: a walk tells the first that
-//! differs, and counts the others.
-ghost use Rattle.std.specs.Prelude.{◌≡◌, ◌+◌, OnOk, IfOk};
+//! A table's rows beside its file's, in the order of their keys: the first that differs is told, and
+//! the others are counted.
+ghost use Rattle.std.specs.Prelude.{◌≡◌, OnOk, Some};
+ghost use Rattle.std.specs.declared.cmp.Ordering.TheVariants.{Equal};
 ghost use Rattle.oe_comparison.specs.Columns.{shown, first_other};
 ghost use Rattle.oe_comparison.specs.Tables.{IsTold};
-ghost use Rattle.oe_comparison.specs.Texts.{extra_line, missing_line};
-ghost use Rattle.oe_comparison.specs.Walks.{TellsOne, TellsColumn};
+ghost use Rattle.oe_comparison.specs.Texts.{line_of};
+ghost use Rattle.oe_comparison.specs.Walks.{at_rows, TellsFront};
 
 use crate::columns::{first_other, write_row};
 use crate::reports::Report;
 use crate::rows::ComparedRow;
-use oe_file_tables::{Batches, RowLine};
+use crate::sides::{Comparing, RowWalk, Turn, compare_sides, one_more};
+use oe_file_tables::{Batches, RowLine, Walk};
 use oe_ports::dumps::DumpedRow;
+use oe_rows::Table;
 use oe_table::shelf_walks::Rows;
 use oe_texts::Pending;
 use oe_values::{NoMemory, TableKey};
 use std::cmp::Ordering;
 
-/// Counts one row more that differs. No memory holds as many rows as there are numbers.
-pub(crate) fn one_more(others: u64) -> Result<u64, NoMemory>
-    ensures { IfOk result (λ n. n ≡ others + 1) }
-{
-    match others.checked_add(1) {
-        Some(more) => Ok(more),
-        None => Err(NoMemory),
+impl<'a, K, R> RowWalk<'a, K, R> for Walk<'a, K, R> {
+    ghost use Rattle.std.specs.Prelude.{map};
+    ghost use Rattle.oe_comparison.specs.Differences.{keyed};
+
+    ghost left = { λ w. map keyed w };
+
+    fn next_row(&mut self) -> Option<(&'a K, &'a R)> {
+        match self.next() {
+            Some(numbered) => Some((&numbered.key, &numbered.row)),
+            None => None,
+        }
     }
 }
 
-// Tells of a row that the file alone has, where it is the first that differs, and counts it.
-fn tell_extra<K, R: RowLine<K>>(key: &K, others: u64, report: &mut Report) -> Result<u64, NoMemory>
-    ensures { TellsOne (extra_line (R.key_of key.now)) others report.old report.new result }
-{
-    if others > 0 {
-        return one_more(others);
-    }
-    match report.extra(&R::key(key)) {
-        Ok(()) => Ok(1),
-        Err(refusal) => Err(refusal),
+impl<'a, K, R> RowWalk<'a, K, R> for Rows<'a, K, R> {
+    ghost left = { λ rows. rows };
+
+    fn next_row(&mut self) -> Option<(&'a K, &'a R)> {
+        self.next()
     }
 }
 
-// Tells of a row that the table alone has, where it is the first that differs, and counts it.
-fn tell_missing<K, R: RowLine<K>>(
-    key: &K,
-    others: u64,
-    report: &mut Report,
-) -> Result<u64, NoMemory>
-    ensures { TellsOne (missing_line (R.key_of key.now)) others report.old report.new result }
-{
-    if others > 0 {
-        return one_more(others);
-    }
-    match report.missing(&R::key(key)) {
-        Ok(()) => Ok(1),
-        Err(refusal) => Err(refusal),
-    }
-}
-
-// Tells of the first column at which two rows of a key differ, where they are the first that do,
-// and counts them.
-fn tell_column<K, R: RowLine<K> + DumpedRow<K>>(
+// Passes two rows of a key, and tells of the first column at which they differ, where they are the
+// first that do.
+fn pass_column<K, R: RowLine<K> + DumpedRow<K>>(
     their_key: &K,
     theirs: &R,
     key: &K,
     ours: &R,
     others: u64,
     report: &mut Report,
-) -> Result<u64, NoMemory>
-    ensures { TellsColumn R.key_of key.now
+) -> Result<Turn, NoMemory>
+    ensures { TellsFront (line_of R.key_of) (Some (at_rows Equal their_key.now key.now
         (first_other 0 (shown (R.columns their_key.now theirs.now))
-        (shown (R.columns key.now ours.now))) others report.old report.new result }
+        (shown (R.columns key.now ours.now))))) others report.old report.new result }
 {
     let mut their_line = Pending::new();
     write_row(&mut their_line, their_key, theirs);
@@ -76,92 +61,85 @@ fn tell_column<K, R: RowLine<K> + DumpedRow<K>>(
     write_row(&mut our_line, key, ours);
     let found = first_other(their_line.as_slice(), our_line.as_slice());
     let Some(other) = &found else {
-        return Ok(others);
+        return Ok(Turn::Passed(Ordering::Equal, others));
     };
     if others > 0 {
-        return one_more(others);
+        return one_more(others, Ordering::Equal);
     }
     match report.column(&R::key(key), other.place, other.theirs, other.ours) {
-        Ok(()) => Ok(1),
+        Ok(()) => Ok(Turn::Passed(Ordering::Equal, 1)),
         Err(refusal) => Err(refusal),
     }
 }
 
-// Tells of two rows of a key where they differ, and counts them.
-fn tell_other<K, R: RowLine<K> + DumpedRow<K> + ComparedRow>(
+// Passes two rows of a key, and tells of them where they are the first that differ.
+fn pass_both<K, R: RowLine<K> + DumpedRow<K> + ComparedRow>(
     their_key: &K,
     theirs: &R,
     key: &K,
     ours: &R,
     others: u64,
     report: &mut Report,
-) -> Result<u64, NoMemory>
+) -> Result<Turn, NoMemory>
     requires { their_key.now ≡ key.now }
-    ensures { TellsColumn R.key_of key.now
+    ensures { TellsFront (line_of R.key_of) (Some (at_rows Equal their_key.now key.now
         (first_other 0 (shown (R.columns their_key.now theirs.now))
-        (shown (R.columns key.now ours.now))) others report.old report.new result }
+        (shown (R.columns key.now ours.now))))) others report.old report.new result }
 {
     if theirs.equals(ours) {
-        return Ok(others);
+        return Ok(Turn::Passed(Ordering::Equal, others));
     }
-    tell_column(their_key, theirs, key, ours, others, report)
+    pass_column(their_key, theirs, key, ours, others, report)
+}
+
+/// Rows are compared with those of their keys.
+pub(crate) struct ByKey;
+
+impl<K: TableKey, R: RowLine<K> + DumpedRow<K> + ComparedRow> Comparing<K, R> for ByKey {
+    ghost order_of = { K.cmp };
+
+    ghost columns_of = { λ k x. shown (R.columns k x) };
+
+    ghost line_at = { line_of R.key_of };
+
+    ghost own_table = { R.own_table };
+
+    fn table() -> Table {
+        R::table()
+    }
+
+    fn order(theirs: &K, ours: &K) -> Ordering {
+        theirs.cmp(ours)
+    }
+
+    fn extra(key: &K, report: &mut Report) -> Result<(), NoMemory> {
+        report.extra(&R::key(key))
+    }
+
+    fn missing(key: &K, report: &mut Report) -> Result<(), NoMemory> {
+        report.missing(&R::key(key))
+    }
+
+    fn both(
+        their_key: &K,
+        theirs: &R,
+        key: &K,
+        ours: &R,
+        others: u64,
+        report: &mut Report,
+    ) -> Result<Turn, NoMemory> {
+        pass_both(their_key, theirs, key, ours, others, report)
+    }
 }
 
 /// Tells of the first row at which a file and a table differ, and how many more do.
-pub(crate) fn compare_rows<K: TableKey, R: RowLine<K> + DumpedRow<K> + ComparedRow>(
-    theirs: &Batches<K, R>,
-    ours: Rows<'_, K, R>,
+pub(crate) fn compare_rows<'a, K: TableKey, R: RowLine<K> + DumpedRow<K> + ComparedRow>(
+    theirs: &'a Batches<K, R>,
+    ours: Rows<'a, K, R>,
     report: &mut Report,
 ) -> Result<(), NoMemory>
     ensures { OnOk result (IsTold R.own_table K.cmp R.key_of R.columns theirs.now ours.entry
         report.old report.new) }
 {
-    let mut theirs = theirs.iter();
-    let mut ours = ours;
-    let mut their = theirs.next();
-    let mut our = ours.next();
-    let mut others = 0;
-    loop {
-        match (their, our) {
-            (None, None) => return report.more(R::table(), others),
-            (Some(file), None) => {
-                others = match tell_extra::<K, R>(&file.key, others, report) {
-                    Ok(count) => count,
-                    Err(refusal) => return Err(refusal),
-                };
-                their = theirs.next();
-            }
-            (None, Some((key, _))) => {
-                others = match tell_missing::<K, R>(key, others, report) {
-                    Ok(count) => count,
-                    Err(refusal) => return Err(refusal),
-                };
-                our = ours.next();
-            }
-            (Some(file), Some((key, row))) => match file.key.cmp(key) {
-                Ordering::Less => {
-                    others = match tell_extra::<K, R>(&file.key, others, report) {
-                        Ok(count) => count,
-                        Err(refusal) => return Err(refusal),
-                    };
-                    their = theirs.next();
-                }
-                Ordering::Greater => {
-                    others = match tell_missing::<K, R>(key, others, report) {
-                        Ok(count) => count,
-                        Err(refusal) => return Err(refusal),
-                    };
-                    our = ours.next();
-                }
-                Ordering::Equal => {
-                    others = match tell_other(&file.key, &file.row, key, row, others, report) {
-                        Ok(count) => count,
-                        Err(refusal) => return Err(refusal),
-                    };
-                    their = theirs.next();
-                    our = ours.next();
-                }
-            },
-        }
-    }
+    compare_sides::<ByKey, Walk<'a, K, R>, Rows<'a, K, R>, K, R>(theirs.iter(), ours, report)
 }

@@ -6,7 +6,8 @@ use Rattle.std.specs.List.{flat_map}
 use Rattle.oe_facts.specs.Table.{name_of}
 use Rattle.oe_facts.specs.declared.tables.Table.{Table}
 use Rattle.oe_fields.specs.declared.fields.Format.{Format}
-use Rattle.oe_columns.specs.Columns.{columns_of}
+use Rattle.oe_columns.specs.Columns.{columns_of, names_of}
+use Rattle.oe_columns.specs.Constants.{constant_names}
 use Rattle.oe_columns.specs.declared.columns.Kind.{Kind}
 use Rattle.oe_columns.specs.declared.columns.Kind.TheVariants as kind
 use Rattle.oe_columns.specs.declared.headings.LayoutFault.TheVariants as layout
@@ -18,21 +19,32 @@ use Rattle.oe_books.specs.declared.closing.Lack.{Lack}
 use Rattle.oe_books.specs.declared.closing.Lack.TheVariants as lack
 use Rattle.oe_books.specs.Closing.{tables}
 use Rattle.oe_file_audit.specs.declared.causes.Cause.{Cause}
+use Rattle.oe_file_audit.specs.declared.faults.Side.{Side}
+use Rattle.oe_file_audit.specs.declared.faults.Side.TheVariants as side
 use Rattle.oe_file_audit.specs.Causes.{cause_of, cause_name}
 
-abbrev pub name_or : List (List ℕ × Kind) → ℕ → List ℕ
+-- what stands before a table's name
+abbrev pub side_text : Side → List ℕ
+side_text side.Now = []
+side_text side.Before = codes "before/"
+
+abbrev pub table_text : Side → Table → List ℕ
+table_text s t = side_text s ++ name_of t
+
+abbrev pub name_or : List (List ℕ) → ℕ → List ℕ
 name_or [] n = codes "?"
-name_or (c ∷ cs) zero = c.0
-name_or (c ∷ cs) (suc n) = name_or cs n
+name_or (name ∷ names) zero = name
+name_or (name ∷ names) (suc n) = name_or names n
 
 abbrev pub kind_or : List (List ℕ × Kind) → ℕ → Kind
 kind_or [] n = kind.Nullable
 kind_or (c ∷ cs) zero = c.1
 kind_or (c ∷ cs) (suc n) = kind_or cs n
 
--- the name of the column with this number among those that a fact needs, and what its field has to spell
+-- the name of the column with this number among those that a fact needs and, behind them, those that no transaction
+-- changes; and what the field of one of the first has to spell
 abbrev pub name_at : Table → ℕ → List ℕ
-name_at t n = name_or (columns_of t) n
+name_at t n = name_or (names_of t ++ constant_names t) n
 
 abbrev pub kind_at : Table → ℕ → Kind
 kind_at t n = kind_or (columns_of t) n
@@ -69,34 +81,35 @@ abbrev pub wrong_text : SourceFault → List ℕ
 wrong_text f = wrong_by f.table f.text f.wrong
 
 -- <table> line <number>: <what is wrong>
-abbrev pub fault_line : SourceFault → List ℕ
-fault_line f = name_of f.table ++ codes " line " ++ decimal f.line ++ codes ": " ++ wrong_text f ++ codes "\n"
+abbrev pub fault_line : Side → SourceFault → List ℕ
+fault_line s f = table_text s f.table ++ codes " line " ++ decimal f.line ++ codes ": " ++ wrong_text f ++ codes "\n"
 
 -- <table>: <count> more lines
-abbrev pub more_line : Table → ℕ → List ℕ
-more_line t n = name_of t ++ codes ": " ++ decimal n ++ codes " more lines\n"
+abbrev pub more_line : Side → Table → ℕ → List ℕ
+more_line s t n = table_text s t ++ codes ": " ++ decimal n ++ codes " more lines\n"
 
 -- the line that tells of those behind the third, where there are more
-abbrev pub more_text : Table → ℕ → List ℕ
-more_text t n = if nat_lt 3 n then more_line t (n - 3) else []
+abbrev pub more_text : Side → Table → ℕ → List ℕ
+more_text s t n = if nat_lt 3 n then more_line s t (n - 3) else []
 
-abbrev pub more_lines : Told → List ℕ
-more_lines told = flat_map (λ t. more_text t (slice_index told.counts (place_of t))) tables
+abbrev pub more_lines : Side → Told → List ℕ
+more_lines s told = flat_map (λ t. more_text s t (slice_index told.counts (place_of t))) tables
 
 -- <table>: <cause>
-abbrev pub cause_text : Table → Option Cause → List ℕ
-cause_text t None = []
-cause_text t (Some c) = name_of t ++ codes ": " ++ cause_name c ++ codes "\n"
+abbrev pub cause_text : Side → Table → Option Cause → List ℕ
+cause_text s t None = []
+cause_text s t (Some c) = table_text s t ++ codes ": " ++ cause_name c ++ codes "\n"
 
 -- the likely cause, of a table's file with fields of a format
-abbrev pub cause_line : Option Format → List SourceFault → List ℕ
-cause_line None faults = []
-cause_line (Some format) [] = []
-cause_line (Some format) (f ∷ fs) = cause_text f.table (cause_of format (f ∷ fs))
+abbrev pub cause_line : Side → Option Format → List SourceFault → List ℕ
+cause_line s None faults = []
+cause_line s (Some format) [] = []
+cause_line s (Some format) (f ∷ fs) = cause_text s f.table (cause_of format (f ∷ fs))
 
 -- the faults of a source
-abbrev pub source_text : Option Format → Told → List ℕ
-source_text format told = flat_map fault_line told.kept ++ more_lines told ++ cause_line format told.kept
+abbrev pub source_text : Side → Option Format → Told → List ℕ
+source_text s format told =
+    flat_map (fault_line s) told.kept ++ more_lines s told ++ cause_line s format told.kept
 
 -- what is not there
 abbrev pub lack_line : Lack → List ℕ

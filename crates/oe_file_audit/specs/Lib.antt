@@ -2,4 +2,5 @@
 pub mod Causes
 pub mod Faults
 pub mod Reading
+pub mod Earlier
 pub mod Audits

@@ -1,8 +1,13 @@
 -- What sources spell, and what is wrong with their lines.
-use Rattle.std.specs.Prelude.{◌≡◌, ℕ, List, [], ◌∷◌, ◌++◌, map, Option, Some}
+use Rattle.std.specs.Prelude.{◌≡◌, ℕ, List, [], ◌∷◌, ◌++◌, map, Option, Some, None}
+use Rattle.std.specs.List.{fold}
 use Rattle.oe_facts.specs.declared.tables.Fact.{Fact}
 use Rattle.oe_facts.specs.declared.tables.Table.{Table}
 use Rattle.oe_fields.specs.declared.fields.Format.{Format}
+use Rattle.oe_columns.specs.declared.constants.Wanted.{Wanted}
+use Rattle.oe_columns.specs.declared.prints.RowFact.{RowFact}
+use Rattle.oe_earlier.specs.Traces.{Traced, no_rows, with_row}
+use Rattle.oe_earlier.specs.Keeping.{KeepsTraces}
 use Rattle.oe_filelines.specs.Lines.{AreLines, AreAll}
 use Rattle.oe_sources.specs.Dump.{dump_says, dump_faults}
 use Rattle.oe_sources.specs.Fault.{Told, no_faults, each_pushed}
@@ -15,46 +20,66 @@ use Rattle.oe_file_audit.specs.declared.reading.Spelled.{Spelled}
 use Rattle.oe_file_audit.specs.declared.reading.TableSource.{TableSource}
 use Rattle.oe_file_audit.specs.declared.reading.Unread.{Unread}
 
--- the books are of these facts; `given` is the number of first orders that the caller gave
-abbrev pub Holds : Option ℕ → Entered → List Fact → Type 0
-Holds given e facts = Keeps given (parted facts) e.books
+abbrev pub facts_of : List RowFact → List Fact
+facts_of rows = map (λ r. r.fact) rows
+
+abbrev pub printed_by : Traced → Fact → Option ℕ → Traced
+printed_by t f None = t
+printed_by t f (Some print) = with_row t print f
+
+-- a row's print more, where it has one
+abbrev pub with_print : Traced → RowFact → Traced
+with_print t r = printed_by t r.fact r.print
+
+-- the rows' prints
+abbrev pub prints_of : List RowFact → Traced
+prints_of rows = fold with_print no_rows rows
+
+-- the books are of these rows' facts, and what is compared is of their prints; `given` is the number of first orders
+-- that the caller gave
+pub record Holds (given : Option ℕ) (e : Entered) (rows : List RowFact) : Type 0 where
+  pub books : Keeps given (parted (facts_of rows)) e.books
+  pub traces : KeepsTraces (prints_of rows) e.traces
 
 abbrev pub HoldsSome : Option ℕ → Entered → Type 0
-HoldsSome given e = (facts : List Fact) × Holds given e facts
+HoldsSome given e = (rows : List RowFact) × Holds given e rows
 
--- Of the bytes that a reader had left the lines of a table spell these facts, in order, and these are their faults.
-pub record TableSpells (old : Option (List ℕ)) (t : Table) (format : Format) (facts : List Fact) (faults : Told) :
-    Type 0 where
+-- Of the bytes that a reader had left the lines of a table spell these facts and prints, in order, and these are their
+-- faults.
+pub record TableSpells (old : Option (List ℕ)) (t : Table) (wanted : Wanted) (format : Format) (facts : List RowFact)
+    (faults : Told) : Type 0 where
   pub new : Option (List ℕ)
   pub bytes : List ℕ
   pub lines : List (List ℕ)
   pub all : AreAll old new bytes
   pub are_lines : AreLines bytes lines
-  pub facts_are : map spelled facts ≡ (table_says t format lines).rows
-  pub faults_are : faults ≡ each_pushed (table_says t format lines).faults no_faults
+  pub facts_are : map spelled facts ≡ (table_says t wanted format lines).rows
+  pub faults_are : faults ≡ each_pushed (table_says t wanted format lines).faults no_faults
 
 -- the same of a dump
-pub record DumpSpells (old new : Option (List ℕ)) (facts : List Fact) (faults : Told) : Type 0 where
-  pub bytes : List ℕ
-  pub lines : List (List ℕ)
-  pub all : AreAll old new bytes
-  pub are_lines : AreLines bytes lines
-  pub facts_are : map spelled facts ≡ (dump_says lines).rows
-  pub faults_are : faults ≡ each_pushed (dump_faults (dump_says lines)) no_faults
+pub record DumpSpells (wanted : Wanted) (old : Option (List ℕ)) (facts : List RowFact) (faults : Told) : Type 0
+  where
+    pub new : Option (List ℕ)
+    pub bytes : List ℕ
+    pub lines : List (List ℕ)
+    pub all : AreAll old new bytes
+    pub are_lines : AreLines bytes lines
+    pub facts_are : map spelled facts ≡ (dump_says wanted lines).rows
+    pub faults_are : faults ≡ each_pushed (dump_faults (dump_says wanted lines)) no_faults
 
-module _ {S : Type 0} (remaining : S → Option (List ℕ)) (format : Format) where
+module _ {S : Type 0} (remaining : S → Option (List ℕ)) (wanted : Wanted) (format : Format) where
   -- what the sources of tables spell, one after another
-  pub data TablesSpell : List (TableSource S) → List Fact → List Told → Type 0 where
+  pub data TablesSpell : List (TableSource S) → List RowFact → List Told → Type 0 where
     none : TablesSpell [] [] []
-    more : (sources : List (TableSource S)) (facts : List Fact) (told : List Told) → TablesSpell sources facts told
-        → (s : TableSource S) (own : List Fact) (faults : Told)
-        → TableSpells (remaining s.source) s.table format own faults
+    more : (sources : List (TableSource S)) (facts : List RowFact) (told : List Told) → TablesSpell sources facts told
+        → (s : TableSource S) (own : List RowFact) (faults : Told)
+        → TableSpells (remaining s.source) s.table wanted format own faults
         → TablesSpell (sources ++ s ∷ []) (facts ++ own) (told ++ faults ∷ [])
 
-  -- the sources were read to their ends, and the books are of all facts
+  -- the sources were read to their ends, and the books are of all facts and prints
   abbrev pub TablesRead : (given : Option ℕ) → List (TableSource S) → Spelled → Type 0
   TablesRead given sources spelled =
-      (facts : List Fact) × TablesSpell sources facts spelled.faults.items × Holds given spelled.entered facts
+      (facts : List RowFact) × TablesSpell sources facts spelled.faults.items × Holds given spelled.entered facts
 
 -- one of these sources was not read to its end, and it is named
 abbrev pub StopsAt : {S : Type 0} → List (TableSource S) → Unread → Type 0
@@ -63,7 +88,7 @@ StopsAt {S} sources unread =
     × (sources ≡ before ++ s ∷ behind) × (unread.table ≡ Some s.table)
 
 -- a dump was read to its end, and the books are of all facts
-abbrev pub DumpRead : (given : Option ℕ) → Option (List ℕ) → Option (List ℕ) → Spelled → Type 0
-DumpRead given old new s =
-    (facts : List Fact) × (faults : Told) × DumpSpells old new facts faults × (s.faults.items ≡ faults ∷ [])
+abbrev pub DumpRead : Wanted → (given : Option ℕ) → Option (List ℕ) → Spelled → Type 0
+DumpRead wanted given old s =
+    (facts : List RowFact) × (faults : Told) × DumpSpells wanted old facts faults × (s.faults.items ≡ faults ∷ [])
     × Holds given s.entered facts

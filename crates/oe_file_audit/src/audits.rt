@@ -1,16 +1,22 @@
 //! The audit of files: their lines are read, what they spell is checked, and the report is written.
-//! Where a line can't be read, or what is read lacks what no check can do without, nothing is
-//! written.
+//! Earlier files, where they are given, are read first, and rows are compared with theirs. Where a
+//! line can't be read, or what is read lacks what no check can do without, nothing is written.
 ghost use Rattle.std.specs.Prelude.{◌≡◌, List, Option};
-ghost use Rattle.oe_facts.specs.declared.tables.Fact.{Fact};
+ghost use Rattle.std.specs.Option.{option_map};
+ghost use Rattle.oe_columns.specs.declared.prints.RowFact.{RowFact};
+ghost use Rattle.oe_earlier.specs.Keeping.{KeepsCompared, AreSettledCompared};
 ghost use Rattle.oe_books.specs.Closing.{AreSettled, IsReady};
-ghost use Rattle.oe_books.specs.Facts.{Facts};
-ghost use Rattle.oe_file_audit.specs.Reading.{Holds, HoldsSome};
-ghost use Rattle.oe_file_audit.specs.Audits.{status_of, any_fault, Reports, Judges, TablesAudited, DumpAudited};
+ghost use Rattle.oe_books.specs.Facts.{parted};
+ghost use Rattle.oe_books.specs.Keeping.{Keeps};
+ghost use Rattle.oe_file_audit.specs.Reading.{Holds, HoldsSome, StopsAt, facts_of, TablesSpell};
+ghost use Rattle.oe_file_audit.specs.Earlier.{any_fault, asked_of, compared_with, IsEarlier};
+ghost use Rattle.oe_file_audit.specs.Audits.{status_of, Reports, JudgesSound, Judges, KeepsSome, EndsBehind, AreSpelled, TablesAudited, DumpAudited};
 
-use crate::reading::{Spelled, TableSource, Unread, read_one, read_tables};
+use crate::earlier::{Earlier, EarlierRead, any_fault, read_earlier};
+use crate::reading::{Entered, Spelled, TableSource, Unread, read_one, read_tables};
 use oe_audit_report::{Form, counted, write_report};
-use oe_books::{Closed, Lack, Settled};
+use oe_books::{Asked, Books, Closed, Lack, Settled};
+use oe_earlier::Compared;
 use oe_fields::Format;
 use oe_ports::ports::Outlet;
 use oe_sources::Faults;
@@ -38,6 +44,8 @@ pub enum Verdict {
     Fails,
     /// Lines can't be read, and nothing is reported.
     Unreadable(Vec<Faults>),
+    /// Lines of the earlier files can't be read, and nothing is reported.
+    UnreadableBefore(Vec<Faults>),
     /// What no check can do without is not there, and nothing is reported.
     Lacking(Lack),
 }
@@ -47,6 +55,8 @@ pub enum Verdict {
 pub enum AuditFault {
     /// A source was not read to its end. Nothing was written.
     Unread(Unread),
+    /// A source of earlier rows was not read to its end. Nothing was written.
+    UnreadBefore(Unread),
     /// Memory was refused. Nothing was written.
     NoMemory,
     /// A write failed. A beginning of the report was written.
@@ -61,34 +71,27 @@ pub fn status(verdict: &Verdict) -> u8
     match verdict {
         Verdict::Holds => 0,
         Verdict::Fails => 1,
-        Verdict::Unreadable(_) | Verdict::Lacking(_) => 2,
+        Verdict::Unreadable(_) | Verdict::UnreadableBefore(_) | Verdict::Lacking(_) => 2,
     }
-}
-
-// Tells whether a line of a source can't be read.
-fn any_fault(faults: &[Faults]) -> bool
-    ensures { result ≡ any_fault faults.now }
-{
-    for told in faults {
-        if !told.kept().is_empty() {
-            return true;
-        }
-    }
-    false
 }
 
 // Writes the report of books that are settled.
 fn report<W: Outlet>(
     alloc: Global,
     options: &Options,
+    asked: Asked,
     settled: &Settled,
+    compared: &Compared,
     writer: &mut W,
 ) -> Result<Verdict, AuditFault>
-    requires { AreSettled settled.now }
-    ensures { (t : Facts) → IsReady options.now.initial t settled.now →
-        Reports options.now (W.sink writer.old) (W.sink writer.new) t result }
+    requires settled { AreSettled settled.now }
+    requires compared { AreSettledCompared compared.now }
+    ensures { (earlier : Option (List RowFact)) (rows : List RowFact)
+        → IsReady options.now.initial (parted (facts_of rows)) settled.now
+        → asked ≡ asked_of earlier → compared_with earlier rows compared.now
+        → Reports options.now (W.sink writer.old) (W.sink writer.new) earlier rows result }
 {
-    let results = match settled.results(alloc) {
+    let results = match settled.results(alloc, asked, compared) {
         Ok(results) => results,
         Err(_) => return Err(AuditFault::NoMemory),
     };
@@ -105,26 +108,31 @@ fn discard(settled: Settled) {
     let _ended = settled;
 }
 
-// Judges what sources spell.
-fn judge<W: Outlet>(
+// Gives up what was compared.
+#[inline(never)]
+fn give_up(compared: Compared) {
+    let _ended = compared;
+}
+
+// Judges the rows of books.
+fn judge_books<W: Outlet>(
     alloc: Global,
     options: &Options,
-    spelled: Spelled,
+    asked: Asked,
+    books: Books,
+    compared: &Compared,
     writer: &mut W,
 ) -> Result<Verdict, AuditFault>
-    requires { HoldsSome options.now.initial spelled.entered }
-    ensures { (facts : List Fact) → Holds options.now.initial spelled.entered facts →
-        Judges options.now (W.sink writer.old) (W.sink writer.new) facts spelled.faults.items
-        result }
+    requires books { KeepsSome options.now.initial books }
+    requires compared { AreSettledCompared compared.now }
+    ensures { (earlier : Option (List RowFact)) (rows : List RowFact)
+        → Keeps options.now.initial (parted (facts_of rows)) books
+        → asked ≡ asked_of earlier → compared_with earlier rows compared.now
+        → JudgesSound options.now (W.sink writer.old) (W.sink writer.new) earlier rows result }
 {
-    let Spelled { entered, faults } = spelled;
-    if any_fault(&faults) {
-        entered.discard();
-        return Ok(Verdict::Unreadable(faults));
-    }
-    match entered.books.close(alloc) {
+    match books.close(alloc) {
         Ok(Closed::Settled(settled)) => {
-            let reported = report(alloc, options, &settled, writer);
+            let reported = report(alloc, options, asked, &settled, compared, writer);
             discard(settled);
             reported
         }
@@ -133,35 +141,137 @@ fn judge<W: Outlet>(
     }
 }
 
-/// Audits the rows of tables, each from a source of its own, and writes the report.
+// Judges what sources without a fault spell.
+fn judge_sound<W: Outlet>(
+    alloc: Global,
+    options: &Options,
+    earlier: Earlier,
+    entered: Entered,
+    writer: &mut W,
+) -> Result<Verdict, AuditFault>
+    requires { HoldsSome options.now.initial entered }
+    ensures { (of_earlier : Option (List RowFact)) (rows : List RowFact)
+        → IsEarlier of_earlier earlier → Holds options.now.initial entered rows
+        → JudgesSound options.now (W.sink writer.old) (W.sink writer.new) of_earlier rows result }
+{
+    let Entered { books, traces } = entered;
+    let Earlier {
+        asked,
+        traces: before,
+    } = earlier;
+    let compared = Compared::of(before, traces);
+    let judged = judge_books(alloc, options, asked, books, &compared, writer);
+    give_up(compared);
+    judged
+}
+
+// Judges what sources spell.
+fn judge<W: Outlet>(
+    alloc: Global,
+    options: &Options,
+    earlier: Earlier,
+    spelled: Spelled,
+    writer: &mut W,
+) -> Result<Verdict, AuditFault>
+    requires { HoldsSome options.now.initial spelled.entered }
+    ensures { (of_earlier : Option (List RowFact)) (rows : List RowFact)
+        → IsEarlier of_earlier earlier → Holds options.now.initial spelled.entered rows
+        → Judges options.now (W.sink writer.old) (W.sink writer.new) of_earlier rows
+        spelled.faults.items result }
+{
+    let Spelled { entered, faults } = spelled;
+    if any_fault(&faults) {
+        entered.discard();
+        earlier.discard();
+        return Ok(Verdict::Unreadable(faults));
+    }
+    judge_sound(alloc, options, earlier, entered, writer)
+}
+
+// Audits the rows of tables behind what earlier rows were.
+fn audit_tables_behind<S: Read + Drop, W: Outlet>(
+    alloc: Global,
+    options: &Options,
+    format: Format,
+    earlier: Earlier,
+    sources: Vec<TableSource<S>>,
+    writer: &mut W,
+) -> Result<Verdict, AuditFault>
+    ensures { (of_earlier : Option (List RowFact)) → IsEarlier of_earlier earlier
+        → EndsBehind options.now (W.sink writer.old) (W.sink writer.new)
+        (λ wanted. TablesSpell S.remaining wanted format sources.items) (StopsAt sources.items)
+        of_earlier result }
+{
+    match read_tables(alloc, options.initial, earlier.wanted(), format, sources) {
+        Ok(spelled) => judge(alloc, options, earlier, spelled, writer),
+        Err(unread) => {
+            earlier.discard();
+            Err(AuditFault::Unread(unread))
+        }
+    }
+}
+
+/// Audits the rows of tables, each from a source of its own, and writes the report. Where earlier
+/// sources are given, they are read first, and rows are compared with theirs.
 pub fn audit_tables<S: Read + Drop, W: Outlet>(
     alloc: Global,
     options: &Options,
     format: Format,
+    before: Option<Vec<TableSource<S>>>,
     sources: Vec<TableSource<S>>,
     writer: &mut W,
 ) -> Result<Verdict, AuditFault>
-    ensures { TablesAudited S.remaining options.now format sources.items (W.sink writer.old)
-        (W.sink writer.new) result }
+    ensures { TablesAudited S.remaining options.now format (option_map (λ v. v.items) before)
+        sources.items (W.sink writer.old) (W.sink writer.new) result }
 {
-    match read_tables(alloc, options.initial, format, sources) {
-        Ok(spelled) => judge(alloc, options, spelled, writer),
-        Err(unread) => Err(AuditFault::Unread(unread)),
+    match read_earlier(alloc, format, before) {
+        Ok(EarlierRead::Sound(earlier)) => {
+            audit_tables_behind(alloc, options, format, earlier, sources, writer)
+        }
+        Ok(EarlierRead::Faulty(faults)) => Ok(Verdict::UnreadableBefore(faults)),
+        Err(unread) => Err(AuditFault::UnreadBefore(unread)),
     }
 }
 
-/// Audits the rows of a dump, and writes the report.
-pub fn audit_dump<S: Read, W: Outlet>(
+// Audits the rows of a dump behind what earlier rows were.
+fn audit_dump_behind<S: Read + Drop, W: Outlet>(
     alloc: Global,
     options: &Options,
-    source: &mut S,
+    earlier: Earlier,
+    source: S,
     writer: &mut W,
 ) -> Result<Verdict, AuditFault>
-    ensures { DumpAudited options.now (S.remaining source.old) (S.remaining source.new)
-        (W.sink writer.old) (W.sink writer.new) result }
+    ensures { (of_earlier : Option (List RowFact)) → IsEarlier of_earlier earlier
+        → EndsBehind options.now (W.sink writer.old) (W.sink writer.new)
+        (AreSpelled (S.remaining source)) (λ unread. unread.table ≡ None)
+        of_earlier result }
 {
-    match read_one(alloc, options.initial, source) {
-        Ok(spelled) => judge(alloc, options, spelled, writer),
-        Err(unread) => Err(AuditFault::Unread(unread)),
+    match read_one(alloc, options.initial, earlier.wanted(), source) {
+        Ok(spelled) => judge(alloc, options, earlier, spelled, writer),
+        Err(unread) => {
+            earlier.discard();
+            Err(AuditFault::Unread(unread))
+        }
+    }
+}
+
+/// Audits the rows of a dump, and writes the report. Where earlier sources are given, files of
+/// tables with tabs, they are read first, and rows are compared with theirs.
+pub fn audit_dump<B: Read + Drop, S: Read + Drop, W: Outlet>(
+    alloc: Global,
+    options: &Options,
+    before: Option<Vec<TableSource<B>>>,
+    source: S,
+    writer: &mut W,
+) -> Result<Verdict, AuditFault>
+    ensures { DumpAudited B.remaining options.now (option_map (λ v. v.items) before)
+        (S.remaining source) (W.sink writer.old) (W.sink writer.new) result }
+{
+    match read_earlier(alloc, Format::Tabs, before) {
+        Ok(EarlierRead::Sound(earlier)) => {
+            audit_dump_behind(alloc, options, earlier, source, writer)
+        }
+        Ok(EarlierRead::Faulty(faults)) => Ok(Verdict::UnreadableBefore(faults)),
+        Err(unread) => Err(AuditFault::UnreadBefore(unread)),
     }
 }

@@ -1,16 +1,18 @@
 //! The lines that tell what is wrong with sources: at most three lines of each table, how many more
-//! there are, and the likely cause where all lines are wrong in one way. No memory is taken.
+//! there are, and the likely cause where all lines are wrong in one way. Before a table of earlier
+//! sources stands `before/`. No memory is taken.
 ghost use Rattle.std.specs.Prelude.{◌≡◌, ◌≤◌, ◌+◌, ◌++◌, [], length, slice_index};
+ghost use Rattle.oe_columns.specs.Constants.{constant_names};
 ghost use Rattle.oe_sources.specs.Fault.{place_of};
 ghost use Rattle.std.specs.List.{flat_map};
 ghost use Rattle.arrayvec.specs.ArrayVec.{array_vec_len};
 ghost use Rattle.oe_ports.specs.Ports.{Streams};
-ghost use Rattle.oe_file_audit.specs.Faults.{name_at, kind_at, wanted_text, printed, shown_text, wrong_text, fault_line, more_line, more_text, cause_line, source_text, lack_line};
+ghost use Rattle.oe_file_audit.specs.Faults.{side_text, table_text, name_or, name_at, kind_at, wanted_text, printed, shown_text, wrong_text, fault_line, more_line, more_text, cause_line, source_text, lack_line};
 
 use crate::causes::{cause_name, cause_of};
 use oe_audit_report::lines::{LineOf, Lines, TextOf, put_each, put_line};
 use oe_books::Lack;
-use oe_columns::{Kind, LayoutFault, fact_columns};
+use oe_columns::{Kind, LayoutFault, constant_columns, fact_columns};
 use oe_facts::Table;
 use oe_fields::Format;
 use oe_ports::output::flush;
@@ -32,15 +34,60 @@ const TABLES: [Table; 9] = [
     Table::Stock,
 ];
 
-/// Gives the name of a column that a fact needs, by its number among them.
+/// Which sources are told of.
+#[derive(Clone, Copy)]
+pub enum Side {
+    /// Those whose rows are checked.
+    Now,
+    /// Those of earlier rows.
+    Before,
+}
+
+/// Appends what stands before a table's name.
+fn before_name(out: &mut Pending, side: Side)
+    requires { array_vec_len out.old + 10 ≤ SIZE }
+    ensures items { out.new.items ≡ out.old.items ++ side_text side }
+    ensures len { array_vec_len out.new ≤ array_vec_len out.old + 10 }
+{
+    match side {
+        Side::Now => {}
+        Side::Before => text(out, b"before/"),
+    }
+}
+
+/// Appends a table's name.
+fn table_name(out: &mut Pending, of: Side, table: Table)
+    requires { array_vec_len out.old + 20 ≤ SIZE }
+    ensures items { out.new.items ≡ out.old.items ++ table_text of table }
+    ensures len { array_vec_len out.new ≤ array_vec_len out.old + 20 }
+{
+    before_name(out, of);
+    text(out, table.name().as_bytes());
+}
+
+/// Gives the name of a column that no transaction changes, by its number among them.
+fn constant_name(table: Table, column: usize) -> &'static str
+    ensures value { result.now ≡ name_or (constant_names table) column }
+    ensures most { length result.now ≤ 20 }
+{
+    match constant_columns(table).get(column) {
+        Some(found) => found.name,
+        None => "?",
+    }
+}
+
+/// Gives the name of a column, by its number: those that a fact needs come first, then those that
+/// no transaction changes.
+#[tactic(auto, using(crate::proofs::FaultFacts::name_first, crate::proofs::FaultFacts::name_second, crate::proofs::FaultFacts::name_short))]
 fn name_at(table: Table, column: usize) -> &'static str
     ensures value { result.now ≡ name_at table column }
     ensures most { length result.now ≤ 20 }
 {
-    match fact_columns(table).get(column) {
-        Some(found) => found.name,
-        None => "?",
+    let columns = fact_columns(table);
+    if column < columns.len() {
+        return columns[column].name;
     }
+    constant_name(table, column - columns.len())
 }
 
 /// Appends the name of a column.
@@ -148,13 +195,15 @@ fn wrong(out: &mut Pending, fault: &SourceFault)
 
 /// Makes the lines of faults.
 #[derive(Drop)]
-struct FaultLines {}
+struct FaultLines {
+    side: Side,
+}
 
 impl LineOf<SourceFault> for FaultLines {
-    ghost line = { λ _ fault. fault_line fault };
+    ghost line = { λ l fault. fault_line l.side fault };
 
     fn append(&self, fault: &SourceFault, out: &mut Pending) {
-        text(out, fault.table.name().as_bytes());
+        table_name(out, self.side, fault.table);
         text(out, b" line ");
         number(out, fault.line);
         text(out, b": ");
@@ -164,11 +213,11 @@ impl LineOf<SourceFault> for FaultLines {
 }
 
 /// Appends how many lines of a table more there are.
-fn more(out: &mut Pending, table: Table, count: u64)
+fn more(out: &mut Pending, side: Side, table: Table, count: u64)
     requires { array_vec_len out.old + 100 ≤ SIZE }
-    ensures { out.new.items ≡ out.old.items ++ more_line table count }
+    ensures { out.new.items ≡ out.old.items ++ more_line side table count }
 {
-    text(out, table.name().as_bytes());
+    table_name(out, side, table);
     text(out, b": ");
     number(out, count);
     text(out, b" more lines\n");
@@ -177,16 +226,17 @@ fn more(out: &mut Pending, table: Table, count: u64)
 /// Makes the lines that tell how many lines of a table more there are.
 #[derive(Drop)]
 struct MoreLines<'a> {
+    side: Side,
     faults: &'a Faults,
 }
 
 impl LineOf<Table> for MoreLines<'_> {
-    ghost line = { λ l table. more_text table (slice_index l.faults.now.counts (place_of table)) };
+    ghost line = { λ l table. more_text l.side table (slice_index l.faults.now.counts (place_of table)) };
 
     fn append(&self, table: &Table, out: &mut Pending) {
         let count = self.faults.count(*table);
         if count > 3 {
-            more(out, *table, count - 3);
+            more(out, self.side, *table, count - 3);
         }
     }
 }
@@ -194,11 +244,12 @@ impl LineOf<Table> for MoreLines<'_> {
 /// Makes the line of the likely cause, where the source is a table's file with fields of a format.
 #[derive(Drop)]
 struct CauseLine {
+    side: Side,
     format: Option<Format>,
 }
 
 impl LineOf<Faults> for CauseLine {
-    ghost line = { λ l faults. cause_line l.format faults.kept };
+    ghost line = { λ l faults. cause_line l.side l.format faults.kept };
 
     fn append(&self, faults: &Faults, out: &mut Pending) {
         let Some(format) = self.format else {
@@ -209,7 +260,7 @@ impl LineOf<Faults> for CauseLine {
             return;
         };
         if let Some(cause) = cause_of(format, kept) {
-            text(out, first.table.name().as_bytes());
+            table_name(out, self.side, first.table);
             text(out, b": ");
             text(out, cause_name(cause).as_bytes());
             out.push(b'\n');
@@ -220,21 +271,31 @@ impl LineOf<Faults> for CauseLine {
 /// Writes the faults of sources.
 #[derive(Drop)]
 struct SourceTexts {
+    side: Side,
     format: Option<Format>,
 }
 
 impl TextOf<Faults> for SourceTexts {
-    ghost text = { λ t faults. source_text t.format faults };
+    ghost text = { λ t faults. source_text t.side t.format faults };
 
     fn put<W: Outlet>(&self, faults: &Faults, out: &mut Pending, to: &mut W) -> Result<(), Failed> {
-        if let Err(failed) = put_each(&Lines { of: &FaultLines {} }, faults.kept(), out, to) {
+        let side = self.side;
+        if let Err(failed) = put_each(
+            &Lines {
+                of: &FaultLines { side },
+            },
+            faults.kept(),
+            out,
+            to,
+        ) {
             return Err(failed);
         }
-        let more = MoreLines { faults };
+        let more = MoreLines { side, faults };
         if let Err(failed) = put_each(&Lines { of: &more }, &TABLES, out, to) {
             return Err(failed);
         }
         let cause = CauseLine {
+            side,
             format: self.format,
         };
         put_line(&cause, faults, out, to)
@@ -247,15 +308,16 @@ impl TextOf<Faults> for SourceTexts {
 ///
 /// `Failed` where a write fails: a beginning of the lines is written then.
 pub fn write_faults<W: Outlet>(
+    side: Side,
     format: Option<Format>,
     faults: &[Faults],
     to: &mut W,
 ) -> Result<(), Failed>
     ensures { Streams (W.sink to.old) [] (W.sink to.new) []
-        (flat_map (source_text format) faults.now) result }
+        (flat_map (source_text side format) faults.now) result }
 {
     let mut out = Pending::new();
-    match put_each(&SourceTexts { format }, faults, &mut out, to) {
+    match put_each(&SourceTexts { side, format }, faults, &mut out, to) {
         Ok(()) => flush(&mut out, to),
         Err(failed) => Err(failed),
     }

@@ -4,11 +4,12 @@
 
 pub mod audits;
 pub mod causes;
+pub mod earlier;
 pub mod faults;
 pub mod reading;
 
 pub use audits::{AuditFault, Options, Verdict, audit_dump, audit_tables, status};
 pub use causes::{Cause, cause_of};
-pub use faults::{write_faults, write_lack};
+pub use faults::{Side, write_faults, write_lack};
 pub use oe_audit_report::Form;
 pub use reading::{TableSource, Unread};

@@ -747,4 +747,9 @@ module _ (format : Format) (old new : Nine) (end : Rows) (parted : List apart.Ap
   }
 
   pub whole_lacks : (a : apart.Apart) (us : List apart.Apart) → parted ≡ a ∷ us → LacksRow format old new a
-  whole_lacks a us e = (l.files, l.read, all_lack format old new l.files l.read end parted l.put a us e)
+  whole_lacks a us e = (
+    l.files,
+    l.read,
+    all_lack format old new l.files l.read end parted l.put a us e,
+    (end, us, subst (FilesPut l.files end) e l.put),
+  )

@@ -1,5 +1,5 @@
 -- Nine tables that have exactly the rows of nine files, and files whose rows lack one.
-use Rattle.std.specs.Prelude.{◌≡◌, ◌↔◌, ◌⊎◌, List, Some}
+use Rattle.std.specs.Prelude.{◌≡◌, ◌↔◌, ◌⊎◌, List, ◌∷◌, Some}
 use Rattle.std.specs.Int.{IsInRange}
 use Rattle.std.specs.declared.cmp.Ordering.{Ordering}
 use Rattle.std.specs.FinMap.{FinMap, get}
@@ -17,7 +17,7 @@ use Rattle.oe_file_tables.specs.declared.lines.Numbered.{Numbered}
 use Rattle.oe_file_loading.specs.declared.loading.Apart.{Apart}
 use Rattle.oe_file_loading.specs.declared.whole.NotWhole.{NotWhole}
 use Rattle.oe_file_loading.specs.declared.whole.NotWhole.TheVariants as error
-use Rattle.oe_file_loading.specs.Loaded.{NineRows, FilesRead, IsNotLoaded}
+use Rattle.oe_file_loading.specs.Loaded.{NineRows, FilesRead, FilesPut, IsNotLoaded}
 use Rattle.oe_file_loading.specs.Loading.{Nine}
 use Rattle.oe_file_loading.specs.Placing.{IsRowOf, IsKeyOf}
 
@@ -79,11 +79,15 @@ pub record LacksIn (f : NineRows) (a : Apart) : Type 0 where
   pub refers : RefersTo f a.key a.missing
   pub missing : HasLine f a.missing → ⊥
 
--- the files were read to their ends, and a row of theirs lacks one
-abbrev pub LacksRow : Format → Nine → Nine → Apart → Type 0
-LacksRow format old new a = (f : NineRows) × FilesRead format old new f × LacksIn f a
+-- it is the first that is set apart as these rows are put, table by table, with the first row that it lacks
+abbrev pub IsFirstApart : NineRows → Apart → Type 0
+IsFirstApart f a = (end : Rows) × (others : List Apart) × FilesPut f end (a ∷ others)
 
--- no tables: a row lacks one, or the files are not loaded
+-- the files were read to their ends, and a row of theirs lacks one: the first that does
+abbrev pub LacksRow : Format → Nine → Nine → Apart → Type 0
+LacksRow format old new a = (f : NineRows) × FilesRead format old new f × LacksIn f a × IsFirstApart f a
+
+-- no tables: a row lacks one, and the first that does is named; or the files are not loaded
 abbrev pub IsNotWhole : Format → Nine → Nine → NotWhole → Type 0
 IsNotWhole format old new (error.Apart a) = LacksRow format old new a
 IsNotWhole format old new (error.Unloaded e) = IsNotLoaded format old new e

@@ -1,5 +1,5 @@
 //! Nine files whose rows all find the rows that they refer to, as nine tables. Else the call
-//! names one row that does not.
+//! names the first row that does not.
 ghost use Rattle.std.specs.Prelude.{MatchResult};
 ghost use Rattle.oe_store.specs.Places.{rows};
 ghost use Rattle.oe_file_loading.specs.Loading.{Nine, nine_of};

@@ -35,6 +35,6 @@ streamed old new waited waits text (Err e) none same s = front_sent old new wait
 pub is_short : (o : Origin) (input ours : List ℕ) (v : Verdict) → IsDecided o input v ours → IsShort v
 is_short o input ours (verdict.Serial n) d = tt
 is_short o input ours (verdict.Differs number theirs last) d =
-    let tells = d.1.is_verdict.0.differs.2 in
-    (words_short d.1.is_verdict.0.line tells.words theirs.now 1_024 tells.parts tells.short).1
+    let tells = d.1.is_verdict.differs.2 in
+    (words_short d.1.is_verdict.line tells.words theirs.now 1_024 tells.parts tells.short).1
 is_short o input ours (verdict.Unreadable bad) d = tt

@@ -1,5 +1,5 @@
 -- Whether lines tell the replies that what they ask for has, one after another in this order.
-use Rattle.std.specs.Prelude.{◌≡◌, ◌≢◌, ℕ, ◌+◌, ◌≤◌, All, IfSome, Option, Result, Ok, Err, List, [], ◌∷◌, ◌++◌, length}
+use Rattle.std.specs.Prelude.{◌≡◌, ◌≢◌, ℕ, ◌+◌, ◌≤◌, All, Option, Result, Ok, Err, List, [], ◌∷◌, ◌++◌, length}
 use Rattle.std.specs.Prelude.{codes, decimal}
 use Rattle.oe_rows.specs.declared.scales.Scale.{Scale}
 use Rattle.oe_model.specs.Rows.{Rows}
@@ -12,7 +12,8 @@ use Rattle.oe_file_serial.specs.InOrder.{Between, at_first}
 use Rattle.oe_file_serial.specs.declared.lines.Asked.{Asked}
 use Rattle.oe_file_serial.specs.Answers.{Answers}
 use Rattle.oe_reply_words.specs.Others.{other_line}
-use Rattle.oe_file_serial.specs.Changes.{IsChange}
+use Rattle.oe_file_serial.specs.Changes.{IsHint}
+use Rattle.oe_reply_words.specs.declared.rows.Change.{Change}
 use Rattle.oe_file_serial.specs.Files.{Tells, IsTold, Opens, OpensRing, lines_of, last_of, AreBad, Shows}
 use Rattle.oe_file_serial.specs.declared.origins.Opening.{Opening}
 use Rattle.oe_file_serial.specs.declared.origins.Opening.TheVariants as opening
@@ -40,8 +41,10 @@ abbrev pub Differs : Between system → List ℕ → List ℕ → List ℕ → T
 Differs b line theirs ours =
     (a : Asked) × (b' : Between system) × Tells line a theirs × Answers b a ours b' × (theirs ≢ ours)
 
--- the lines before one agree, and that one, of this number, does not; the opening is line 1
-pub record IsFirstOther (b : Between system) (lines : List (List ℕ)) (number : ℕ) (theirs ours : List ℕ) : Type 0 where
+-- the lines before one agree, and that one, of this number, does not; the opening is line 1. The last change, by the
+-- lines before it, is that of the row that its first word which differs tells of.
+pub record IsFirstOther (b : Between system) (lines : List (List ℕ)) (number : ℕ) (theirs ours : List ℕ)
+    (last : Option Change) : Type 0 where
   pub before : List (List ℕ)
   pub line : List ℕ
   pub behind : List (List ℕ)
@@ -50,13 +53,13 @@ pub record IsFirstOther (b : Between system) (lines : List (List ℕ)) (number :
   pub number_is : number ≡ length before + 2
   pub agree : AreSerial b before mid
   pub differs : Differs mid line theirs ours
+  pub hint : IsHint before line ours last
 
--- all n lines agree, and end there; or one is the first that does not agree, and the verdict names a line before it
--- that changed a row, or none
+-- all n lines agree, and end there; or one is the first that does not agree
 abbrev pub IsVerdict : Between system → List (List ℕ) → Verdict → List ℕ → Between system → Type 0
 IsVerdict b lines (verdict.Serial n) ours end = AreSerial b lines end × (n ≡ length lines)
 IsVerdict b lines (verdict.Differs number theirs last) ours end =
-    IsFirstOther b lines number theirs.now ours × IfSome last (IsChange lines number)
+    IsFirstOther b lines number theirs.now ours last
 IsVerdict b lines (verdict.Unreadable bad) ours end = ⊥
 
 -- what the first line of a file opens, by what the file begins from

@@ -87,8 +87,8 @@ fn command_behind(front: &[u8], words: &[u8]) -> Option<Command>
     command(line.as_slice())
 }
 
-// Reads the transaction that words ask for.
-fn read_transaction(words: &[u8]) -> Option<(Terminal, Request)>
+/// Reads the transaction that words ask for.
+pub(crate) fn read_transaction(words: &[u8]) -> Option<(Terminal, Request)>
     requires { length words.now ≤ 1_024 }
     ensures { MatchOption result
         ((t : ℕ) (q : Request) → Says (codes "begin " ++ words.now) (asks.Begin t q) → ⊥)

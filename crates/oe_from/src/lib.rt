@@ -2,8 +2,14 @@
 //! one, and that they do nothing where it is none.
 #![tactic(auto)]
 
+pub mod gaps;
+pub mod loads;
+pub mod scales;
 pub mod scripts;
 pub mod serials;
 
+pub use gaps::write_gap;
+pub use loads::{Following, FollowingFault, run_load_from};
+pub use scales::{Gap, scale_of};
 pub use scripts::{OpenedFault, run_script_from};
 pub use serials::{FromFault, run_comparison_from, run_serial_from};

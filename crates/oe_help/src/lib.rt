@@ -37,7 +37,7 @@ pub fn refusal<S: AsStr>(alloc: Global, words: &[S]) -> Error {
 
 /// Says why the words ask for no task, or that memory was refused.
 fn explained<S: AsStr>(alloc: Global, words: &[S]) -> Result<Error, Error> {
-    let mut command = grammar(alloc)?;
+    let mut command = grammar(alloc, words)?;
     match command.try_get_matches_from_mut(words) {
         Ok(_) => Ok(command.error(ErrorKind::ValueValidation, what_else(words))?),
         Err(error) => Ok(error),
@@ -83,8 +83,8 @@ fn what_else<S: AsStr>(words: &[S]) -> &'static str {
     }
 }
 
-/// Makes the command line's grammar.
-fn grammar<'a>(alloc: Global) -> Result<Command<'a>, Error> {
+/// Makes the grammar of these words' command line.
+fn grammar<'a, S: AsStr>(alloc: Global, words: &[S]) -> Result<Command<'a>, Error> {
     let command = Command::new(alloc, "oe_server")
         .about(ABOUT)
         .version(VERSION)
@@ -95,7 +95,7 @@ fn grammar<'a>(alloc: Global) -> Result<Command<'a>, Error> {
         .subcommand(serial_grammar(alloc)?)?
         .subcommand(drive_grammar(alloc)?)?
         .subcommand(audit_grammar(alloc)?)?
-        .subcommand(load_grammar(alloc)?)?;
+        .subcommand(load_grammar(alloc, words)?)?;
     Ok(command)
 }
 
@@ -144,26 +144,33 @@ fn serial_grammar<'a>(alloc: Global) -> Result<Command<'a>, Error> {
 
 /// Makes the grammar of a drive.
 fn drive_grammar<'a>(alloc: Global) -> Result<Command<'a>, Error> {
-    with_numbers(
+    let scaled = with_scale(alloc, command(alloc, "drive", DRIVE));
+    with_turns(
         alloc,
-        command(alloc, "drive", DRIVE),
+        scaled?,
         1_000,
         "Requests of each terminal, 1 to 1000",
     )
 }
 
-/// Adds the seven numbers of a drive or a load, which has `most` requests of a terminal at most, to
-/// a grammar.
-fn with_numbers<'a>(
+/// Adds the three numbers of a population to a grammar.
+fn with_scale<'a>(alloc: Global, command: Command<'a>) -> Result<Command<'a>, Error> {
+    let command = command
+        .arg(number(alloc, "W", 1, 16).help("Warehouses, 1 to 16"))?
+        .arg(number(alloc, "C", 1, 3_000).help("Customers in each district, 1 to 3000"))?
+        .arg(number(alloc, "I", 1, 100_000).help("Items, 1 to 100000"))?;
+    Ok(command)
+}
+
+/// Adds the other four numbers of a drive or a load, which has `most` requests of a terminal at
+/// most, to a grammar.
+fn with_turns<'a>(
     alloc: Global,
     command: Command<'a>,
     most: i64,
     requests: &'a str,
 ) -> Result<Command<'a>, Error> {
     let command = command
-        .arg(number(alloc, "W", 1, 16).help("Warehouses, 1 to 16"))?
-        .arg(number(alloc, "C", 1, 3_000).help("Customers in each district, 1 to 3000"))?
-        .arg(number(alloc, "I", 1, 100_000).help("Items, 1 to 100000"))?
         .arg(number(alloc, "E", 2, 4_096).help("Undo extents, 2 to 4096"))?
         .arg(number(alloc, "T", 1, 63).help("Terminals, 1 to 63"))?
         .arg(number(alloc, "N", 1, most).help(requests))?
@@ -171,20 +178,39 @@ fn with_numbers<'a>(
     Ok(command)
 }
 
-/// Makes the grammar of a load.
-fn load_grammar<'a>(alloc: Global) -> Result<Command<'a>, Error> {
+/// Tells whether words ask for a load on tables that are there.
+fn is_following<S: AsStr>(words: &[S]) -> bool {
+    words.len() > 2 && words[2].as_str() == "--from"
+}
+
+/// Makes the grammar of a load; on tables that are there it has no scale.
+fn load_grammar<'a, S: AsStr>(alloc: Global, words: &[S]) -> Result<Command<'a>, Error> {
+    let command = command(alloc, "load", LOAD).arg(
+        Arg::new(alloc, "DIR").long("from").help(
+            "Begins on the tables in the nine files of a directory, for W C I",
+        ),
+    )?;
+    if is_following(words) {
+        return with_load_options(alloc, command);
+    }
+    with_load_options(alloc, with_scale(alloc, command)?)
+}
+
+/// Adds the four numbers of a load and its options to a grammar.
+fn with_load_options<'a>(alloc: Global, command: Command<'a>) -> Result<Command<'a>, Error> {
     let kinds = Arg::new(alloc, "KIND").long("kinds");
     let first = Arg::new(alloc, "R")
         .long("first")
         .value_parser(value_parser!(u32).range(1..=1_000_000_000));
-    let numbers = with_numbers(
+    let numbers = with_turns(
         alloc,
-        command(alloc, "load", LOAD),
+        command,
         1_000_000_000,
         "Requests of each terminal, 1 to 1000000000",
     );
     let command = numbers?
         .arg(kinds.help("Draws these kinds alone: neworder,payment,status,delivery,level"))?
+        .arg(flag(alloc, "mix").help("Has 1 in 100 orders ask for an item that is not valid"))?
         .arg(first.help("Begins with each terminal's R-th request, 1 to 1000000000"))?
         .arg(flag(alloc, "flat").help("Prints one request a line, for another engine"))?;
     Ok(command)
@@ -202,6 +228,11 @@ fn audit_grammar<'a>(alloc: Global) -> Result<Command<'a>, Error> {
         .arg(
             Arg::new(alloc, "SOURCE").required(true).help(
                 "The directory of the nine files, or one file, or - for standard input",
+            ),
+        )?
+        .arg(
+            Arg::new(alloc, "DIR2").long("before").help(
+                "Compares with the nine files of a directory, as they were before",
             ),
         )?
         .arg(flag(alloc, "csv").help("Reads files of comma-separated values"))?

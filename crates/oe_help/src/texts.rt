@@ -19,18 +19,20 @@ pub(crate) const LOAD: &str =
     "Prints a load of terminals' requests, as a script or one request a line";
 
 pub(crate) const LOAD_WORDS: &str =
-    "the seven numbers come first, --kinds, --first and --flat behind them; \
-a kind is neworder, payment, status, delivery or level; R + N - 1 is at most 1000000000";
+    "the seven numbers come first, or --from DIR and the last four of them; behind them --kinds or \
+--mix, --first and --flat; a kind is neworder, payment, status, delivery or level; \
+R + N - 1 is at most 1000000000";
 
 pub(crate) const USAGE: &str = "oe_server script [--explain] < FILE
        oe_server script [--explain] FILE
        oe_server script --from DIR [--extents E] [--layout L] [FILE]
        oe_server serial FILE [--from DIR] [--tables DIR2] [--csv]
        oe_server drive W C I E T N SEED
-       oe_server audit DIR [--csv] [--first N] [--initial N] [--json]
+       oe_server audit DIR [--before DIR2] [--csv] [--first N] [--initial N] [--json]
        oe_server audit FILE [--first N] [--initial N] [--json]
        oe_server audit - [--first N] [--initial N] [--json]
-       oe_server load W C I E T N SEED [--kinds KIND,..] [--first R] [--flat]
+       oe_server load W C I E T N SEED [--kinds KIND,.. | --mix] [--first R] [--flat]
+       oe_server load --from DIR E T N SEED [--kinds KIND,.. | --mix] [--first R] [--flat]
        oe_server --help | --version";
 
 pub(crate) const FORMS: &str = "\
@@ -142,7 +144,12 @@ or queries each, which SEED makes, by the standard's weights or of the kinds tha
 and which is answered no error but Busy: each terminal's first transaction begins before any
 goes on, a cycle of waits ends by a rollback, and purge now makes room. With --flat it writes the
 opening, and for each request a line T REQUEST. With --first R each terminal begins with its R-th
-request, so that loads follow one another; R + N - 1 is at most 1000000000.
+request, so that loads follow one another; R + N - 1 is at most 1000000000. With --mix 1 in 100
+orders asks for an item that is not valid, and is answered error 12 and rolled back; without,
+none does. With --from the load begins on the nine files in DIR, whose rows have the scale: its
+script is one for script --from DIR --extents E, and knows no open; by --flat the opening is
+open E. Where the rows lack one that such a load may ask for, it is refused, on standard error:
+  no load: no KEY, or no load: KEY: no customer NAME
 
 The status is 0 at the end of a script's input, whatever the answers, for a file of replies
 that is serial and whose tables are the same, for a drive whose conditions hold and whose
@@ -162,8 +169,8 @@ pub(crate) const SCRIPT_WORDS: &str =
 --extents E from 2 to 4096, --layout 1 or 2, and FILE";
 
 pub(crate) const AUDIT_WORDS: &str =
-    "DIR, FILE or - comes first, --csv, --first N, --initial N and --json behind it; \
-N is digits alone";
+    "DIR, FILE or - comes first, --before DIR2 right behind it, then --csv, --first N, \
+--initial N and --json; N is digits alone";
 
 pub(crate) const SERIAL_WORDS: &str =
     "FILE comes first, --from DIR, --tables DIR2 and --csv behind it, in this order";

@@ -1,6 +1,5 @@
 -- A script between two turns, and how it ends.
 use Rattle.std.proofs.Common.{◌≡◌, ℕ, List, [], ◌∷◌, ◌++◌, Option, Ok, Err, refl, sym, subst, ◌∙◌, inl, inr}
-use Rattle.std.specs.Prelude.{Bool, true, false}
 use Rattle.std.proofs.lemmas.List.{append-nil}
 use Rattle.oe_theory.specs.World.{World}
 use Rattle.oe_model.specs.System.{system}
@@ -9,8 +8,11 @@ use Rattle.oe_ports.specs.declared.ports.Failed.{Failed}
 use Rattle.oe_ports.specs.Ports.{Sink, Sent, Cut}
 use Rattle.oe_ports.proofs.Streaming.{sent_none, sent_then, sent_cut, sent_as, sent_waits, cut_as}
 use Rattle.oe_words.specs.Texts.{line_text}
+use Rattle.oe_numbers.specs.declared.forms.Form.{Form}
+use Rattle.oe_numbers.specs.declared.forms.Form.TheVariants as load_form
 use Rattle.oe_plans.specs.declared.plans.Plan.{Plan}
 use Rattle.oe_load.specs.Loads.{IsScript, IsDone, none_served, opening_text, script_text}
+use Rattle.oe_load.specs.declared.origins.Origin.{Origin}
 use Rattle.oe_load.specs.Turns.{Steps}
 use Rattle.oe_load.specs.Ends.{IsBegun, Begun, Whole, Wrote, LoadRan}
 use Rattle.oe_load.specs.declared.turns.Shortage.{Shortage}
@@ -31,39 +33,39 @@ cut_off a b c i text s k = cut_as a c [] (text ++ []) text (append-nil text) (se
 -- A SCRIPT SO FAR
 
 -- the load told lines that led to this world, and to `begun` terminals that have begun; it wrote them, or they wait
-abbrev pub Standing : Plan → Option Sink → Option Sink → List ℕ → World system → (ℕ → ℕ) → ℕ → Type 0
-Standing p a b i w s begun =
-    (cs : List Command) × IsScript p cs w s × Phase p begun cs s × Sent a [] b i (script_text p cs)
+abbrev pub Standing : Plan → Origin → Option Sink → Option Sink → List ℕ → World system → (ℕ → ℕ) → ℕ → Type 0
+Standing p o a b i w s begun =
+    (cs : List Command) × IsScript p o cs w s × Phase p begun cs s × Sent a [] b i (script_text p o cs)
 
-module _ (p : Plan) (a : Option Sink) where
-  pub at_first : (i : List ℕ) (w : World system) (s : ℕ → ℕ) → i ≡ opening_text p → s ≡ none_served
-      → IsScript p [] w none_served → Standing p a a i w s 0
+module _ (p : Plan) (o : Origin) (a : Option Sink) where
+  pub at_first : (i : List ℕ) (w : World system) (s : ℕ → ℕ) → i ≡ opening_text p o load_form.Script → s ≡ none_served
+      → IsScript p o [] w none_served → Standing p o a a i w s 0
   at_first i w s e same h = (
     [],
-    subst (λ (f : ℕ → ℕ). IsScript p [] w f) (sym same) h,
+    subst (λ (f : ℕ → ℕ). IsScript p o [] w f) (sym same) h,
     phase_at_first p s same,
-    sent_waits a [] i (script_text p []) (e ∙ sym (append-nil (opening_text p))),
+    sent_waits a [] i (script_text p o []) (e ∙ sym (append-nil (opening_text p o load_form.Script))),
   )
 
   pub line_more : (b c : Option Sink) (i j k : List ℕ) (w : World system) (s : ℕ → ℕ) (n : ℕ) (v : World system)
-      (u : ℕ → ℕ) (m : ℕ) → Standing p a b i w s n → Sent b i c j [] → Steps p n w s j m v u k
-      → Standing p a c k v u m
+      (u : ℕ → ℕ) (m : ℕ) → Standing p o a b i w s n → Sent b i c j [] → Steps p n w s j m v u k
+      → Standing p o a c k v u m
   line_more b c i j k w s n v u m (cs, script, phase, sent) more (x, told, opens, e) = (
     cs ++ x ∷ [],
-    script_more p cs w s x v u script told,
+    script_more p o cs w s x v u script told,
     phase_more p n m cs x s u phase opens,
-    sent_as a c [] k (script_text p cs ++ line_text x) (script_text p (cs ++ x ∷ [])) (text_more p cs x)
-        (sent_then a c c [] j k (script_text p cs) (line_text x)
-        (flushed a b c i j (script_text p cs) sent more) (sent_waits c j k (line_text x) e)),
+    sent_as a c [] k (script_text p o cs ++ line_text x) (script_text p o (cs ++ x ∷ [])) (text_more p o cs x)
+        (sent_then a c c [] j k (script_text p o cs) (line_text x)
+        (flushed a b c i j (script_text p o cs) sent more) (sent_waits c j k (line_text x) e)),
   )
 
-  is_begun : (cs : List Command) (w : World system) (s : ℕ → ℕ) → IsScript p cs w s → IsBegun p (script_text p cs)
+  is_begun : (cs : List Command) (w : World system) (s : ℕ → ℕ) → IsScript p o cs w s → IsBegun p o (script_text p o cs)
   is_begun cs w s h = record { lines = cs; world = w; served = s; script = h; text_is = refl }
 
-  pub ends_served : (b : Option Sink) (i : List ℕ) (w : World system) (s : ℕ → ℕ) (n : ℕ) → Standing p a b i w s n
-      → IsDone p w s → Wrote p false a b i (Ok ending.Served)
+  pub ends_served : (b : Option Sink) (i : List ℕ) (w : World system) (s : ℕ → ℕ) (n : ℕ) → Standing p o a b i w s n
+      → IsDone p w s → Wrote p o load_form.Script a b i (Ok ending.Served)
   ends_served b i w s n (cs, script, phase, sent) done = (
-    script_text p cs,
+    script_text p o cs,
     record {
       lines = cs;
       world = w;
@@ -77,39 +79,39 @@ module _ (p : Plan) (a : Option Sink) where
   )
 
   pub ends_short : (b c : Option Sink) (i j k : List ℕ) (w : World system) (s : ℕ → ℕ) (n : ℕ) (e : Shortage)
-      → Standing p a b i w s n → Sent b i c j [] → k ≡ j → Wrote p false a c k (Ok (ending.Short e))
+      → Standing p o a b i w s n → Sent b i c j [] → k ≡ j → Wrote p o load_form.Script a c k (Ok (ending.Short e))
   ends_short b c i j k w s n e (cs, script, phase, sent) more same = (
-    script_text p cs,
+    script_text p o cs,
     inr (is_begun cs w s script),
-    subst (λ (z : List ℕ). Sent a [] c z (script_text p cs)) (sym same)
-        (flushed a b c i j (script_text p cs) sent more),
+    subst (λ (z : List ℕ). Sent a [] c z (script_text p o cs)) (sym same)
+        (flushed a b c i j (script_text p o cs) sent more),
   )
 
   pub ends_there : (b : Option Sink) (i : List ℕ) (w : World system) (s : ℕ → ℕ) (n : ℕ) (e : Shortage)
-      → Standing p a b i w s n → Wrote p false a b i (Ok (ending.Short e))
-  ends_there b i w s n e (cs, script, phase, sent) = (script_text p cs, inr (is_begun cs w s script), sent)
+      → Standing p o a b i w s n → Wrote p o load_form.Script a b i (Ok (ending.Short e))
+  ends_there b i w s n e (cs, script, phase, sent) = (script_text p o cs, inr (is_begun cs w s script), sent)
 
   pub ends_cut : (b c : Option Sink) (i k : List ℕ) (w : World system) (s : ℕ → ℕ) (n : ℕ) (e : Failed)
-      → Standing p a b i w s n → Cut b i c [] → Wrote p false a c k (Err e)
+      → Standing p o a b i w s n → Cut b i c [] → Wrote p o load_form.Script a c k (Err e)
   ends_cut b c i k w s n e (cs, script, phase, sent) cut =
-      (script_text p cs, inr (is_begun cs w s script), cut_off a b c i (script_text p cs) sent cut)
+      (script_text p o cs, inr (is_begun cs w s script), cut_off a b c i (script_text p o cs) sent cut)
 
   -- nothing was opened
-  pub ends_unopened : (k : List ℕ) (e : Shortage) → k ≡ [] → Wrote p false a a k (Ok (ending.Short e))
+  pub ends_unopened : (k : List ℕ) (e : Shortage) → k ≡ [] → Wrote p o load_form.Script a a k (Ok (ending.Short e))
   ends_unopened k e none =
       ([], inl refl, subst (λ (z : List ℕ). Sent a [] a z []) (sym none) (sent_none a []))
 
 -- WHAT WAITS IS WRITTEN
 
-whole_begun : (p : Plan) (is_flat : Bool) (text : List ℕ) → Whole p is_flat text → Begun p is_flat text
-whole_begun p true text h = record {
+whole_begun : (p : Plan) (o : Origin) (form : Form) (text : List ℕ) → Whole p o form text → Begun p o form text
+whole_begun p o load_form.Flat text h = record {
   requests = h.requests;
   served = h.served;
   words = h.words;
   in_turn = h.in_turn;
   text_is = h.text_is;
 }
-whole_begun p false text h = record {
+whole_begun p o load_form.Script text h = record {
   lines = h.lines;
   world = h.world;
   served = h.served;
@@ -117,25 +119,25 @@ whole_begun p false text h = record {
   text_is = h.text_is;
 }
 
-module _ (p : Plan) (is_flat : Bool) (a : Option Sink) where
-  pub closes_served : (b c : Option Sink) (i j : List ℕ) → Wrote p is_flat a b i (Ok ending.Served)
-      → Sent b i c j [] → j ≡ [] → LoadRan p is_flat a c (Ok tt)
+module _ (p : Plan) (o : Origin) (form : Form) (a : Option Sink) where
+  pub closes_served : (b c : Option Sink) (i j : List ℕ) → Wrote p o form a b i (Ok ending.Served)
+      → Sent b i c j [] → j ≡ [] → LoadRan p o form a c (Ok tt)
   closes_served b c i j (text, whole, sent) more none = (
     text,
     whole,
     subst (λ (z : List ℕ). Sent a [] c z text) none (flushed a b c i j text sent more),
   )
 
-  pub closes_short : (b c : Option Sink) (i j : List ℕ) (e : Shortage) → Wrote p is_flat a b i (Ok (ending.Short e))
-      → Sent b i c j [] → j ≡ [] → LoadRan p is_flat a c (Err (fault.Short e))
+  pub closes_short : (b c : Option Sink) (i j : List ℕ) (e : Shortage) → Wrote p o form a b i (Ok (ending.Short e))
+      → Sent b i c j [] → j ≡ [] → LoadRan p o form a c (Err (fault.Short e))
   closes_short b c i j e (text, begun, sent) more none = (
     text,
     begun,
     subst (λ (z : List ℕ). Sent a [] c z text) none (flushed a b c i j text sent more),
   )
 
-  pub closes_cut : (b c : Option Sink) (i : List ℕ) (e : Ending) → Wrote p is_flat a b i (Ok e) → Cut b i c []
-      → LoadRan p is_flat a c (Err fault.Write)
+  pub closes_cut : (b c : Option Sink) (i : List ℕ) (e : Ending) → Wrote p o form a b i (Ok e) → Cut b i c []
+      → LoadRan p o form a c (Err fault.Write)
   closes_cut b c i ending.Served (text, whole, sent) cut =
-      (text, inr (whole_begun p is_flat text whole), cut_off a b c i text sent cut)
+      (text, inr (whole_begun p o form text whole), cut_off a b c i text sent cut)
   closes_cut b c i (ending.Short e) (text, begun, sent) cut = (text, begun, cut_off a b c i text sent cut)

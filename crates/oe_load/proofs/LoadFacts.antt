@@ -9,10 +9,11 @@ use Rattle.std.proofs.lemmas.List.{length-append, flat_map_more}
 use Rattle.oe_theory.specs.Machine.{Machine}
 use Rattle.oe_theory.specs.World.{World, newest, bump}
 use Rattle.oe_theory.specs.Next.{Next, Step, Answer, Begin, Advance, Rollback, Read, Purge, is_full}
-use Rattle.oe_theory.specs.Next.{Begun, More, Committed, Busy, Rolled_back, Replied, Purged, Undo_full}
+use Rattle.oe_theory.specs.Next.{Aborted, Begun, More, Committed, Busy, Rolled_back, Replied, Purged, Undo_full}
 use Rattle.oe_rows.specs.declared.locks.Name.{Name}
 use Rattle.oe_requests.specs.declared.requests.Request.{Request}
 use Rattle.oe_requests.specs.declared.requests.Query.{Query}
+use Rattle.oe_requests.specs.declared.refusals.Refusal.TheVariants.{InvalidItem}
 use Rattle.oe_requests.specs.declared.replies.Reply.{Reply}
 use Rattle.oe_requests.specs.declared.replies.QueryReply.{QueryReply}
 use Rattle.oe_model.specs.System.{system}
@@ -22,16 +23,18 @@ use Rattle.oe_lines.specs.declared.commands.Command.{Command}
 use Rattle.oe_lines.specs.declared.commands.Command.TheVariants as command
 use Rattle.oe_lines.specs.declared.commands.MomentChoice.TheVariants as moment
 use Rattle.oe_words.specs.Texts.{line_text}
+use Rattle.oe_numbers.specs.declared.forms.Form.TheVariants as load_form
+use Rattle.oe_numbers.specs.declared.forms.Items.TheVariants.{AsDrawn}
 use Rattle.oe_plans.specs.declared.plans.Plan.{Plan}
 use Rattle.oe_plans.specs.declared.plans.Asked.{Asked}
 use Rattle.oe_plans.specs.declared.plans.Asked.TheVariants as asked
 use Rattle.oe_plans.specs.Plans.{asked_of}
 use Rattle.oe_model.specs.Rows.{Rows}
 use Rattle.oe_rows.specs.declared.layouts.Layout.TheVariants.{WholeRows}
-use Rattle.oe_model.specs.Population.{IsPopulated}
 use Rattle.oe_theory.specs.Theorems.{opened}
-use Rattle.oe_load.specs.Loads.{opening, IsNext, Line, Told, Lines, IsScript, none_served, script_text}
-use Rattle.oe_load.specs.Loads.{begins, goes_on, waits, commits, reads, gives_way, purges}
+use Rattle.oe_load.specs.Loads.{Begins, opening_text, IsNext, Line, Told, Lines, IsScript, none_served, script_text}
+use Rattle.oe_load.specs.declared.origins.Origin.{Origin}
+use Rattle.oe_load.specs.Loads.{begins, goes_on, waits, commits, rolls_back, reads, gives_way, purges}
 use Rattle.oe_load.specs.Together.{Opens, reads_last}
 use Rattle.oe_load.specs.Together as together
 use Rattle.oe_load.specs.Turns.{Tells, Turned, AsksNext, Steps, Took, begun_after}
@@ -53,18 +56,17 @@ lines_more p [] w s v t c x u h k = (
 lines_more p (d ∷ cs) w s v t c x u (mid, between, first, rest) k =
     (mid, between, first, lines_more p cs mid between v t c x u rest k)
 
-pub script_more : (p : Plan) (cs : List Command) (v : World system) (t : ℕ → ℕ) (c : Command) (x : World system)
-    (u : ℕ → ℕ) → IsScript p cs v t → Told p v t c x u → IsScript p (cs ++ c ∷ []) x u
-script_more p cs v t c x u h k = record {
+pub script_more : (p : Plan) (o : Origin) (cs : List Command) (v : World system) (t : ℕ → ℕ) (c : Command)
+    (x : World system) (u : ℕ → ℕ) → IsScript p o cs v t → Told p v t c x u → IsScript p o (cs ++ c ∷ []) x u
+script_more p o cs v t c x u h k = record {
   base = h.base;
-  populated = h.populated;
+  begun_on = h.begun_on;
   lines = lines_more p cs _ _ v t c x u h.lines k;
 }
 
-pub text_more : (p : Plan) (cs : List Command) (c : Command)
-    → script_text p cs ++ line_text c ≡ script_text p (cs ++ c ∷ [])
-text_more p cs c =
-    flat_map_more line_text (line_text (opening p)) cs c
+pub text_more : (p : Plan) (o : Origin) (cs : List Command) (c : Command)
+    → script_text p o cs ++ line_text c ≡ script_text p o (cs ++ c ∷ [])
+text_more p o cs c = flat_map_more line_text (opening_text p o load_form.Script) cs c
 
 -- WHAT A LINE TELLS
 
@@ -107,6 +109,13 @@ module _ (p : Plan) (w : World system) (s : ℕ → ℕ) (v : World system) (old
   tells_commit t m y after range n same e h =
       subst (λ (f : ℕ → ℕ). Tells p w s old v f new) (sym same)
       (tells p w s (command.Next t) v (bump t s) old new 16 range (commits t m y v n) e h (omega arith))
+
+  pub tells_abort : (t : ℕ) (after : ℕ → ℕ) → IsInRange 1 64 t → p.items ≡ AsDrawn
+      → Next system w (Advance t) (Aborted InvalidItem) v → after ≡ bump t s
+      → new ≡ old ++ line_text (command.Next t) → length new ≤ length old + 16 → Tells p w s old v after new
+  tells_abort t after range drawn n same e h =
+      subst (λ (f : ℕ → ℕ). Tells p w s old v f new) (sym same)
+      (tells p w s (command.Next t) v (bump t s) old new 16 range (rolls_back t v drawn n) e h (omega arith))
 
   pub asks_reply : (t : ℕ) (q : Query) (f : QueryReply) (after : ℕ → ℕ) (k : ℕ) → IsQuery q
       → IsNext p s t (asked.Query q) → k ≡ newest system w
@@ -208,11 +217,11 @@ next_is p s t r a b low high left e f g = record {
 
 -- AT THE OPENING
 
-pub script_opened : {A E : Type 0} (w : A → World system) (p : Plan) (x : Rows) → IsPopulated p.numbers.scale x
+pub script_opened : {A E : Type 0} (w : A → World system) (p : Plan) (o : Origin) (x : Rows) → Begins p o x
     → (r : Result A E) → IfOk r (λ c. w c ≡ opened system x p.numbers.extents WholeRows)
-    → IfOk r (λ c. IsScript p [] (w c) none_served)
-script_opened w p x h (Ok c) e = record { base = x; populated = h; lines = (e, refl) }
-script_opened w p x h (Err e) u = u
+    → IfOk r (λ c. IsScript p o [] (w c) none_served)
+script_opened w p o x h (Ok c) e = record { base = x; begun_on = h; lines = (e, refl) }
+script_opened w p o x h (Err e) u = u
 
 -- WHERE THE RING IS FULL NOTHING HAS CHANGED
 

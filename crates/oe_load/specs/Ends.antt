@@ -1,14 +1,17 @@
 -- What is written of a load.
-use Rattle.std.specs.Prelude.{◌≡◌, ℕ, Bool, true, false, List, [], ◌⊎◌, Option, Result, Ok, Err}
+use Rattle.std.specs.Prelude.{◌≡◌, ℕ, List, [], ◌⊎◌, Option, Result, Ok, Err}
 use Rattle.oe_theory.specs.World.{World}
 use Rattle.oe_model.specs.System.{system}
 use Rattle.oe_lines.specs.declared.commands.Command.{Command}
 use Rattle.oe_ports.specs.declared.ports.Failed.{Failed}
 use Rattle.oe_ports.specs.Ports.{Sink, Sent, Cut}
+use Rattle.oe_numbers.specs.declared.forms.Form.{Form}
+use Rattle.oe_numbers.specs.declared.forms.Form.TheVariants as load_form
 use Rattle.oe_plans.specs.declared.plans.Plan.{Plan}
 use Rattle.oe_load.specs.Loads.{IsScript, IsDone, AreServed, none_served, script_text}
 use Rattle.rand_pcg.specs.Lcg.{Lcg}
 use Rattle.oe_terms.specs.Draws.{words_of}
+use Rattle.oe_load.specs.declared.origins.Origin.{Origin}
 use Rattle.oe_load.specs.Together.{HasTransactions, BeginTogether}
 use Rattle.oe_load.specs.Flats as flats
 use Rattle.oe_load.specs.Flats.{InTurn, requests_text}
@@ -19,60 +22,60 @@ use Rattle.oe_load.specs.declared.loads.LoadFault.TheVariants as fault
 
 -- The text is a script as far as it was told; whole, where all requests are served. A whole one begins with all
 -- terminals' first transactions, where each has one.
-pub record IsBegun (p : Plan) (text : List ℕ) : Type 0 where
+pub record IsBegun (p : Plan) (o : Origin) (text : List ℕ) : Type 0 where
   pub lines : List Command
   pub world : World system
   pub served : ℕ → ℕ
-  pub script : IsScript p lines world served
-  pub text_is : text ≡ script_text p lines
+  pub script : IsScript p o lines world served
+  pub text_is : text ≡ script_text p o lines
 
-pub record IsWhole (p : Plan) (text : List ℕ) : Type 0 where
+pub record IsWhole (p : Plan) (o : Origin) (text : List ℕ) : Type 0 where
   pub lines : List Command
   pub world : World system
   pub served : ℕ → ℕ
-  pub script : IsScript p lines world served
+  pub script : IsScript p o lines world served
   pub done : IsDone p world served
   pub together : HasTransactions p → BeginTogether p lines
-  pub text_is : text ≡ script_text p lines
+  pub text_is : text ≡ script_text p o lines
 
 -- The same of the requests alone. Turns are drawn by the words of terminal 64, which asks for nothing.
-pub record IsFlatBegun (p : Plan) (text : List ℕ) : Type 0 where
+pub record IsFlatBegun (p : Plan) (o : Origin) (text : List ℕ) : Type 0 where
   pub requests : List flats.Sent
   pub served : ℕ → ℕ
   pub words : Lcg
   pub in_turn : InTurn p none_served (words_of p.numbers.seed 64) requests served words
-  pub text_is : text ≡ requests_text p requests
+  pub text_is : text ≡ requests_text p o requests
 
-pub record IsFlatWhole (p : Plan) (text : List ℕ) : Type 0 where
+pub record IsFlatWhole (p : Plan) (o : Origin) (text : List ℕ) : Type 0 where
   pub requests : List flats.Sent
   pub served : ℕ → ℕ
   pub words : Lcg
   pub in_turn : InTurn p none_served (words_of p.numbers.seed 64) requests served words
   pub all : AreServed p served
-  pub text_is : text ≡ requests_text p requests
+  pub text_is : text ≡ requests_text p o requests
 
--- flat or not
-abbrev pub Begun : Plan → Bool → List ℕ → Type 0
-Begun p true text = IsFlatBegun p text
-Begun p false text = IsBegun p text
+-- the requests alone, or a script
+abbrev pub Begun : Plan → Origin → Form → List ℕ → Type 0
+Begun p o load_form.Flat text = IsFlatBegun p o text
+Begun p o load_form.Script text = IsBegun p o text
 
-abbrev pub Whole : Plan → Bool → List ℕ → Type 0
-Whole p true text = IsFlatWhole p text
-Whole p false text = IsWhole p text
+abbrev pub Whole : Plan → Origin → Form → List ℕ → Type 0
+Whole p o load_form.Flat text = IsFlatWhole p o text
+Whole p o load_form.Script text = IsWhole p o text
 
 -- The whole load was written; it stops short, and what there is of it was written, or nothing was; or a write failed
 -- behind a beginning of that.
-abbrev pub LoadRan : Plan → Bool → Option Sink → Option Sink → Result (Unit {0}) LoadFault → Type 0
-LoadRan p is_flat old new (Ok x) = (text : List ℕ) × Whole p is_flat text × Sent old [] new [] text
-LoadRan p is_flat old new (Err (fault.Short e)) =
-    (text : List ℕ) × ((text ≡ []) ⊎ Begun p is_flat text) × Sent old [] new [] text
-LoadRan p is_flat old new (Err fault.Write) =
-    (text : List ℕ) × ((text ≡ []) ⊎ Begun p is_flat text) × Cut old [] new text
+abbrev pub LoadRan : Plan → Origin → Form → Option Sink → Option Sink → Result (Unit {0}) LoadFault → Type 0
+LoadRan p o form old new (Ok x) = (text : List ℕ) × Whole p o form text × Sent old [] new [] text
+LoadRan p o form old new (Err (fault.Short e)) =
+    (text : List ℕ) × ((text ≡ []) ⊎ Begun p o form text) × Sent old [] new [] text
+LoadRan p o form old new (Err fault.Write) =
+    (text : List ℕ) × ((text ≡ []) ⊎ Begun p o form text) × Cut old [] new text
 
 -- the same before what waits is written
-abbrev pub Wrote : Plan → Bool → Option Sink → Option Sink → List ℕ → Result Ending Failed → Type 0
-Wrote p is_flat old new waits (Ok ending.Served) = (text : List ℕ) × Whole p is_flat text × Sent old [] new waits text
-Wrote p is_flat old new waits (Ok (ending.Short e)) =
-    (text : List ℕ) × ((text ≡ []) ⊎ Begun p is_flat text) × Sent old [] new waits text
-Wrote p is_flat old new waits (Err e) =
-    (text : List ℕ) × ((text ≡ []) ⊎ Begun p is_flat text) × Cut old [] new text
+abbrev pub Wrote : Plan → Origin → Form → Option Sink → Option Sink → List ℕ → Result Ending Failed → Type 0
+Wrote p o form old new waits (Ok ending.Served) = (text : List ℕ) × Whole p o form text × Sent old [] new waits text
+Wrote p o form old new waits (Ok (ending.Short e)) =
+    (text : List ℕ) × ((text ≡ []) ⊎ Begun p o form text) × Sent old [] new waits text
+Wrote p o form old new waits (Err e) =
+    (text : List ℕ) × ((text ≡ []) ⊎ Begun p o form text) × Cut old [] new text

@@ -10,6 +10,8 @@ use Rattle.oe_terms.specs.Draws.{random}
 use Rattle.oe_plans.specs.declared.plans.Plan.{Plan}
 use Rattle.oe_plans.specs.declared.plans.Asked.{Asked}
 use Rattle.oe_plans.specs.declared.plans.Asked.TheVariants as asked
+use Rattle.oe_numbers.specs.declared.forms.Form.TheVariants as load_form
+use Rattle.oe_load.specs.declared.origins.Origin.{Origin}
 use Rattle.oe_load.specs.Loads.{IsNext, HasWords, opening_text}
 
 -- a terminal, and what it asks for
@@ -49,5 +51,5 @@ InTurn p served g (x ∷ xs) after h =
     (turn_of p served g ≡ Some x.terminal) × IsNext p served x.terminal x.asked × HasWords x.asked
     × InTurn p (bump x.terminal served) (random 1 p.numbers.terminals g).1 xs after h
 
-abbrev pub requests_text : Plan → List Sent → List ℕ
-requests_text p xs = opening_text p ++ flat_map (λ x. flat_text x.terminal x.asked) xs
+abbrev pub requests_text : Plan → Origin → List Sent → List ℕ
+requests_text p o xs = opening_text p o load_form.Flat ++ flat_map (λ x. flat_text x.terminal x.asked) xs

@@ -1,10 +1,12 @@
 //! The requests of a load alone, for another engine.
-ghost use Rattle.std.specs.Prelude.{◌≡◌, ◌≤◌, ◌+◌, ◌++◌, true};
+ghost use Rattle.std.specs.Prelude.{◌≡◌, ◌≤◌, ◌+◌, ◌++◌};
 ghost use Rattle.arrayvec.specs.ArrayVec.{array_vec_len};
+ghost use Rattle.oe_numbers.specs.declared.forms.Form.TheVariants.{Flat};
 ghost use Rattle.oe_load.specs.Loads.{HasWords, opening_text};
 ghost use Rattle.oe_load.specs.Flats.{flat_text, left_behind};
 ghost use Rattle.oe_load.specs.Turns.{counts_of, Sends, Turns};
 ghost use Rattle.oe_load.specs.Ends.{Wrote};
+ghost use Rattle.oe_load.specs.declared.origins.Origin.{Origin};
 
 use crate::loads::{Ending, requests_in};
 use crate::ranges::asked_holds;
@@ -93,8 +95,8 @@ fn sent(
 
 /// Writes the requests of a plan; its opening waits.
 pub(crate) fn flat<W: Outlet>(plan: &Plan, out: &mut Pending, to: &mut W) -> Result<Ending, Failed>
-    requires { out.old.items ≡ opening_text plan.now }
-    ensures { Wrote plan.now true (W.sink to.old) (W.sink to.new) out.new.items result }
+    ensures { (o : Origin) → out.old.items ≡ opening_text plan.now o Flat →
+        Wrote plan.now o Flat (W.sink to.old) (W.sink to.new) out.new.items result }
 {
     let mut served = none_served();
     let mut words = words(plan.numbers.seed, Terminal::new(64).unwrap());

@@ -4,10 +4,12 @@
 
 mod flats;
 mod loads;
+mod origins;
 mod picks;
 mod ranges;
 mod served;
 mod turns;
 
 pub use loads::{LoadFault, run_load};
+pub use origins::Origin;
 pub use turns::Shortage;

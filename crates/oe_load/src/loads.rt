@@ -1,29 +1,36 @@
 //! The script of a load, from its opening to its end.
-ghost use Rattle.std.specs.Prelude.{◌≡◌, ◌≤◌, ◌<◌, ◌+◌, [], Bool, Option, true, false, IfOk};
+ghost use Rattle.std.specs.Prelude.{◌≡◌, ◌≤◌, ◌<◌, ◌+◌, [], Option, true, IfOk};
 ghost use Rattle.arrayvec.specs.ArrayVec.{array_vec_len};
 ghost use Rattle.oe_core.specs.Core.{world_of};
+ghost use Rattle.oe_numbers.specs.declared.forms.Form.{Form};
+ghost use Rattle.oe_numbers.specs.declared.forms.Form.TheVariants.{Script};
 ghost use Rattle.oe_model.specs.Population.{IsScale};
-ghost use Rattle.oe_load.specs.Loads.{none_served, opening_text, IsScript, IsDone};
+ghost use Rattle.oe_load.specs.Loads.{none_served, opening_text, IsOrigin, IsScript, IsDone};
+ghost use Rattle.oe_load.specs.declared.origins.Origin.{Origin};
+ghost use Rattle.oe_load.specs.declared.origins.Origin.TheVariants as origin;
+ghost use Rattle.oe_model.specs.Conditions.{IsPopulation};
+ghost use Rattle.oe_store.specs.Places.{rows};
 ghost use Rattle.oe_load.specs.Turns.{begun_after, counts_of, Turned, Took};
 ghost use Rattle.oe_ports.specs.Ports.{Sink};
 ghost use Rattle.oe_plans.specs.declared.plans.Plan.{Plan};
 ghost use Rattle.oe_load.specs.Ends.{Wrote, LoadRan};
 
 use crate::flats::flat;
+use crate::origins::{Origin, open};
 use crate::picks::{Holders, Pick, note, picked, terminal_after};
 use crate::served::{Served, are_served, none_served, served_of};
 use crate::turns::{Outcome, Shortage, Turn, ask, give_way, take_turn};
 use oe_core::Core;
-use oe_numbers::{Kinds, LoadNumbers, Ordinal};
+use oe_numbers::Form;
 use oe_plans::Plan;
 use oe_population::populate;
 use oe_ports::output::{flush, make_room};
 use oe_ports::ports::{Failed, Outlet};
 use oe_rows::{Layout, Scale};
+use oe_store::Tables;
 use oe_terms::words;
 use oe_texts::{LONGEST, Pending, SIZE};
 use oe_values::{NoMemory, Terminal};
-use oe_words::open_line;
 use rand_pcg::Lcg64Xsh32;
 use std::alloc::Global;
 use thiserror::Error;
@@ -34,7 +41,7 @@ const TURNS: u64 = 2_000;
 /// Why a load is not told whole.
 #[derive(Clone, Copy, Debug, Error)]
 pub enum LoadFault {
-    /// The load stops there. What was written is answered without an error but `Busy`.
+    /// The load stops there. What was written is a load up to there.
     #[error(transparent)]
     Short(Shortage),
     /// A write failed. A beginning of a load was written.
@@ -182,9 +189,9 @@ fn told<W: Outlet>(
     out: &mut Pending,
     to: &mut W,
 ) -> Result<Ending, Failed>
-    requires fresh { IsScript plan.now [] (world_of core.old) none_served }
-    requires opening { out.old.items ≡ opening_text plan.now }
-    ensures { Wrote plan.now false (W.sink to.old) (W.sink to.new) out.new.items result }
+    ensures { (o : Origin) → IsScript plan.now o [] (world_of core.old) none_served →
+        out.old.items ≡ opening_text plan.now o Script →
+        Wrote plan.now o Script (W.sink to.old) (W.sink to.new) out.new.items result }
 {
     let mut served = none_served();
     let mut drawing = Drawing {
@@ -215,9 +222,20 @@ fn scale_holds(scale: &Scale)
     let _items = scale.items.get();
 }
 
+/// Opens a core on what a load begins on.
+fn opened(alloc: Global, plan: &Plan, origin: Origin) -> Result<Core, NoMemory>
+    requires { IsOrigin origin }
+    ensures { IfOk result (λ c. IsScript plan.now origin [] (world_of c) none_served) }
+{
+    match origin {
+        Origin::Population => populated(alloc, plan),
+        Origin::Tables(tables) => opened_on(alloc, plan, tables),
+    }
+}
+
 /// Opens a core on the population of a plan.
-fn opened(alloc: Global, plan: &Plan) -> Result<Core, NoMemory>
-    ensures { IfOk result (λ c. IsScript plan.now [] (world_of c) none_served) }
+fn populated(alloc: Global, plan: &Plan) -> Result<Core, NoMemory>
+    ensures { IfOk result (λ c. IsScript plan.now origin.Population [] (world_of c) none_served) }
 {
     scale_holds(&plan.numbers.scale);
     match populate(alloc, plan.numbers.scale) {
@@ -226,17 +244,28 @@ fn opened(alloc: Global, plan: &Plan) -> Result<Core, NoMemory>
     }
 }
 
+/// Opens a core on tables.
+fn opened_on(alloc: Global, plan: &Plan, tables: Tables) -> Result<Core, NoMemory>
+    requires { IsPopulation (rows tables) }
+    ensures { IfOk result (λ c. IsScript plan.now (origin.Tables tables) [] (world_of c)
+        none_served) }
+{
+    Core::open(alloc, tables, plan.numbers.extents, Layout::WholeRows)
+}
+
 /// Writes the script of a plan; its opening waits.
 fn script<W: Outlet>(
     alloc: Global,
     plan: &Plan,
+    origin: Origin,
     out: &mut Pending,
     to: &mut W,
 ) -> Result<Ending, Failed>
-    requires { out.old.items ≡ opening_text plan.now }
-    ensures { Wrote plan.now false (W.sink to.old) (W.sink to.new) out.new.items result }
+    requires origin { IsOrigin origin }
+    requires opening { out.old.items ≡ opening_text plan.now origin Script }
+    ensures { Wrote plan.now origin Script (W.sink to.old) (W.sink to.new) out.new.items result }
 {
-    let Ok(mut core) = opened(alloc, plan) else {
+    let Ok(mut core) = opened(alloc, plan, origin) else {
         out.clear();
         return Ok(Ending::Short(Shortage::NoMemory));
     };
@@ -249,17 +278,22 @@ fn script<W: Outlet>(
 fn written<W: Outlet>(
     alloc: Global,
     plan: &Plan,
-    is_flat: bool,
+    origin: Origin,
+    form: Form,
     out: &mut Pending,
     to: &mut W,
 ) -> Result<Ending, Failed>
-    requires { out.old.items ≡ opening_text plan.now }
-    ensures { Wrote plan.now is_flat (W.sink to.old) (W.sink to.new) out.new.items result }
+    requires origin { IsOrigin origin }
+    requires opening { out.old.items ≡ opening_text plan.now origin form }
+    ensures { Wrote plan.now origin form (W.sink to.old) (W.sink to.new) out.new.items result }
 {
-    if is_flat {
-        return flat(plan, out, to);
+    match form {
+        Form::Script => script(alloc, plan, origin, out, to),
+        Form::Flat => {
+            origin.discard();
+            flat(plan, out, to)
+        }
     }
-    script(alloc, plan, out, to)
 }
 
 /// Writes what waits, and names how a load has ended.
@@ -268,9 +302,9 @@ fn closed<W: Outlet>(
     out: &mut Pending,
     to: &mut W,
 ) -> Result<(), LoadFault>
-    ensures { (p : Plan) (is_flat : Bool) (start : Option Sink) →
-        Wrote p is_flat start (W.sink to.old) out.old.items ending →
-        LoadRan p is_flat start (W.sink to.new) result }
+    ensures { (p : Plan) (o : Origin) (form : Form) (start : Option Sink) →
+        Wrote p o form start (W.sink to.old) out.old.items ending →
+        LoadRan p o form start (W.sink to.new) result }
 {
     let Ok(ending) = ending else {
         return Err(LoadFault::Write);
@@ -284,38 +318,36 @@ fn closed<W: Outlet>(
     }
 }
 
-/// Writes a load: T terminals with N requests each, from their `first` on, all drawn from the seed,
-/// in an order that is drawn too. Kinds that are not named are left out, where some are named.
+/// Writes a load: the terminals of a plan ask for their requests, in an order that is drawn too.
 ///
-/// The script opens the population, and its lines are answered without an error but `Busy`; at its
-/// end nothing is open, and each terminal has had its N requests answered, in their order. It
+/// The script opens a population, and its lines are answered without an error but `Busy`, and,
+/// where unused items are asked for as they are drawn, but `InvalidItem`, which ends such an order.
+/// At its end nothing is open, and each terminal has had its requests answered, in their order. It
 /// begins with the first transaction of each terminal, before any of them goes on. A
 /// terminal that is answered `Busy` goes on once its lock is free, or is rolled back and begins
 /// again where terminals wait for one another. Where extents run out, commits are purged.
 ///
-/// Flat, it is the opening and the requests alone, each behind its terminal.
+/// On tables that are there the script has no opening, since a script begins opened on them.
+///
+/// In the form `Flat` it is the opening and the requests alone, each behind its terminal; on tables
+/// that are there the opening says the extents alone.
 ///
 /// `Short`: memory was refused, one transaction filled the ring, a column's range was left, or too
-/// many turns were taken; what was written is a load that stops there, or nothing. `Write`: a write
-/// failed, and a beginning of that was written.
+/// many turns were taken; what was written is a load that stops there, or nothing. So it is where a
+/// request of the plan's scale names a row that the tables lack. `Write`: a write failed, and a
+/// beginning of that was written.
 pub fn run_load<W: Outlet>(
     alloc: Global,
-    numbers: &LoadNumbers,
-    first: Ordinal,
-    kinds: Kinds,
-    is_flat: bool,
+    plan: &Plan,
+    origin: Origin,
+    form: Form,
     writer: &mut W,
 ) -> Result<(), LoadFault>
-    ensures { LoadRan (record { numbers = numbers.now; first = first; kinds = kinds }) is_flat
-        (W.sink writer.old) (W.sink writer.new) result }
+    requires { IsOrigin origin }
+    ensures { LoadRan plan.now origin form (W.sink writer.old) (W.sink writer.new) result }
 {
-    let plan = Plan {
-        numbers: *numbers,
-        first,
-        kinds,
-    };
     let mut out = Pending::new();
-    open_line(&mut out, &plan.numbers.scale, plan.numbers.extents);
-    let ending = written(alloc, &plan, is_flat, &mut out, writer);
+    open(&mut out, plan, &origin, form);
+    let ending = written(alloc, plan, origin, form, &mut out, writer);
     closed(ending, &mut out, writer)
 }

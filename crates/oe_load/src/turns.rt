@@ -3,7 +3,8 @@
 ghost use Rattle.std.specs.Prelude.{◌≤◌, ◌<◌, ◌+◌, ℕ};
 ghost use Rattle.arrayvec.specs.ArrayVec.{array_vec_len};
 ghost use Rattle.oe_theory.specs.World.{World};
-ghost use Rattle.oe_theory.specs.Next.{Next, Advance, Committed};
+ghost use Rattle.oe_theory.specs.Next.{Next, Aborted, Advance, Committed};
+ghost use Rattle.oe_requests.specs.declared.refusals.Refusal.TheVariants.{InvalidItem};
 ghost use Rattle.oe_requests.specs.declared.replies.Reply.{Reply};
 ghost use Rattle.oe_requests.specs.declared.steps.Step.TheVariants as step;
 ghost use Rattle.oe_model.specs.System.{system};
@@ -18,6 +19,7 @@ use crate::ranges::asked_holds;
 use crate::served::{Served, serve, served_of};
 use oe_admission::ranges_hold;
 use oe_core::{Advanced, Core};
+use oe_numbers::Items;
 use oe_plans::{Asked, Plan};
 use oe_requests::{Answer, Query, Refusal, Request};
 use oe_texts::{LONGEST, Pending, SIZE};
@@ -192,17 +194,18 @@ fn make_way(
 fn refused(
     plan: &Plan,
     core: &mut Core,
-    served: &Served,
+    served: &mut Served,
     terminal: Terminal,
     refusal: &Refusal,
     out: &mut Pending,
 ) -> Turn
-    requires { array_vec_len out.old + LONGEST ≤ SIZE }
+    requires room { array_vec_len out.old + LONGEST ≤ SIZE }
+    requires left { counts_of served.old terminal < 1_000_000_000 }
     ensures { (before : World system) →
         Next system before (Advance terminal) (refusal_in (step.Advance terminal) refusal.now)
         (world_of core.old) →
-        Turned plan.now before (counts_of served.now) out.old.items result (world_of core.new)
-        (counts_of served.now) out.new.items }
+        Turned plan.now before (counts_of served.old) out.old.items result (world_of core.new)
+        (counts_of served.new) out.new.items }
 {
     match refusal {
         Refusal::Busy(_, holder) => {
@@ -211,7 +214,35 @@ fn refused(
             Ok(Outcome::Waits(*holder))
         }
         Refusal::UndoFull => make_way(plan, core, served, terminal, out),
+        Refusal::InvalidItem => rolled_back(plan, core, served, terminal, out),
         other => Err(shortage_of(other)),
+    }
+}
+
+/// Tells an advance at which an order was rolled back for its unused item (clause 2.4.2.3). That
+/// serves the request, where the plan has such orders.
+fn rolled_back(
+    plan: &Plan,
+    core: &Core,
+    served: &mut Served,
+    terminal: Terminal,
+    out: &mut Pending,
+) -> Turn
+    requires room { array_vec_len out.old + LONGEST ≤ SIZE }
+    requires left { counts_of served.old terminal < 1_000_000_000 }
+    ensures { (before : World system) →
+        Next system before (Advance terminal) (Aborted InvalidItem) (world_of core.now) →
+        Turned plan.now before (counts_of served.old) out.old.items result (world_of core.now)
+        (counts_of served.new) out.new.items }
+{
+    match plan.items {
+        Items::Used => Err(Shortage::Refused(Refusal::InvalidItem)),
+        Items::AsDrawn => {
+            let _number = terminal.get();
+            serve(served, terminal);
+            next_line(out, terminal);
+            Ok(Outcome::Done)
+        }
     }
 }
 

@@ -41,3 +41,13 @@ seven (p ∷ q ∷ r ∷ s ∷ t ∷ []) a b c d e f g long pa pb pc pd pe pf pg
 seven (p ∷ q ∷ r ∷ s ∷ t ∷ u ∷ []) a b c d e f g long pa pb pc pd pe pf pg = absurd (omega (arith, long))
 seven (p ∷ q ∷ r ∷ s ∷ t ∷ u ∷ v ∷ []) a b c d e f g long pa pb pc pd pe pf pg = cc
 seven (p ∷ q ∷ r ∷ s ∷ t ∷ u ∷ v ∷ w ∷ ws) a b c d e f g long pa pb pc pd pe pf pg = absurd (omega (arith, long))
+
+-- four words
+pub four : (ws : List (List ℕ)) (a b c d : List ℕ) → length ws ≡ 4 → slice_get ws 0 ≡ Some a → slice_get ws 1 ≡ Some b
+    → slice_get ws 2 ≡ Some c → slice_get ws 3 ≡ Some d → ws ≡ a ∷ b ∷ c ∷ d ∷ []
+four [] a b c d long pa pb pc pd = absurd (omega (arith, long))
+four (p ∷ []) a b c d long pa pb pc pd = absurd (omega (arith, long))
+four (p ∷ q ∷ []) a b c d long pa pb pc pd = absurd (omega (arith, long))
+four (p ∷ q ∷ r ∷ []) a b c d long pa pb pc pd = absurd (omega (arith, long))
+four (p ∷ q ∷ r ∷ s ∷ []) a b c d long pa pb pc pd = cc
+four (p ∷ q ∷ r ∷ s ∷ t ∷ ws) a b c d long pa pb pc pd = absurd (omega (arith, long))

@@ -5,6 +5,7 @@ use Rattle.std.specs.Fmt.{decimal}
 use Rattle.oe_rows.specs.declared.scales.Scale.{Scale}
 use Rattle.oe_numbers.specs.declared.drives.DriveNumbers.{DriveNumbers}
 use Rattle.oe_numbers.specs.declared.drives.LoadNumbers.{LoadNumbers}
+use Rattle.oe_numbers.specs.declared.drives.FollowingNumbers.{FollowingNumbers}
 
 -- Each number is in its range: the population's scale, the extents, the terminals, the requests of each (at most
 -- `most`), and the seed.
@@ -43,6 +44,17 @@ AreOfLoad d = AreNumbers 1_000_000_000 d.scale d.extents d.terminals d.requests 
 
 abbrev pub load_words_of : LoadNumbers → List (List ℕ)
 load_words_of d = number_words d.scale d.extents d.terminals d.requests d.seed
+
+-- a load on tables that are there says no scale: their rows have it
+abbrev pub AreFollowing : FollowingNumbers → Type 0
+AreFollowing d =
+    IsInRange 2 4_096 d.extents
+    × IsInRange 1 63 d.terminals
+    × IsInRange 1 1_000_000_000 d.requests
+    × (d.seed < 2 ^ 32)
+
+abbrev pub following_words_of : FollowingNumbers → List (List ℕ)
+following_words_of d = decimal d.extents ∷ decimal d.terminals ∷ decimal d.requests ∷ decimal d.seed ∷ []
 
 -- the word of that place says a number of a range
 abbrev pub Says : List (List ℕ) → ℕ → ℕ → ℕ → ℕ → Type 0

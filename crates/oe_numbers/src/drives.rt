@@ -4,7 +4,9 @@
 //! another digit.
 ghost use Rattle.std.specs.Prelude.{◌≡◌, ◌≢◌, ◌<◌, ◌≤◌, ℕ, length, map, slice_get, decimal, Some, IfSome, IfNone, MatchOption};
 ghost use Rattle.std.specs.Int.{IsInRange};
-ghost use Rattle.oe_numbers.specs.Words.{AreInRange, AreOfLoad, Says, IsScaleOf, words_of, load_words_of};
+ghost use Rattle.oe_numbers.specs.Words.{AreInRange, AreOfLoad, AreFollowing, Says, IsScaleOf};
+ghost use Rattle.oe_numbers.specs.Words.{words_of, load_words_of, following_words_of};
+ghost use Rattle.oe_numbers.specs.declared.drives.FollowingNumbers.{FollowingNumbers};
 ghost use Rattle.oe_numbers.specs.declared.drives.DriveNumbers.{DriveNumbers};
 ghost use Rattle.oe_numbers.specs.declared.drives.LoadNumbers.{LoadNumbers};
 ghost use Rattle.oe_rows.specs.declared.scales.Scale.{Scale};
@@ -33,6 +35,16 @@ pub type Ordinal = Number<1, 1_000_000_000>;
 #[derive(Clone, Copy)]
 pub struct LoadNumbers {
     pub scale: Scale,
+    pub extents: ExtentCount,
+    pub terminals: Number<1, 63>,
+    pub requests: Ordinal,
+    pub seed: u32,
+}
+
+/// The numbers of a load on tables that are there: how many undo extents it has, how many terminals
+/// ask for how many requests each, and the seed of all requests.
+#[derive(Clone, Copy)]
+pub struct FollowingNumbers {
     pub extents: ExtentCount,
     pub terminals: Number<1, 63>,
     pub requests: Ordinal,
@@ -123,6 +135,29 @@ impl LoadNumbers {
         let seed: Number<0, 4_294_967_295> = number_at(words, 6)?;
         Some(LoadNumbers {
             scale,
+            extents,
+            terminals,
+            requests,
+            seed: seed.get(),
+        })
+    }
+}
+
+impl FollowingNumbers {
+    /// Reads the four numbers of these words. None where they are other words.
+    pub fn read<S: AsStr>(words: &[S]) -> Option<FollowingNumbers>
+        ensures { MatchOption result
+            ((d : FollowingNumbers) → AreFollowing d → map S.text words.now ≢ following_words_of d)
+            (λ d. AreFollowing d × (map S.text words.now ≡ following_words_of d)) }
+    {
+        if words.len() != 4 {
+            return None;
+        }
+        let extents = number_at(words, 0)?;
+        let terminals = number_at(words, 1)?;
+        let requests = number_at(words, 2)?;
+        let seed: Number<0, 4_294_967_295> = number_at(words, 3)?;
+        Some(FollowingNumbers {
             extents,
             terminals,
             requests,

@@ -13,6 +13,8 @@ use Rattle.oe_terms.specs.declared.errands.Kind.TheVariants as kind
 use Rattle.oe_terms.specs.Draws.{random, words_of}
 use Rattle.oe_terms.specs.Columns.{home, district_in}
 use Rattle.oe_terms.specs.Errands as terms
+use Rattle.oe_numbers.specs.declared.forms.Items.{Items}
+use Rattle.oe_numbers.specs.declared.forms.Items.TheVariants as items
 use Rattle.oe_numbers.specs.declared.kinds.Kinds.{Kinds}
 use Rattle.oe_plans.specs.declared.kinds.Shares.{Shares}
 use Rattle.oe_plans.specs.declared.plans.Plan.{Plan}
@@ -60,13 +62,19 @@ kind_drawn k g =
     let n = random 1 (shares_to k).levels g in
     (kind_of (shares_to k) n.0, n.1)
 
--- an item past the last one gives place to the last: no order is rolled back for an unused item (clause 2.4.1.4)
+-- an item past the last one gives place to the last: no order is rolled back for an unused item
 abbrev pub used_line : Scale → RequestLine → RequestLine
 used_line s l = record { supply = l.supply; item = min l.item s.items; quantity = l.quantity }
 
 abbrev pub used_order : Scale → NewOrderRequest → NewOrderRequest
 used_order s q =
     record { district = q.district; customer = q.customer; stamp = q.stamp; lines = map (used_line s) q.lines }
+
+-- The order that is asked for: as it was drawn, or with used items alone. Of a hundred that are drawn one has an unused
+-- item (clause 2.4.1.4), for which it is rolled back (clause 2.4.2.3).
+abbrev pub order_of : Items → Scale → NewOrderRequest → NewOrderRequest
+order_of items.Used s q = used_order s q
+order_of items.AsDrawn s q = q
 
 -- a delivery of ten districts (clause 2.7.1), or in 1 of 2 of one
 abbrev pub delivery_of : Scale → ℕ → ℕ → Lcg → Request
@@ -77,19 +85,19 @@ delivery_of s terminal r g =
     if form.0 == 1 then request.Deliveries q.0
     else request.Delivery (record { district = d.0; carrier = q.0.carrier; stamp = q.0.stamp })
 
-abbrev pub asked_of_kind : Kind → Scale → ℕ → ℕ → Lcg → Asked
-asked_of_kind kind.NewOrder s terminal r g =
-    asked.Transaction (request.NewOrder (used_order s (terms.new_order s terminal r g).0))
-asked_of_kind kind.Payment s terminal r g = asked.Transaction (request.Payment (terms.payment s terminal r g).0)
-asked_of_kind kind.OrderStatus s terminal r g = asked.Query (query.Status (terms.order_status s terminal g).0)
-asked_of_kind kind.Delivery s terminal r g = asked.Transaction (delivery_of s terminal r g)
-asked_of_kind kind.StockLevel s terminal r g = asked.Query (query.Level (terms.stock_level s terminal g).0)
+abbrev pub asked_of_kind : Kind → Items → Scale → ℕ → ℕ → Lcg → Asked
+asked_of_kind kind.NewOrder i s terminal r g =
+    asked.Transaction (request.NewOrder (order_of i s (terms.new_order s terminal r g).0))
+asked_of_kind kind.Payment i s terminal r g = asked.Transaction (request.Payment (terms.payment s terminal r g).0)
+asked_of_kind kind.OrderStatus i s terminal r g = asked.Query (query.Status (terms.order_status s terminal g).0)
+asked_of_kind kind.Delivery i s terminal r g = asked.Transaction (delivery_of s terminal r g)
+asked_of_kind kind.StockLevel i s terminal r g = asked.Query (query.Level (terms.stock_level s terminal g).0)
 
 -- what the terminal asks for as its r-th, from 1 on
 abbrev pub asked_of : Plan → ℕ → ℕ → Asked
 asked_of p terminal r =
     let k = kind_drawn p.kinds (generator_of p.numbers.seed terminal r) in
-    asked_of_kind k.0 p.numbers.scale terminal r k.1
+    asked_of_kind k.0 p.items p.numbers.scale terminal r k.1
 
 -- it is one of the standard's: a payment, an order, a delivery, or a query
 abbrev pub IsKnown : Asked → Type 0

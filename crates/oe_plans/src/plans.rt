@@ -1,11 +1,12 @@
 //! The requests of a plan. A request is drawn from a generator of its own, so that none has to be
 //! kept.
 ghost use Rattle.std.specs.Prelude.{◌≡◌, ◌≤◌, length, map, min};
-ghost use Rattle.oe_plans.specs.Plans.{generator_of, used_line, used_order, delivery_of, asked_of_kind, asked_of, IsKnown};
+ghost use Rattle.oe_plans.specs.Plans.{generator_of, used_line, used_order, order_of, delivery_of, asked_of_kind, asked_of};
+ghost use Rattle.oe_plans.specs.Plans.{IsKnown};
 ghost use Rattle.oe_plans.specs.declared.plans.Asked.TheVariants as spec;
 
 use crate::kinds::kind_drawn;
-use oe_numbers::{Kinds, LoadNumbers, Ordinal};
+use oe_numbers::{Items, Kinds, LoadNumbers, Ordinal};
 use oe_requests::{DeliveryRequest, NewOrderRequest, Query, Request, RequestLine, RequestLines};
 use oe_rows::Scale;
 use oe_terms::columns::{district_in, home};
@@ -17,12 +18,14 @@ use oe_values::{Lines, Number, RequestedItem, Terminal};
 use rand_pcg::Lcg64Xsh32;
 
 /// A load: the scale, the extents, how many terminals ask for how many requests each, the seed,
-/// the number of the first that each asks for, and which kinds are drawn.
+/// the number of the first that each asks for, which kinds are drawn, and what becomes of unused
+/// items.
 #[derive(Clone, Copy)]
 pub struct Plan {
     pub numbers: LoadNumbers,
     pub first: Ordinal,
     pub kinds: Kinds,
+    pub items: Items,
 }
 
 /// What a terminal asks for: a transaction, or a query of the newest moment.
@@ -82,6 +85,17 @@ fn used_order(scale: &Scale, order: &NewOrderRequest) -> NewOrderRequest
     }
 }
 
+/// Gives the order that is asked for in place of one that was drawn. Of a hundred that are drawn
+/// one has an unused item (clause 2.4.1.4), and stays as it is only where the items do.
+fn order_of(items: Items, scale: &Scale, drawn: NewOrderRequest) -> NewOrderRequest
+    ensures { result ≡ order_of items scale.now drawn }
+{
+    match items {
+        Items::Used => used_order(scale, &drawn),
+        Items::AsDrawn => drawn,
+    }
+}
+
 /// Draws a delivery: of ten districts (clause 2.7.1), or in 1 of 2 of one.
 fn delivery_of(
     scale: &Scale,
@@ -108,18 +122,20 @@ fn delivery_of(
 /// Draws a request of a kind.
 fn asked_of_kind(
     kind: Kind,
+    items: Items,
     scale: &Scale,
     terminal: Terminal,
     r: RequestPlace,
     words: &mut Lcg64Xsh32,
 ) -> Asked
-    ensures value { result ≡ asked_of_kind kind scale.now terminal r words.old }
+    ensures value { result ≡ asked_of_kind kind items scale.now terminal r words.old }
     ensures known { IsKnown result }
 {
     match kind {
-        Kind::NewOrder => Asked::Transaction(Request::NewOrder(used_order(
+        Kind::NewOrder => Asked::Transaction(Request::NewOrder(order_of(
+            items,
             scale,
-            &new_order(scale, terminal, r, words),
+            new_order(scale, terminal, r, words),
         ))),
         Kind::Payment => Asked::Transaction(Request::Payment(payment(scale, terminal, r, words))),
         Kind::OrderStatus => Asked::Query(Query::Status(order_status(scale, terminal, words))),
@@ -146,6 +162,7 @@ impl Plan {
     {
         let mut words = generator(self.numbers.seed, terminal, r);
         let kind = kind_drawn(&self.kinds, &mut words);
-        asked_of_kind(kind, &self.numbers.scale, terminal, r, &mut words)
+        let scale = &self.numbers.scale;
+        asked_of_kind(kind, self.items, scale, terminal, r, &mut words)
     }
 }

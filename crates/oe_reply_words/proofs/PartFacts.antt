@@ -7,6 +7,13 @@ use Rattle.std.proofs.lemmas.Bool.{eqb-true, eq-eqb, ne_eqb}
 use Rattle.memchr.specs.Find.{IsFirstByte, Nowhere, Passes, is_byte}
 use Rattle.oe_reply_words.specs.Parts.{IsWithout, IsParted, parts_from, parts_of, parts_behind, word_at}
 
+-- TEXTS
+
+-- one text behind another
+pub and_then : (start text more front all : List ℕ) → front ≡ start ++ text → all ≡ front ++ more
+    → all ≡ start ++ (text ++ more)
+and_then start text more front all e f = f ∙ ap (λ t. t ++ more) e ∙ append_assoc start text more
+
 -- FOUND BY A SEARCH
 
 pub without_byte : (m : ℕ) (p : List ℕ) → IsFirstByte (is_byte m) p None → IsWithout m p

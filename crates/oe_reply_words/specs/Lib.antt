@@ -2,3 +2,4 @@
 pub mod Parts
 pub mod Others
 pub mod Rows
+pub mod Told

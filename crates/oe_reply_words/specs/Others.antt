@@ -1,6 +1,6 @@
 -- Which word of a reply differs, and what that word is.
 use Rattle.std.specs.Prelude.{ℕ, ◌+◌, ◌-◌, ◌==◌, Bool, false, List, [], ◌∷◌, ◌++◌, codes, decimal, nat_lt}
-use Rattle.std.specs.Prelude.{Option, Some, None, if◌then◌else◌}
+use Rattle.std.specs.Prelude.{Option, if◌then◌else◌}
 use Rattle.oe_reply_words.specs.declared.others.Other.{Other}
 use Rattle.oe_reply_words.specs.declared.others.Answered.{Answered}
 use Rattle.oe_reply_words.specs.declared.others.Answered.TheVariants as answered

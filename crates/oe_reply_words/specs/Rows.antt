@@ -2,6 +2,8 @@
 use Rattle.std.specs.Prelude.{ℕ, ◌==◌, ◌&&◌, Bool, false, List, [], ◌++◌, codes, decimal, Option, None, Some}
 use Rattle.std.specs.Prelude.{if◌then◌else◌}
 use Rattle.std.specs.List.{list_any}
+use Rattle.std.specs.Ordering.{eq_by_cmp}
+use Rattle.oe_rows.specs.Key.{customer_cmp}
 use Rattle.oe_rows.specs.declared.keys.CustomerKey.{CustomerKey}
 use Rattle.oe_rows.specs.declared.keys.DistrictKey.{DistrictKey}
 use Rattle.oe_rows.specs.declared.keys.StockKey.{StockKey}
@@ -19,9 +21,6 @@ use Rattle.oe_reply_words.specs.Parts.{is_same, parts_of, word_at}
 -- a district is that of these numbers
 abbrev pub is_in : DistrictKey → ℕ → ℕ → Bool
 is_in k warehouse district = (k.warehouse == warehouse) && (k.district == district)
-
-abbrev pub is_customer : CustomerKey → CustomerKey → Bool
-is_customer c k = (c.warehouse == k.warehouse) && ((c.district == k.district) && (c.customer == k.customer))
 
 -- a customer was chosen by its number, or by its last name, where the reply tells its number (clause 2.5.3.4)
 abbrev pub is_chosen : CustomerChoice → List ℕ → ℕ → Bool
@@ -53,7 +52,7 @@ changes_customer (request.Payment q) reply k =
 changes_customer (request.Delivery q) reply k =
     is_in q.district k.warehouse k.district && is_same (word_at 32 2 reply) (decimal k.customer)
 changes_customer (request.Deliveries q) reply k = (q.warehouse.warehouse == k.warehouse) && are_delivered k reply
-changes_customer (request.Rename q) reply k = is_customer q.customer k
+changes_customer (request.Rename q) reply k = eq_by_cmp customer_cmp q.customer k
 changes_customer (request.NewOrder q) reply k = false
 
 -- an order with a line that takes from the stock (clause 2.4.2.2)

@@ -5,7 +5,9 @@
 pub mod others;
 pub mod parts;
 pub mod rows;
+pub mod told;
 
 pub use others::other_line;
 pub use parts::{decimal, parted_at};
-pub use rows::{Change, changes, row_told};
+pub use rows::{Change, changes};
+pub use told::row_told;

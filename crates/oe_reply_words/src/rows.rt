@@ -1,16 +1,14 @@
 //! Rows that replies tell of, and which transactions change them. Nothing here takes memory or can
 //! fail.
-ghost use Rattle.std.specs.Prelude.{◌≡◌, ◌≤◌, ◌+◌, ◌++◌, IfSome, IsTrue};
+ghost use Rattle.std.specs.Prelude.{◌≡◌, ◌≤◌, ◌+◌, ◌++◌};
 ghost use Rattle.std.specs.List.{list_any};
 ghost use Rattle.arrayvec.specs.ArrayVec.{array_vec_len};
-ghost use Rattle.oe_reply_words.specs.Rows.{is_in, is_customer, is_chosen, is_ordered, is_delivered, are_delivered, changes_district, changes_customer, changes_stock, changes, change_text, last_text};
+ghost use Rattle.oe_reply_words.specs.Rows.{is_in, is_chosen, is_ordered, is_delivered, are_delivered, changes_district, changes_customer, changes_stock, changes, change_text, last_text};
 
-use crate::others::{Other, other_part};
 use crate::parts::{decimal, is_number, is_same, next_part, part_at};
-use oe_requests::{CustomerChoice, NewOrderRequest, PaymentRequest, Request, RequestLine};
+use oe_requests::{CustomerChoice, Request, RequestLine};
 use oe_rows::{CustomerKey, DistrictKey, Key, StockKey};
 use oe_texts::{Pending, SIZE, keys, text};
-use oe_values::{CustomerNumber, ItemNumber, fronts};
 
 /// A row, and the line whose transaction changed it last.
 #[derive(Clone, Copy)]
@@ -24,15 +22,6 @@ fn is_in(district: DistrictKey, warehouse: u32, number: u32) -> bool
     ensures { result ≡ is_in district warehouse number }
 {
     district.warehouse.get() == warehouse && district.district.get() == number
-}
-
-// Tells whether a customer is that of a key.
-fn is_customer(customer: CustomerKey, key: CustomerKey) -> bool
-    ensures { result ≡ is_customer customer key }
-{
-    customer.warehouse.get() == key.warehouse.get()
-        && customer.district.get() == key.district.get()
-        && customer.customer.get() == key.customer.get()
 }
 
 // Tells whether a customer was chosen: by its number, or by its last name, where the reply tells
@@ -124,7 +113,7 @@ fn changes_customer(request: &Request, reply: &[u8], key: &CustomerKey) -> bool
         Request::Deliveries(deliveries) => {
             deliveries.warehouse.warehouse.get() == warehouse && are_delivered(reply, key)
         }
-        Request::Rename(rename) => is_customer(rename.customer, *key),
+        Request::Rename(rename) => rename.customer.cmp(key).is_eq(),
         Request::NewOrder(_) => false,
     }
 }
@@ -153,75 +142,6 @@ pub fn changes(request: &Request, reply: &[u8], row: &Key) -> bool
         Key::Customer(key) => changes_customer(request, reply, key),
         Key::Stock(key) => changes_stock(request, key),
         _ => false,
-    }
-}
-
-// Reads a number that stands alone.
-fn customer_number(word: &[u8]) -> Option<CustomerNumber> {
-    let (number, rest) = fronts::decimal(word)?;
-    if !rest.is_empty() {
-        return None;
-    }
-    CustomerNumber::new(u32::try_from(number).ok()?)
-}
-
-// Gives the customer of a payment: where a last name chose it, the reply tells its number.
-fn payer(payment: &PaymentRequest, reply: &[u8]) -> Option<Key> {
-    let customer = match &payment.customer {
-        CustomerChoice::Number(number) => *number,
-        CustomerChoice::LastName(_) => customer_number(part_at(reply, b' ', 1))?,
-    };
-    Some(Key::Customer(CustomerKey {
-        warehouse: payment.customer_district.warehouse,
-        district: payment.customer_district.district,
-        customer,
-    }))
-}
-
-// Gives the stock that a line of an order takes from, by the line's place from 0.
-fn stock_of(order: &NewOrderRequest, place: usize) -> Option<Key> {
-    let line = order.lines.as_slice().get(place)?;
-    Some(Key::Stock(StockKey {
-        warehouse: line.supply,
-        item: ItemNumber::new(line.item.get())?,
-    }))
-}
-
-// Gives the row that a word of an order's reply tells of: the district has its number, and the
-// stock of an item what is left.
-fn row_of_order(order: &NewOrderRequest, other: &Other) -> Option<Key> {
-    if other.place == 1 {
-        return Some(Key::District(order.district));
-    }
-    if other_part(other.theirs, other.ours, b':').place != 1 {
-        return None;
-    }
-    stock_of(order, other.place.checked_sub(5)?)
-}
-
-// Gives the row that the first word which differs tells of, where it is not the reply's kind.
-fn row_of(request: &Request, theirs: &[u8], ours: &[u8]) -> Option<Key> {
-    let other = other_part(theirs, ours, b' ');
-    if other.place == 0 {
-        return None;
-    }
-    match request {
-        Request::NewOrder(order) => row_of_order(order, &other),
-        Request::Payment(payment) => payer(payment, ours),
-        _ => None,
-    }
-}
-
-/// Gives the row that the first word which differs tells of, one that the transaction changed: a
-/// district by an order's number, a stock by what is left of an item, a customer by a payment.
-pub fn row_told(request: &Request, theirs: &[u8], ours: &[u8]) -> Option<Key>
-    ensures { IfSome result (λ row. IsTrue (changes request.now ours.now row)) }
-{
-    let row = row_of(request, theirs, ours)?;
-    if changes(request, ours, &row) {
-        Some(row)
-    } else {
-        None
     }
 }
 

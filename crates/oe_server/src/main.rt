@@ -4,15 +4,16 @@
 //! This file is trusted: it has no contract. It opens what the command line names, and hands it to
 //! `oe_answers` and `oe_drive_answer`, whose contracts say what is answered, with which status.
 use oe_answers::{
-    Replies, answer_load, audit_dump, audit_folder, audit_options, explain, field_format,
-    open_folder, opened_script, refuse, row_format, script, serial, tell_usage,
+    Audited, Progress, Replies, answer_audit, answer_following, answer_load, explain, open_audited,
+    open_before, open_script, opened_script, refuse, script, serial, tell_usage,
 };
 use oe_drive_answer::answer_drive;
 use oe_explain::Explainer;
-use oe_files::{Pace, open_named, open_tables};
+use oe_file_loading::{Pace, open_named, open_tables};
+use oe_numbers::FollowingNumbers;
 use oe_ports::standard::{Printed, Standard};
 use oe_rows::Layout;
-use oe_tasks::{AuditOptions, Task, job};
+use oe_tasks::{AuditOptions, LoadOptions, Separator, Task, job};
 use oe_values::ExtentCount;
 use std::env::Env;
 use std::io::{Input, IsTerminal, Stderr};
@@ -21,7 +22,7 @@ use std::rt::Files;
 use std::sync::Wait;
 use std::thread::Threads;
 use std::time::Clock;
-use std::{env, fs, io};
+use std::{env, io};
 
 fn main(rt: HostRuntime) -> io::Result<ExitCode> {
     let status = match words(&rt) {
@@ -47,9 +48,9 @@ fn answer<
     let explainer = &mut Explainer::new(Printed::new(errors));
     match task {
         Task::Script => script(rt, "-", &mut Ok(Standard(rt.reader())), out),
-        Task::File(name) => script(rt, name, &mut open(rt, name), out),
+        Task::File(name) => script(rt, name, &mut open_script(rt, name), out),
         Task::Explain(None) => explain(rt, "-", &mut Ok(Standard(rt.reader())), out, explainer),
-        Task::Explain(Some(name)) => explain(rt, name, &mut open(rt, name), out, explainer),
+        Task::Explain(Some(name)) => explain(rt, name, &mut open_script(rt, name), out, explainer),
         Task::Opened {
             directory,
             extents,
@@ -60,25 +61,38 @@ fn answer<
             file,
             from,
             tables,
-            is_csv,
-        } => decide(rt, errors, file, *from, *tables, *is_csv),
-        Task::Audit { source, options } => audit(rt, errors, source, options),
-        Task::Load {
+            separator,
+        } => decide(rt, errors, file, *from, *tables, *separator),
+        Task::Audit {
+            source,
+            before,
+            options,
+        } => audit(rt, errors, source, *before, options),
+        Task::Load { numbers, options } => answer_load(rt, numbers, options, out),
+        Task::Following {
+            directory,
             numbers,
-            first,
-            kinds,
-            is_flat,
-        } => answer_load(rt, numbers, *first, *kinds, *is_flat, out),
+            options,
+        } => follow(rt, errors, directory, numbers, options),
         Task::Drive(numbers) => answer_drive(rt, numbers, errors.is_terminal(), out),
     }
 }
 
-/// Opens the file of a script.
-fn open<R: Files>(rt: &R, name: &str) -> io::Result<Standard<R::File>> {
-    Ok(Standard(fs::open(rt, name)?))
+/// Opens the tables in a directory, and writes a load on them.
+fn follow<R: Files + Clock + Print + Eprint + AllocGlobal>(
+    rt: &R,
+    errors: &Stderr,
+    directory: &str,
+    numbers: &FollowingNumbers,
+    options: &LoadOptions,
+) -> io::Result<u8> {
+    let pace = Pace::begin(rt, errors.is_terminal())?;
+    let from = &mut open_tables(rt, directory, &pace);
+    let (out, notes) = (&mut Printed::new(rt), &mut Printed::new(errors));
+    answer_following(rt, from, numbers, options, out, notes)
 }
 
-/// Answers a script that begins opened, on the tables in a directory.
+/// Opens the tables in a directory and a script, and answers it from them.
 fn answer_from<R: Files + Clock + Input + Print + Eprint + AllocGlobal>(
     rt: &R,
     errors: &Stderr,
@@ -90,56 +104,46 @@ fn answer_from<R: Files + Clock + Input + Print + Eprint + AllocGlobal>(
     let pace = Pace::begin(rt, errors.is_terminal())?;
     let from = &mut open_tables(rt, directory, &pace);
     let (out, notes) = (&mut Printed::new(rt), &mut Printed::new(errors));
-    match file {
-        Some(name) => {
-            let input = &mut open(rt, name);
-            opened_script(rt, from, extents, layout, name, input, out, notes)
-        }
-        None => {
-            let input = &mut Ok(Standard(rt.reader()));
-            opened_script(rt, from, extents, layout, "-", input, out, notes)
-        }
-    }
+    let Some(name) = file else {
+        let input = &mut Ok(Standard(rt.reader()));
+        return opened_script(rt, from, extents, layout, "-", input, out, notes);
+    };
+    let input = &mut open_script(rt, name);
+    opened_script(rt, from, extents, layout, name, input, out, notes)
 }
 
-/// Decides on a file of replies, from the tables in a directory, and compares those in another.
+/// Opens a file of replies, and the tables in the directories that stand beside it, and decides.
 fn decide<R: Files + Clock + Print + Eprint + AllocGlobal>(
     rt: &R,
     errors: &Stderr,
     name: &str,
     from: Option<&str>,
     tables: Option<&str>,
-    is_csv: bool,
+    separator: Separator,
 ) -> io::Result<u8> {
     let pace = Pace::begin(rt, errors.is_terminal())?;
-    let format = row_format(is_csv);
     let mut from = open_named(rt, from, &pace);
     let mut tables = open_named(rt, tables, &pace);
-    let bytes = fs::read(rt, name);
-    let replies = Replies { name, bytes };
+    let replies = &Replies::read(rt, name);
     let (out, notes) = (&mut Printed::new(rt), &mut Printed::new(errors));
-    serial(rt, format, &replies, &mut from, &mut tables, out, notes)
+    serial(rt, separator, replies, &mut from, &mut tables, out, notes)
 }
 
-/// Audits the tables in the files of a directory, in a dump, or on standard input.
-fn audit<R: Files + Input + Print + Eprint + AllocGlobal + Clone + Drop>(
+/// Opens what an audit reads, and the earlier directory where one is named, and audits.
+fn audit<R: Files + Input + Print + Eprint + AllocGlobal + Clock + Clone + Drop>(
     rt: &R,
     errors: &Stderr,
     name: &str,
-    said: &AuditOptions,
+    before: Option<&str>,
+    options: &AuditOptions,
 ) -> io::Result<u8> {
-    let options = &audit_options(said.initial, said.first, said.is_json);
-    let format = field_format(said.is_csv);
+    let progress = &Progress::begin(rt, errors.is_terminal())?;
+    let before = open_before(rt, before, progress);
     let (out, notes) = (&mut Printed::new(rt), &mut Printed::new(errors));
     if name == "-" {
-        return audit_dump(rt, options, format, name, &mut Ok(rt.reader()), out, notes);
+        let input = Audited::Dump(Ok(progress.watch(rt.reader(), 0)));
+        return answer_audit(rt, options, before, name, input, out, notes);
     }
-    let mut source = match fs::metadata(rt, name) {
-        Ok(found) if found.is_dir() => {
-            return audit_folder(rt, options, format, name, open_folder(rt, name), out, notes);
-        }
-        Ok(_) => fs::open(rt, name),
-        Err(error) => Err(error),
-    };
-    audit_dump(rt, options, format, name, &mut source, out, notes)
+    let files = open_audited(rt, name, progress);
+    answer_audit(rt, options, before, name, files, out, notes)
 }

@@ -4,10 +4,9 @@ use Rattle.std.proofs.Common.{sym, ap, subst, ◌∙◌, refl, append_assoc, app
 use Rattle.std.proofs.lemmas.Bool.{lt-ltb, le-ltb}
 use Rattle.std.proofs.lemmas.List.{map-append}
 use Rattle.oe_facts.specs.declared.tables.Table.{Table}
-use Rattle.oe_facts.specs.declared.tables.Fact.{Fact}
 use Rattle.oe_facts.specs.Table.{table_of}
 use Rattle.oe_columns.specs.Facts.{fact_values}
-use Rattle.oe_columns.specs.Values.{Value}
+use Rattle.oe_columns.specs.declared.prints.RowFact.{RowFact}
 use Rattle.oe_sources.specs.declared.faults.SourceFault.{SourceFault}
 use Rattle.oe_sources.specs.declared.faults.Wrong.{Wrong}
 use Rattle.oe_sources.specs.declared.ledgers.Taken as taken
@@ -16,7 +15,7 @@ use Rattle.oe_sources.specs.declared.lines.SoFar as lines
 use Rattle.oe_sources.specs.Dump as dump
 use Rattle.oe_sources.specs.Fault.{Told, capped, pushed, each_pushed}
 use Rattle.oe_sources.specs.Reading.{Says, Nothing, Row, Fault, step, long_says}
-use Rattle.oe_sources.specs.Taken.{Got, spelled, rows_said, faults_said}
+use Rattle.oe_sources.specs.Taken.{Got, Spelled, spelled, rows_said, faults_said}
 use Rattle.oe_sources.specs.Tables.{Read, begun_read, next, all_next, Stands, StandsBehind, file_step}
 use Rattle.oe_sources.specs.Text.{text_of}
 
@@ -27,8 +26,8 @@ each_push : (fs : List SourceFault) (f : SourceFault) (t : Told)
 each_push [] f t = refl
 each_push (g ∷ fs) f t = each_push fs f (pushed g t)
 
-module _ {L B : Type 0} (holds : B → L → List Fact → Type 0) (start : taken.Taken L) where
-  pub got_as : (rows rows' : List (Table × List Value)) (faults faults' : List SourceFault) (now : taken.Taken L)
+module _ {L B : Type 0} (holds : B → L → List RowFact → Type 0) (start : taken.Taken L) where
+  pub got_as : (rows rows' : List Spelled) (faults faults' : List SourceFault) (now : taken.Taken L)
       → rows ≡ rows' → faults ≡ faults' → Got holds start rows faults now → Got holds start rows' faults' now
   got_as rows rows' faults faults' now e f g = record {
     facts = g.facts;
@@ -45,7 +44,7 @@ module _ {L B : Type 0} (holds : B → L → List Fact → Type 0) (start : take
     told = refl;
   }
 
-  pub got_nothing : (rows : List (Table × List Value)) (faults : List SourceFault) (now : taken.Taken L) (t : Table)
+  pub got_nothing : (rows : List Spelled) (faults : List SourceFault) (now : taken.Taken L) (t : Table)
       (n : ℕ) (s : Says) → s ≡ Nothing → Got holds start rows faults now
       → Got holds start (rows ++ rows_said s) (faults ++ faults_said t n s) now
   got_nothing rows faults now t n s e g =
@@ -53,9 +52,10 @@ module _ {L B : Type 0} (holds : B → L → List Fact → Type 0) (start : take
       (sym (ap (λ s. rows ++ rows_said s) e ∙ append-nil rows))
       (sym (ap (λ s. faults ++ faults_said t n s) e ∙ append-nil faults)) g
 
-  pub got_row : (rows : List (Table × List Value)) (faults : List SourceFault) (old now : taken.Taken L) (t : Table)
-      (n : ℕ) (s : Says) (f : Fact) → s ≡ Row (table_of f) (fact_values f) → now.faults ≡ old.faults
-      → ((begun : B) (facts : List Fact) → holds begun old.ledger facts → holds begun now.ledger (facts ++ f ∷ []))
+  pub got_row : (rows : List Spelled) (faults : List SourceFault) (old now : taken.Taken L) (t : Table)
+      (n : ℕ) (s : Says) (f : RowFact) → s ≡ Row (table_of f.fact) (fact_values f.fact) f.print
+      → now.faults ≡ old.faults
+      → ((begun : B) (facts : List RowFact) → holds begun old.ledger facts → holds begun now.ledger (facts ++ f ∷ []))
       → Got holds start rows faults old
       → Got holds start (rows ++ rows_said s) (faults ++ faults_said t n s) now
   got_row rows faults old now t n s f e same takes g = record {
@@ -70,7 +70,7 @@ module _ {L B : Type 0} (holds : B → L → List Fact → Type 0) (start : take
         (ap (λ s. faults ++ faults_said t n s) e ∙ append-nil faults));
   }
 
-  pub got_fault : (rows : List (Table × List Value)) (faults : List SourceFault) (old now : taken.Taken L) (t : Table)
+  pub got_fault : (rows : List Spelled) (faults : List SourceFault) (old now : taken.Taken L) (t : Table)
       (n : ℕ) (s : Says) (w : Wrong) (text : List ℕ) → s ≡ Fault w text → now.ledger ≡ old.ledger
       → now.faults ≡ pushed (record { table = t; line = n; wrong = w; text = text }) old.faults
       → Got holds start rows faults old
@@ -121,12 +121,12 @@ module _ (line_step : ℕ → Reading → List ℕ → Reading × Says) where
   all_push r [] line = refl
   all_push r (l ∷ ls) line = all_push (next line_step r l) ls line
 
-  module _ {L B : Type 0} (holds : B → L → List Fact → Type 0) (start : lines.SoFar L) where
+  module _ {L B : Type 0} (holds : B → L → List RowFact → Type 0) (start : lines.SoFar L) where
     next_stands : (r : Read) (line : List ℕ) (old now : lines.SoFar L) (t : Table) (n : ℕ) (s : Says)
         → t ≡ now.reading.table → n ≡ capped (old.count + 1) → now.reading ≡ (line_step n old.reading line).0
         → now.count ≡ n
         → s ≡ (line_step n old.reading line).1
-        → ((start : taken.Taken L) (rows : List (Table × List Value)) (faults : List SourceFault)
+        → ((start : taken.Taken L) (rows : List Spelled) (faults : List SourceFault)
         → Got holds start rows faults old.taken
         → Got holds start (rows ++ rows_said s) (faults ++ faults_said t n s) now.taken)
         → Stands line_step holds start r old → Stands line_step holds start (next line_step r line) now
@@ -154,7 +154,7 @@ module _ (line_step : ℕ → Reading → List ℕ → Reading × Says) where
         → t ≡ now.reading.table → n ≡ capped (old.count + 1) → now.reading ≡ (line_step n old.reading line).0
         → now.count ≡ n
         → s ≡ (line_step n old.reading line).1
-        → ((start : taken.Taken L) (rows : List (Table × List Value)) (faults : List SourceFault)
+        → ((start : taken.Taken L) (rows : List Spelled) (faults : List SourceFault)
         → Got holds start rows faults old.taken
         → Got holds start (rows ++ rows_said s) (faults ++ faults_said t n s) now.taken)
         → StandsBehind line_step holds start ls old → StandsBehind line_step holds start (ls ++ line ∷ []) now

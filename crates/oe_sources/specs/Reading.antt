@@ -10,7 +10,10 @@ use Rattle.oe_fields.specs.Parting.{fields_of}
 use Rattle.oe_columns.specs.declared.headings.LayoutFault.{LayoutFault}
 use Rattle.oe_columns.specs.declared.rows.Misfit.{Misfit}
 use Rattle.oe_columns.specs.Facts.{values_in, fact_values}
+use Rattle.oe_columns.specs.declared.constants.Wanted.{Wanted}
+use Rattle.oe_columns.specs.Constants.{constants_in, wanted_constants}
 use Rattle.oe_columns.specs.Headings.{is_heading, layout_of}
+use Rattle.oe_columns.specs.Prints.{print_of}
 use Rattle.oe_columns.specs.Values.{Value, Placed, field_at}
 use Rattle.oe_sources.specs.declared.faults.Wrong.{Wrong}
 use Rattle.oe_sources.specs.declared.faults.Wrong.TheVariants as wrong
@@ -22,16 +25,16 @@ use Rattle.oe_sources.specs.declared.readings.Said.TheVariants as said
 use Rattle.oe_sources.specs.Fault.{capped}
 use Rattle.oe_sources.specs.Text.{is_end, count_of}
 
--- what a line says: nothing that is kept, a row of the table with these values, or a fault with a text
+-- what a line says: nothing that is kept, a row of the table with these values and this print, or a fault with a text
 pub data Says : Type 0 where
   Nothing : Says
-  Row : Table → List Value → Says
+  Row : Table → List Value → Option ℕ → Says
   Fault : Wrong → List ℕ → Says
 
--- a fact says its table and its values
+-- a row says its table, its values, and its print
 abbrev pub says : Said → Says
 says said.Nothing = Nothing
-says (said.Row f) = Row (table_of f) (fact_values f)
+says (said.Row r) = Row (table_of r.fact) (fact_values r.fact) r.print
 says (said.Fault w t) = Fault w t
 
 -- a fault shows the first 40 bytes
@@ -46,46 +49,63 @@ shown_of (Some field) = field
 abbrev pub misfit_says : Placed → Misfit → Says
 misfit_says row m = fault_says (wrong.Misfit m) (shown_of (field_at row m.column))
 
-abbrev pub row_says : Table → Placed → Result (List Value) Misfit → Says
-row_says t row (Ok vs) = Row t vs
-row_says t row (Err m) = misfit_says row m
+abbrev pub row_says : Table → Placed → Option ℕ → Result (List Value) Misfit → Says
+row_says t row print (Ok vs) = Row t vs print
+row_says t row print (Err m) = misfit_says row m
 
--- the values of the columns at these places, or the first that has none
-unfoldable pub read_row : Table → Format → List ℕ → List ℕ → Says
-read_row t format places text =
-    let row : Placed = record { places = places; fields = fields_of format text } in
-    row_says t row (values_in t row)
+abbrev pub placed : List ℕ → List (List ℕ) → Placed
+placed places fields = record { places = places; fields = fields }
 
-abbrev pub begun_at : Table → Format → Layout → Reading
-begun_at t format layout = record { table = t; format = format; layout = layout; rows = 0; is_ended = false }
+-- the values of the columns at these places and the print of those that no transaction changes, or the first column
+-- that has no value
+unfoldable pub read_row : Table → Format → (places constants : List ℕ) → List ℕ → Says
+read_row t format places constants text =
+    row_says t (placed places (fields_of format text)) (print_of t (placed constants (fields_of format text)))
+    (values_in t (placed places (fields_of format text)))
+
+abbrev pub begun_at : Table → Wanted → Format → Layout → Reading
+begun_at t wanted format layout =
+    record { table = t; wanted = wanted; format = format; layout = layout; rows = 0; is_ended = false }
 
 -- nothing is read yet
-abbrev pub begun : Table → Format → Reading
-begun t format = begun_at t format Unknown
+abbrev pub begun : Table → Wanted → Format → Reading
+begun t wanted format = begun_at t wanted format Unknown
 
 -- no rows are read
-abbrev pub between : Reading
-between = record { table = Warehouse; format = Tabs; layout = Lost; rows = 0; is_ended = true }
+abbrev pub between : Wanted → Reading
+between wanted =
+    record { table = Warehouse; wanted = wanted; format = Tabs; layout = Lost; rows = 0; is_ended = true }
 
 abbrev pub row_by : Reading → List ℕ → Layout → Reading × Says
-row_by r text (Known places) =
-    (record r { rows = capped (r.rows + 1) }, read_row r.table r.format places text)
+row_by r text (Known places constants) =
+    (record r { rows = capped (r.rows + 1) }, read_row r.table r.format places constants text)
 row_by r text layout = (r, Nothing)
 
 -- a row, where the places of the columns are known
 unfoldable pub row_step : Reading → List ℕ → Reading × Says
 row_step r text = row_by r text r.layout
 
-abbrev pub begin_by : Reading → List ℕ → (heading : Bool) → Result (List ℕ) LayoutFault → Reading × Says
+-- where both stand, or why one does not
+abbrev pub known_by : Result (List ℕ) LayoutFault → Result (List ℕ) LayoutFault → Result Layout LayoutFault
+known_by (Err e) constants = Err e
+known_by (Ok places) (Err e) = Err e
+known_by (Ok places) (Ok constants) = Ok (Known places constants)
+
+-- where the columns stand, by the fields of the first line
+abbrev pub first_layout : Reading → List (List ℕ) → Result Layout LayoutFault
+first_layout r fields =
+    known_by (layout_of r.table fields) (wanted_constants r.wanted (constants_in r.table fields))
+
+abbrev pub begin_by : Reading → List ℕ → (heading : Bool) → Result Layout LayoutFault → Reading × Says
 begin_by r text heading (Err e) = (record r { layout = Lost }, fault_says (wrong.Layout e) text)
-begin_by r text true (Ok places) = (record r { layout = Known places }, Nothing)
-begin_by r text false (Ok places) = row_step (record r { layout = Known places }) text
+begin_by r text true (Ok layout) = (record r { layout = layout }, Nothing)
+begin_by r text false (Ok layout) = row_step (record r { layout = layout }) text
 
 -- the first line: a heading, or a row
 unfoldable pub begin_step : Reading → List ℕ → Reading × Says
 begin_step r text =
     let fields = fields_of r.format text in
-    begin_by r text (is_heading fields) (layout_of r.table fields)
+    begin_by r text (is_heading fields) (first_layout r fields)
 
 -- the count of the rows, which ends them
 unfoldable pub count_step : Reading → ℕ → List ℕ → Reading × Says
@@ -96,8 +116,8 @@ abbrev pub data_by : Reading → List ℕ → Layout → Option ℕ → Reading 
 data_by r text Lost count = (r, Nothing)
 data_by r text Unknown (Some n) = count_step r n text
 data_by r text Unknown None = begin_step r text
-data_by r text (Known places) (Some n) = count_step r n text
-data_by r text (Known places) None = row_step r text
+data_by r text (Known places constants) (Some n) = count_step r n text
+data_by r text (Known places constants) None = row_step r text
 
 -- a line that is neither blank nor the end: a count, the first line, or a row
 unfoldable pub data_step : Reading → List ℕ → Reading × Says
@@ -114,7 +134,7 @@ step r text =
 abbrev pub long_by : Layout → Says
 long_by Lost = Nothing
 long_by Unknown = fault_says wrong.TooLong []
-long_by (Known places) = fault_says wrong.TooLong []
+long_by (Known places constants) = fault_says wrong.TooLong []
 
 -- the next line, which is too long
 abbrev pub long_says : Reading → Says

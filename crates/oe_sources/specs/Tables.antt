@@ -1,10 +1,10 @@
 -- What the lines of a source say, one after another: of a table's file, or of a dump.
 use Rattle.std.specs.Prelude.{◌≡◌, ℕ, ◌+◌, ◌==◌, List, [], ◌∷◌, ◌++◌, length, nat_lt, Option, if◌then◌else◌}
 use Rattle.oe_facts.specs.declared.tables.Table.{Table}
-use Rattle.oe_facts.specs.declared.tables.Fact.{Fact}
 use Rattle.oe_fields.specs.declared.fields.Format.{Format}
 use Rattle.oe_filelines.specs.Lines.{AreLines, AreAll}
-use Rattle.oe_columns.specs.Values.{Value}
+use Rattle.oe_columns.specs.declared.constants.Wanted.{Wanted}
+use Rattle.oe_columns.specs.declared.prints.RowFact.{RowFact}
 use Rattle.oe_sources.specs.declared.faults.SourceFault.{SourceFault}
 use Rattle.oe_sources.specs.declared.ledgers.Taken as taken
 use Rattle.oe_sources.specs.declared.readings.Reading.{Reading}
@@ -12,14 +12,14 @@ use Rattle.oe_sources.specs.declared.lines.SoFar as lines
 use Rattle.oe_sources.specs.declared.tables.TableLines as table
 use Rattle.oe_sources.specs.Fault.{capped, no_faults}
 use Rattle.oe_sources.specs.Reading.{Says, step, long_says, begun}
-use Rattle.oe_sources.specs.Taken.{Got, rows_said, faults_said}
+use Rattle.oe_sources.specs.Taken.{Got, Spelled, rows_said, faults_said}
 use Rattle.oe_sources.specs.Text.{text_of}
 
 -- what the lines said so far: how they are read now, how many lines came, the rows, and the faults
 pub record Read : Type 0 where
   pub reading : Reading
   pub count : ℕ
-  pub rows : List (Table × List Value)
+  pub rows : List Spelled
   pub faults : List SourceFault
 
 -- nothing was said yet
@@ -46,7 +46,7 @@ module _ (line_step : ℕ → Reading → List ℕ → Reading × Says) where
   all_next r [] = r
   all_next r (line ∷ lines) = all_next (next r line) lines
 
-  module _ {L B : Type 0} (holds : B → L → List Fact → Type 0) (start : lines.SoFar L) where
+  module _ {L B : Type 0} (holds : B → L → List RowFact → Type 0) (start : lines.SoFar L) where
     -- where reading stands behind lines that said this
     pub record Stands (r : Read) (now : lines.SoFar L) : Type 0 where
       pub reading : now.reading ≡ r.reading
@@ -65,19 +65,18 @@ file_step n reading line =
     if nat_lt 65_536 (length line) then (reading, long_says reading) else step reading (text_of (n == 1) line)
 
 -- what the lines of a table's file say
-abbrev pub table_says : Table → Format → List (List ℕ) → Read
-table_says t format lines = all_next file_step (begun_read (begun t format) 0) lines
+abbrev pub table_says : Table → Wanted → Format → List (List ℕ) → Read
+table_says t wanted format lines = all_next file_step (begun_read (begun t wanted format) 0) lines
 
-abbrev pub TableTaken : {L B : Type 0} → (B → L → List Fact → Type 0) → table.TableLines L → List (List ℕ)
+abbrev pub TableTaken : {L B : Type 0} → (B → L → List RowFact → Type 0) → table.TableLines L → List (List ℕ)
     → table.TableLines L → Type 0
 TableTaken holds start ls now = StandsBehind file_step holds start.so_far ls now.so_far
 
--- A table's file was read to its end: the ledger got exactly the facts of the rows that its lines spell, in order, and
--- the faults are exactly those of its lines.
-abbrev pub TableRead : {L B : Type 0} → (B → L → List Fact → Type 0) → Table → Format → L → Option (List ℕ)
-    → Option (List ℕ)
+-- A table's file was read to its end: the ledger got exactly the facts and prints of the rows that its lines spell, in
+-- order, and the faults are exactly those of its lines.
+abbrev pub TableRead : {L B : Type 0} → (B → L → List RowFact → Type 0) → Table → Wanted → Format → L → Option (List ℕ)
     → taken.Taken L → Type 0
-TableRead holds t format ledger old new now =
-    (bytes : List ℕ) × AreAll old new bytes × (ls : List (List ℕ)) × AreLines bytes ls
-    × Got holds (record { ledger = ledger; faults = no_faults }) (table_says t format ls).rows
-    (table_says t format ls).faults now
+TableRead holds t wanted format ledger old now =
+    (new : Option (List ℕ)) × (bytes : List ℕ) × AreAll old new bytes × (ls : List (List ℕ)) × AreLines bytes ls
+    × Got holds (record { ledger = ledger; faults = no_faults }) (table_says t wanted format ls).rows
+    (table_says t wanted format ls).faults now

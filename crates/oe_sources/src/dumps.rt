@@ -3,7 +3,9 @@
 //! fields. All other lines are passed over, and so are sections of other tables. A table may have
 //! more sections than one. A section that is not ended is a fault.
 ghost use Rattle.std.specs.Prelude.{◌≡◌, IfOk};
-ghost use Rattle.oe_sources.specs.Dump.{statement_step, opened, dump_step, dump_long, end_says, DumpTaken, DumpRead};
+ghost use Rattle.oe_sources.specs.Dump.{statement_step, opened, stated_layout, dump_step, dump_long, end_says, DumpTaken, DumpRead};
+ghost use Rattle.oe_fields.specs.Parting.{fields_of};
+ghost use Rattle.oe_fields.specs.declared.fields.Format.TheVariants.{Commas};
 ghost use Rattle.oe_sources.specs.Reading.{says};
 
 use crate::faults::{Shown, Wrong};
@@ -12,7 +14,7 @@ use crate::lines::SoFar;
 use crate::names::statement;
 use crate::readings::{Layout, Reading, Said, fault};
 use crate::texts::text_of;
-use oe_columns::heading_places;
+use oe_columns::{LayoutFault, Wanted, heading_constants, heading_places};
 use oe_facts::Table;
 use oe_fields::Format;
 use oe_filelines::{LineTaker, Stop, read_lines};
@@ -25,18 +27,32 @@ pub struct DumpLines<L> {
     so_far: SoFar<L>,
 }
 
-/// Opens a section of the table, whose columns the statement names.
-fn open(reading: &mut Reading, table: Table, columns: &[u8], text: &[u8]) -> Said
-    ensures now { reading.new ≡ (opened table columns.now text.now).0 }
-    ensures said { says result ≡ (opened table columns.now text.now).1 }
+/// Tells where the columns of a section stand, by the names in its statement.
+fn stated_layout(wanted: Wanted, table: Table, columns: &[u8]) -> Result<Layout, LayoutFault>
+    ensures { result ≡ stated_layout wanted table (fields_of Commas columns.now) }
 {
     match heading_places(table, Format::Commas, columns) {
-        Ok(places) => {
-            *reading = Reading::new_at(table, Format::Tabs, Layout::Known(places));
+        Ok(places) => match heading_constants(wanted, table, Format::Commas, columns) {
+            Ok(constants) => Ok(Layout::Known(places, constants)),
+            Err(lost) => Err(lost),
+        },
+        Err(lost) => Err(lost),
+    }
+}
+
+/// Opens a section of the table, whose columns the statement names.
+fn open(reading: &mut Reading, table: Table, columns: &[u8], text: &[u8]) -> Said
+    ensures now { reading.new ≡ (opened reading.old.wanted table columns.now text.now).0 }
+    ensures said { says result ≡ (opened reading.old.wanted table columns.now text.now).1 }
+{
+    let wanted = reading.wanted();
+    match stated_layout(wanted, table, columns) {
+        Ok(layout) => {
+            *reading = Reading::new_at(table, wanted, Format::Tabs, layout);
             Said::Nothing
         }
         Err(lost) => {
-            *reading = Reading::new_at(table, Format::Tabs, Layout::Lost);
+            *reading = Reading::new_at(table, wanted, Format::Tabs, Layout::Lost);
             fault(Wrong::Layout(lost), text)
         }
     }
@@ -106,22 +122,25 @@ fn end_of(reading: &Reading) -> Said
     Said::Fault(Wrong::NotEnded, Shown::of(b""))
 }
 
-/// Reads a dump to its end, and hands the fact of each row to the ledger.
+/// Reads a dump to its end, and hands the fact of each row to the ledger, and its print where that
+/// is wanted.
 ///
 /// A line of a section that can't be read is a fault, and no verdict on the ledger may be given
-/// where there is one. Where a read fails or there is no memory, the ledger is lost.
-pub fn read_dump<S: Read, L: Ledger + Drop>(
+/// where there is one. The source is used up. Where a read fails or there is no memory, the ledger
+/// is lost too.
+pub fn read_dump<S: Read + Drop, L: Ledger + Drop>(
     alloc: Global,
-    source: &mut S,
+    wanted: Wanted,
+    source: S,
     ledger: L,
 ) -> Result<Taken<L>, Stop>
-    ensures { IfOk result (DumpRead L.holds ledger (S.remaining source.old)
-        (S.remaining source.new)) }
+    ensures { IfOk result (DumpRead L.holds wanted ledger (S.remaining source)) }
 {
+    let mut source = source;
     let mut lines = DumpLines {
-        so_far: SoFar::new(alloc, Reading::new_ended(), ledger),
+        so_far: SoFar::new(alloc, Reading::new_ended(wanted), ledger),
     };
-    if let Err(stop) = read_lines(alloc, source, &mut lines) {
+    if let Err(stop) = read_lines(alloc, &mut source, &mut lines) {
         return Err(stop);
     }
     let DumpLines { mut so_far } = lines;

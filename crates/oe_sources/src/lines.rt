@@ -1,11 +1,9 @@
 //! The lines of a source so far, of a table's file or of a dump: how they are read, how many came,
 //! and what was taken.
 ghost use Rattle.std.specs.Prelude.{◌≡◌, ◌++◌, List, OnOk};
-ghost use Rattle.oe_facts.specs.declared.tables.Table.{Table};
-ghost use Rattle.oe_columns.specs.Values.{Value};
 ghost use Rattle.oe_sources.specs.Fault.{no_faults};
 ghost use Rattle.oe_sources.specs.Reading.{says};
-ghost use Rattle.oe_sources.specs.Taken.{Got, rows_said, faults_said};
+ghost use Rattle.oe_sources.specs.Taken.{Got, Spelled, rows_said, faults_said};
 ghost use Rattle.oe_sources.specs.declared.faults.SourceFault.{SourceFault};
 ghost use Rattle.oe_sources.specs.declared.ledgers.Taken as taken;
 
@@ -47,7 +45,7 @@ impl<L: Ledger> SoFar<L> {
     pub(crate) fn add(&mut self, said: Said) -> Result<(), AllocError>
         ensures reading { self.new.reading ≡ self.old.reading }
         ensures count { self.new.count ≡ self.old.count }
-        ensures taken { OnOk result ((start : taken.Taken L) (rows : List (Table × List Value))
+        ensures taken { OnOk result ((start : taken.Taken L) (rows : List Spelled)
             (faults : List SourceFault) →
             Got L.holds start rows faults self.old.taken →
             Got L.holds start (rows ++ rows_said (says said))

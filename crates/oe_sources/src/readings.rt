@@ -4,12 +4,16 @@
 //! Blank lines are passed over. Where the first line does not tell where the columns stand, that is
 //! a fault, and the lines behind it are passed over.
 ghost use Rattle.std.specs.Prelude.{◌≡◌};
-ghost use Rattle.oe_sources.specs.Reading.{says, fault_says, misfit_says, read_row, row_step, begin_step, count_step, data_step, step, long_says, begun, begun_at, between};
+ghost use Rattle.oe_fields.specs.Parting.{fields_of};
+ghost use Rattle.oe_sources.specs.Reading.{says, fault_says, misfit_says, read_row, row_step, first_layout, begin_step, count_step, data_step, step, long_says, begun, begun_at, between};
 
 use crate::faults::{Shown, Wrong};
 use crate::texts::{is_end, said_count};
-use oe_columns::{Misfit, Places, Row, is_heading, layout, read_fact};
-use oe_facts::{Fact, Table};
+use oe_columns::{
+    Constants, LayoutFault, Misfit, Places, Row, RowFact, Wanted, first_constants, is_heading,
+    layout, print, read_fact,
+};
+use oe_facts::Table;
 use oe_fields::Format;
 
 /// What is known of where the columns stand.
@@ -17,8 +21,8 @@ use oe_fields::Format;
 pub enum Layout {
     /// Nothing yet.
     Unknown,
-    /// Their places.
-    Known(Places),
+    /// Their places, and those of the columns that no transaction changes.
+    Known(Places, Constants),
     /// They can't be told.
     Lost,
 }
@@ -28,8 +32,8 @@ pub enum Layout {
 pub enum Said {
     /// Nothing that is kept.
     Nothing,
-    /// The fact of a row.
-    Row(Fact),
+    /// The fact of a row, and its print where that is wanted.
+    Row(RowFact),
     /// It can't be read. The text is shown.
     Fault(Wrong, Shown),
 }
@@ -38,6 +42,7 @@ pub enum Said {
 #[derive(Drop)]
 pub struct Reading {
     table: Table,
+    wanted: Wanted,
     format: Format,
     layout: Layout,
     // How many lines were rows.
@@ -66,23 +71,33 @@ fn misfit(row: &mut Row<'_>, misfit: Misfit) -> Said
 /// Reads a row.
 #[inline]
 #[tactic(auto, unfolding(crate::specs::Reading::read_row))]
-fn read_row(table: Table, format: Format, places: &[usize], text: &[u8]) -> Said
-    ensures { says result ≡ read_row table format places.now text.now }
+fn read_row(
+    table: Table,
+    format: Format,
+    places: &[usize],
+    constants: &Constants,
+    text: &[u8],
+) -> Said
+    ensures { says result ≡ read_row table format places.now constants.now text.now }
 {
     let mut row = Row::new(format, text, places);
     match read_fact(table, &mut row) {
-        Ok(fact) => Said::Row(fact),
+        Ok(fact) => Said::Row(RowFact {
+            fact,
+            print: print(table, format, text, constants),
+        }),
         Err(none) => misfit(&mut row, none),
     }
 }
 
 impl Reading {
     /// Begins to read the rows of a file.
-    pub(crate) fn new(table: Table, format: Format) -> Reading
-        ensures { result ≡ begun table format }
+    pub(crate) fn new(table: Table, wanted: Wanted, format: Format) -> Reading
+        ensures { result ≡ begun table wanted format }
     {
         Reading {
             table,
+            wanted,
             format,
             layout: Layout::Unknown,
             rows: 0,
@@ -91,11 +106,12 @@ impl Reading {
     }
 
     /// Begins to read rows whose columns stand at these places.
-    pub(crate) fn new_at(table: Table, format: Format, layout: Layout) -> Reading
-        ensures { result ≡ begun_at table format layout }
+    pub(crate) fn new_at(table: Table, wanted: Wanted, format: Format, layout: Layout) -> Reading
+        ensures { result ≡ begun_at table wanted format layout }
     {
         Reading {
             table,
+            wanted,
             format,
             layout,
             rows: 0,
@@ -104,11 +120,12 @@ impl Reading {
     }
 
     /// No rows are read.
-    pub(crate) fn new_ended() -> Reading
-        ensures { result ≡ between }
+    pub(crate) fn new_ended(wanted: Wanted) -> Reading
+        ensures { result ≡ between wanted }
     {
         Reading {
             table: Table::Warehouse,
+            wanted,
             format: Format::Tabs,
             layout: Layout::Lost,
             rows: 0,
@@ -122,6 +139,13 @@ impl Reading {
         ensures { result ≡ self.now.table }
     {
         self.table
+    }
+
+    /// Gives what is read of rows.
+    pub(crate) fn wanted(&self) -> Wanted
+        ensures { result ≡ self.now.wanted }
+    {
+        self.wanted
     }
 
     /// Tells whether the end of the rows came.
@@ -140,12 +164,26 @@ impl Reading {
         ensures said { says result ≡ (row_step self.old text.now).1 }
     {
         match &self.layout {
-            Layout::Known(places) => {
-                let said = read_row(self.table, self.format, places.as_slice(), text);
+            Layout::Known(places, constants) => {
+                let places = places.as_slice();
+                let said = read_row(self.table, self.format, places, constants, text);
                 self.rows = self.rows.saturating_add(1);
                 said
             }
             Layout::Unknown | Layout::Lost => Said::Nothing,
+        }
+    }
+
+    /// Tells where the columns stand, by the first line.
+    fn first_layout(&self, text: &[u8]) -> Result<Layout, LayoutFault>
+        ensures { result ≡ first_layout self.now (fields_of self.now.format text.now) }
+    {
+        match layout(self.table, self.format, text) {
+            Ok(places) => match first_constants(self.wanted, self.table, self.format, text) {
+                Ok(constants) => Ok(Layout::Known(places, constants)),
+                Err(lost) => Err(lost),
+            },
+            Err(lost) => Err(lost),
         }
     }
 
@@ -156,9 +194,9 @@ impl Reading {
         ensures now { self.new ≡ (begin_step self.old text.now).0 }
         ensures said { says result ≡ (begin_step self.old text.now).1 }
     {
-        match layout(self.table, self.format, text) {
-            Ok(places) => {
-                self.layout = Layout::Known(places);
+        match self.first_layout(text) {
+            Ok(layout) => {
+                self.layout = layout;
                 if is_heading(self.format, text) {
                     return Said::Nothing;
                 }
@@ -200,7 +238,7 @@ impl Reading {
         }
         match &self.layout {
             Layout::Unknown => self.take_first(text),
-            Layout::Known(_) => self.take_row(text),
+            Layout::Known(_, _) => self.take_row(text),
             Layout::Lost => Said::Nothing,
         }
     }
@@ -231,7 +269,7 @@ impl Reading {
     {
         match &self.layout {
             Layout::Lost => Said::Nothing,
-            Layout::Unknown | Layout::Known(_) => fault(Wrong::TooLong, b""),
+            Layout::Unknown | Layout::Known(_, _) => fault(Wrong::TooLong, b""),
         }
     }
 }

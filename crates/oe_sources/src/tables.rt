@@ -6,6 +6,7 @@ use crate::ledgers::{Ledger, Taken};
 use crate::lines::SoFar;
 use crate::readings::Reading;
 use crate::texts::text_of;
+use oe_columns::Wanted;
 use oe_facts::Table;
 use oe_fields::Format;
 use oe_filelines::{LineTaker, Stop, read_lines};
@@ -36,26 +37,28 @@ impl<L: Ledger> LineTaker for TableLines<L> {
     }
 }
 
-/// Reads a table's file to its end, and hands the fact of each row to the ledger.
+/// Reads a table's file to its end, and hands the fact of each row to the ledger, and its print
+/// where that is wanted.
 ///
 /// The first line is a heading, which names the columns, or a row in the order of a dump. Blank
 /// lines are passed over; `\.` or a count ends the rows. A line that can't be read is a fault, and
-/// no verdict on the ledger may be given where there is one. Where a read fails or there is no
-/// memory, the ledger is lost.
-pub fn read_table<S: Read, L: Ledger + Drop>(
+/// no verdict on the ledger may be given where there is one. The source is used up. Where a read
+/// fails or there is no memory, the ledger is lost too.
+pub fn read_table<S: Read + Drop, L: Ledger + Drop>(
     alloc: Global,
     table: Table,
+    wanted: Wanted,
     format: Format,
-    source: &mut S,
+    source: S,
     ledger: L,
 ) -> Result<Taken<L>, Stop>
-    ensures { IfOk result (TableRead L.holds table format ledger (S.remaining source.old)
-        (S.remaining source.new)) }
+    ensures { IfOk result (TableRead L.holds table wanted format ledger (S.remaining source)) }
 {
+    let mut source = source;
     let mut lines = TableLines {
-        so_far: SoFar::new(alloc, Reading::new(table, format), ledger),
+        so_far: SoFar::new(alloc, Reading::new(table, wanted, format), ledger),
     };
-    match read_lines(alloc, source, &mut lines) {
+    match read_lines(alloc, &mut source, &mut lines) {
         Ok(()) => {
             let TableLines { so_far } = lines;
             let SoFar {

@@ -1,151 +1,120 @@
 -- The options of audits and loads, word by word.
-use Rattle.std.proofs.Common.{◌≡◌, ◌≢◌, ℕ, ◌-◌, ◌<◌, ◌≤◌, false, List, [], ◌∷◌, length, take, drop, map, get_or}
+use Rattle.std.proofs.Common.{◌≡◌, ℕ, ◌-◌, ◌<◌, ◌≤◌, false, List, [], ◌∷◌, length, take, drop, map, get_or}
 use Rattle.std.proofs.Common.{codes, ◌==◌, slice_index}
-use Rattle.std.proofs.Common.{refl, sym, ap, subst, ◌∙◌, inl, inr, ◌⊎◌, arith, Option, None, Some}
-use Rattle.std.specs.Prelude.{MatchOption}
-use Rattle.std.specs.Int.{IsInRange}
-use Rattle.std.specs.Fmt.{decimal}
+use Rattle.std.proofs.Common.{refl, sym, ap, subst, ◌∙◌, inl, inr, arith, Option, None, Some}
+use Rattle.std.specs.Prelude.{MatchOption, Bool, true, ◌||◌, if◌then◌else◌}
 use Rattle.std.proofs.lemmas.Fmt.{decimal_injective}
-use Rattle.std.proofs.lemmas.Bool.{both_ways, eq-eqb}
+use Rattle.std.proofs.lemmas.Bool.{both_ways}
 use Rattle.std.proofs.lemmas.List.{take_all}
-use Rattle.oe_numbers.specs.declared.kinds.Kinds.{Kinds}
-use Rattle.oe_numbers.specs.Kinds.{Names as NamesKinds}
 use Rattle.oe_numbers.proofs.KindFacts.{names_one}
 use Rattle.oe_tasks.specs.declared.options.Options.{Options}
-use Rattle.oe_tasks.specs.Words.{Says, Adds, AddsFlag, AddsFirst, AddsInitial, AddsKinds}
+use Rattle.oe_tasks.specs.declared.options.Flag.{Flag}
+use Rattle.oe_tasks.specs.declared.options.Flag.TheVariants as flag
+use Rattle.oe_tasks.specs.declared.options.Mark.{Mark}
+use Rattle.oe_tasks.specs.declared.options.Mark.TheVariants as mark
+use Rattle.oe_tasks.specs.Words.{Says, Adds, AddsFlag, AddsWord, flag_word, has_flag, with_flag, mark_word}
 
--- two words that differ in the byte of a place
-apart_words : (n : ℕ) (mark x y : List ℕ) → mark ≡ x → mark ≡ y → (slice_index x n == slice_index y n) ≡ false → ⊥
-apart_words n mark x y e f other = both_ways (slice_index x n == slice_index y n) other
-    (eq-eqb (slice_index x n) (slice_index y n) (ap (λ t. slice_index t n) (sym e ∙ f)))
+-- NAMES OF OPTIONS
 
--- ---- an option with a word behind it
+-- the names differ in this byte
+abbrev flag_at : ℕ → Flag
+flag_at n =
+    if n == 118 then flag.Csv
+    else if n == 111 then flag.Json
+    else if n == 97 then flag.Flat
+    else flag.Mix
 
-pub first_adds : (o : Options) (mark word : List ℕ) (r : Option Options) → mark ≡ codes "--first"
-    → MatchOption r ((n : ℕ) → o.first ≡ None → IsInRange 1 4_294_967_295 n → word ≢ decimal n)
-    (λ p. AddsFirst o word p)
-    → MatchOption r ((p : Options) → Adds o mark word p → ⊥) (Adds o mark word)
-first_adds o mark word None e h = λ p a. no p a
-  where
-    no : (p : Options) → Adds o mark word p → ⊥
-    no p (inl a) = let b = a.1 in h b.0 b.3 b.1 b.2
-    no p (inr (inl a)) = apart_words 2 mark (codes "--first") (codes "--initial") e a.0 refl
-    no p (inr (inr a)) = apart_words 2 mark (codes "--first") (codes "--kinds") e a.0 refl
-first_adds o mark word (Some p) e h = inl (e, h)
+flag_found : (f : Flag) → flag_at (slice_index (flag_word f) 4) ≡ f
+flag_found flag.Csv = refl
+flag_found flag.Json = refl
+flag_found flag.Flat = refl
+flag_found flag.Mix = refl
 
-pub initial_adds : (o : Options) (mark word : List ℕ) (r : Option Options) → mark ≡ codes "--initial"
-    → MatchOption r ((n : ℕ) → o.initial ≡ None → IsInRange 0 4_294_967_295 n → word ≢ decimal n)
-    (λ p. AddsInitial o word p)
-    → MatchOption r ((p : Options) → Adds o mark word p → ⊥) (Adds o mark word)
-initial_adds o mark word None e h = λ p a. no p a
-  where
-    no : (p : Options) → Adds o mark word p → ⊥
-    no p (inl a) = apart_words 2 mark (codes "--initial") (codes "--first") e a.0 refl
-    no p (inr (inl a)) = let b = a.1 in h b.0 b.3 b.1 b.2
-    no p (inr (inr a)) = apart_words 2 mark (codes "--initial") (codes "--kinds") e a.0 refl
-initial_adds o mark word (Some p) e h = inr (inl (e, h))
+flag_same : (f g : Flag) → flag_word f ≡ flag_word g → f ≡ g
+flag_same f g e = sym (flag_found f) ∙ ap (λ (w : List ℕ). flag_at (slice_index w 4)) e ∙ flag_found g
 
-pub kinds_add : (o : Options) (mark word : List ℕ) (r : Option Options) → mark ≡ codes "--kinds"
-    → MatchOption r ((k : Kinds) → o.kinds ≡ None → NamesKinds word k → ⊥) (λ p. AddsKinds o word p)
-    → MatchOption r ((p : Options) → Adds o mark word p → ⊥) (Adds o mark word)
-kinds_add o mark word None e h = λ p a. no p a
-  where
-    no : (p : Options) → Adds o mark word p → ⊥
-    no p (inl a) = apart_words 2 mark (codes "--kinds") (codes "--first") e a.0 refl
-    no p (inr (inl a)) = apart_words 2 mark (codes "--kinds") (codes "--initial") e a.0 refl
-    no p (inr (inr a)) = let b = a.1 in h b.0 b.2 b.1
-kinds_add o mark word (Some p) e h = inr (inr (e, h))
+abbrev mark_at : ℕ → Mark
+mark_at n = if n == 114 then mark.First else if n == 105 then mark.Initial else mark.Kinds
 
-pub no_word : (o : Options) (mark word : List ℕ) → mark ≢ codes "--first" → mark ≢ codes "--initial"
-    → mark ≢ codes "--kinds" → (p : Options) → Adds o mark word p → ⊥
-no_word o mark word n m k p (inl a) = n a.0
-no_word o mark word n m k p (inr (inl a)) = m a.0
-no_word o mark word n m k p (inr (inr a)) = k a.0
+mark_found : (m : Mark) → mark_at (slice_index (mark_word m) 4) ≡ m
+mark_found mark.First = refl
+mark_found mark.Initial = refl
+mark_found mark.Kinds = refl
 
-pub no_flag : (o : Options) (mark : List ℕ) → (mark ≡ codes "--csv" → o.is_csv ≡ false → ⊥)
-    → (mark ≡ codes "--json" → o.is_json ≡ false → ⊥) → (mark ≡ codes "--flat" → o.is_flat ≡ false → ⊥)
-    → (p : Options) → AddsFlag o mark p → ⊥
-no_flag o mark n m k p (inl a) = n a.0 a.1
-no_flag o mark n m k p (inr (inl a)) = m a.0 a.1
-no_flag o mark n m k p (inr (inr a)) = k a.0 a.1
+mark_same : (m n : Mark) → mark_word m ≡ mark_word n → m ≡ n
+mark_same m n e = sym (mark_found m) ∙ ap (λ (w : List ℕ). mark_at (slice_index w 4)) e ∙ mark_found n
+
+-- whether the byte is one of a word alone; `--before` has 102 there
+abbrev is_alone : ℕ → Bool
+is_alone n = n == 118 || n == 111 || n == 97 || n == 120
+
+flag_alone : (f : Flag) → is_alone (slice_index (flag_word f) 4) ≡ true
+flag_alone flag.Csv = refl
+flag_alone flag.Json = refl
+flag_alone flag.Flat = refl
+flag_alone flag.Mix = refl
+
+mark_no_flag : (m : Mark) → is_alone (slice_index (mark_word m) 4) ≡ false
+mark_no_flag mark.First = refl
+mark_no_flag mark.Initial = refl
+mark_no_flag mark.Kinds = refl
+
+not_both : (word : List ℕ) (f : Flag) (m : Mark) → word ≡ flag_word f → word ≡ mark_word m → ⊥
+not_both word f m a b =
+    both_ways (is_alone (slice_index (mark_word m) 4)) (mark_no_flag m)
+    (ap (λ (w : List ℕ). is_alone (slice_index w 4)) (sym b ∙ a) ∙ flag_alone f)
 
 -- ---- words say one set of options
 
-first_one : (o : Options) (word : List ℕ) (p q : Options) → AddsFirst o word p → AddsFirst o word q → p ≡ q
-first_one o word p q a b =
+word_one : (m : Mark) (o : Options) (word : List ℕ) (p q : Options) → AddsWord m o word p → AddsWord m o word q → p ≡ q
+word_one mark.First o word p q a b =
     let n : a.0 ≡ b.0 = decimal_injective a.0 b.0 (omega (arith, a.1.1)) (omega (arith, b.1.1)) (sym a.2 ∙ b.2) in
     a.4 ∙ ap (λ n. record o { first = Some n }) n ∙ sym b.4
-
-initial_one : (o : Options) (word : List ℕ) (p q : Options) → AddsInitial o word p → AddsInitial o word q → p ≡ q
-initial_one o word p q a b =
+word_one mark.Initial o word p q a b =
     let n : a.0 ≡ b.0 = decimal_injective a.0 b.0 (omega (arith, a.1.1)) (omega (arith, b.1.1)) (sym a.2 ∙ b.2) in
     a.4 ∙ ap (λ n. record o { initial = Some n }) n ∙ sym b.4
-
-kinds_one : (o : Options) (word : List ℕ) (p q : Options) → AddsKinds o word p → AddsKinds o word q → p ≡ q
-kinds_one o word p q a b =
+word_one mark.Kinds o word p q a b =
     let k : a.0 ≡ b.0 = names_one word a.0 b.0 a.1 b.1 in
     a.3 ∙ ap (λ k. record o { kinds = Some k }) k ∙ sym b.3
 
-word_one : (o : Options) (mark word : List ℕ) (p q : Options) → Adds o mark word p → Adds o mark word q → p ≡ q
-word_one o mark word p q (inl a) (inl b) = first_one o word p q a.1 b.1
-word_one o mark word p q (inl a) (inr (inl b)) =
-    absurd (apart_words 2 mark (codes "--first") (codes "--initial") a.0 b.0 refl)
-word_one o mark word p q (inl a) (inr (inr b)) =
-    absurd (apart_words 2 mark (codes "--first") (codes "--kinds") a.0 b.0 refl)
-word_one o mark word p q (inr (inl a)) (inl b) =
-    absurd (apart_words 2 mark (codes "--initial") (codes "--first") a.0 b.0 refl)
-word_one o mark word p q (inr (inl a)) (inr (inl b)) = initial_one o word p q a.1 b.1
-word_one o mark word p q (inr (inl a)) (inr (inr b)) =
-    absurd (apart_words 2 mark (codes "--initial") (codes "--kinds") a.0 b.0 refl)
-word_one o mark word p q (inr (inr a)) (inl b) =
-    absurd (apart_words 2 mark (codes "--kinds") (codes "--first") a.0 b.0 refl)
-word_one o mark word p q (inr (inr a)) (inr (inl b)) =
-    absurd (apart_words 2 mark (codes "--kinds") (codes "--initial") a.0 b.0 refl)
-word_one o mark word p q (inr (inr a)) (inr (inr b)) = kinds_one o word p q a.1 b.1
+adds_one : (o : Options) (name word : List ℕ) (p q : Options) → Adds o name word p → Adds o name word q → p ≡ q
+adds_one o name word p q a b =
+    let m : b.0 ≡ a.0 = mark_same b.0 a.0 (sym b.1 ∙ a.1) in
+    word_one a.0 o word p q a.2 (subst (λ (n : Mark). AddsWord n o word q) m b.2)
 
-flag_one : (o : Options) (mark : List ℕ) (p q : Options) → AddsFlag o mark p → AddsFlag o mark q → p ≡ q
-flag_one o mark p q (inl a) (inl b) = a.2 ∙ sym b.2
-flag_one o mark p q (inl a) (inr (inl b)) = absurd (apart_words 2 mark (codes "--csv") (codes "--json") a.0 b.0 refl)
-flag_one o mark p q (inl a) (inr (inr b)) = absurd (apart_words 2 mark (codes "--csv") (codes "--flat") a.0 b.0 refl)
-flag_one o mark p q (inr (inl a)) (inl b) = absurd (apart_words 2 mark (codes "--json") (codes "--csv") a.0 b.0 refl)
-flag_one o mark p q (inr (inl a)) (inr (inl b)) = a.2 ∙ sym b.2
-flag_one o mark p q (inr (inl a)) (inr (inr b)) =
-    absurd (apart_words 2 mark (codes "--json") (codes "--flat") a.0 b.0 refl)
-flag_one o mark p q (inr (inr a)) (inl b) = absurd (apart_words 2 mark (codes "--flat") (codes "--csv") a.0 b.0 refl)
-flag_one o mark p q (inr (inr a)) (inr (inl b)) =
-    absurd (apart_words 2 mark (codes "--flat") (codes "--json") a.0 b.0 refl)
-flag_one o mark p q (inr (inr a)) (inr (inr b)) = a.2 ∙ sym b.2
+flag_one : (o : Options) (word : List ℕ) (p q : Options) → AddsFlag o word p → AddsFlag o word q → p ≡ q
+flag_one o word p q a b =
+    a.3 ∙ ap (λ (f : Flag). with_flag f o) (flag_same a.0 b.0 (sym a.1 ∙ b.1)) ∙ sym b.3
 
--- a word alone is no option with a word behind it
-abbrev IsFlag : List ℕ → Type 0
-IsFlag mark = (mark ≡ codes "--csv") ⊎ (mark ≡ codes "--json") ⊎ (mark ≡ codes "--flat")
+apart : (o : Options) (name word : List ℕ) (p q : Options) → AddsFlag o name p → Adds o name word q → ⊥
+apart o name word p q a b = not_both name a.0 b.0 a.1 b.1
 
-is_flag : (o : Options) (mark : List ℕ) (p : Options) → AddsFlag o mark p → IsFlag mark
-is_flag o mark p (inl a) = inl a.0
-is_flag o mark p (inr (inl a)) = inr (inl a.0)
-is_flag o mark p (inr (inr a)) = inr (inr a.0)
+-- a name that is added with its word
+pub word_adds : (m n : Mark) (o : Options) (name word : List ℕ) (r : Option Options) → name ≡ mark_word m → m ≡ n
+    → MatchOption r ((p : Options) → AddsWord n o word p → ⊥) (AddsWord n o word)
+    → MatchOption r ((p : Options) → Adds o name word p → ⊥) (Adds o name word)
+word_adds m n o name word None e i h =
+    λ p a. h p (subst (λ (k : Mark). AddsWord k o word p) (mark_same a.0 m (sym a.1 ∙ e) ∙ i) a.2)
+word_adds m n o name word (Some p) e i h = (m, e, subst (λ (k : Mark). AddsWord k o word p) (sym i) h)
 
-abbrev WantsWord : List ℕ → Type 0
-WantsWord mark = (mark ≡ codes "--first") ⊎ (mark ≡ codes "--initial") ⊎ (mark ≡ codes "--kinds")
+-- a name that is said twice
+pub flag_twice : (f : Flag) (o : Options) (word : List ℕ) → word ≡ flag_word f → has_flag f o ≡ true → (p : Options)
+    → AddsFlag o word p → ⊥
+flag_twice f o word e said p a =
+    let g : a.0 ≡ f = flag_same a.0 f (sym a.1 ∙ e) in
+    both_ways (has_flag a.0 o) a.2 (ap (λ (g : Flag). has_flag g o) g ∙ said)
 
-wants_word : (o : Options) (mark word : List ℕ) (p : Options) → Adds o mark word p → WantsWord mark
-wants_word o mark word p (inl a) = inl a.0
-wants_word o mark word p (inr (inl a)) = inr (inl a.0)
-wants_word o mark word p (inr (inr a)) = inr (inr a.0)
-
-not_both : (mark : List ℕ) → IsFlag mark → WantsWord mark → ⊥
-not_both mark (inl a) (inl b) = apart_words 2 mark (codes "--csv") (codes "--first") a b refl
-not_both mark (inl a) (inr (inl b)) = apart_words 2 mark (codes "--csv") (codes "--initial") a b refl
-not_both mark (inl a) (inr (inr b)) = apart_words 2 mark (codes "--csv") (codes "--kinds") a b refl
-not_both mark (inr (inl a)) (inl b) = apart_words 2 mark (codes "--json") (codes "--first") a b refl
-not_both mark (inr (inl a)) (inr (inl b)) = apart_words 2 mark (codes "--json") (codes "--initial") a b refl
-not_both mark (inr (inl a)) (inr (inr b)) = apart_words 2 mark (codes "--json") (codes "--kinds") a b refl
-not_both mark (inr (inr a)) (inl b) = apart_words 3 mark (codes "--flat") (codes "--first") a b refl
-not_both mark (inr (inr a)) (inr (inl b)) = apart_words 2 mark (codes "--flat") (codes "--initial") a b refl
-not_both mark (inr (inr a)) (inr (inr b)) = apart_words 2 mark (codes "--flat") (codes "--kinds") a b refl
-
-apart : (o : Options) (mark word : List ℕ) (p q : Options) → AddsFlag o mark p → Adds o mark word q → ⊥
-apart o mark word p q a b = not_both mark (is_flag o mark p a) (wants_word o mark word q b)
+-- no option is `--before`
+pub no_before : (o p : Options) (word : List ℕ) (rest : List (List ℕ)) → Says o (codes "--before" ∷ word ∷ rest) p → ⊥
+no_before o p word rest (inl (q, a, s)) =
+    both_ways (is_alone (slice_index (codes "--before") 4)) refl
+    (ap (λ (w : List ℕ). is_alone (slice_index w 4)) a.1 ∙ flag_alone a.0)
+no_before o p word rest (inr (q, a, s)) = no_mark a.0 a.1
+  where
+    no_mark : (m : Mark) → codes "--before" ≡ mark_word m → ⊥
+    no_mark mark.First e = cc
+    no_mark mark.Initial e = cc
+    no_mark mark.Kinds e = cc
 
 pub says_one : (o : Options) (ws : List (List ℕ)) (p q : Options) → Says o ws p → Says o ws q → p ≡ q
 says_one o [] p q a b = a ∙ sym b
@@ -155,7 +124,7 @@ says_one o (mark ∷ word ∷ rest) p q (inl (x, a, s)) (inl (y, b, t)) = says_o
 says_one o (mark ∷ word ∷ rest) p q (inl (x, a, s)) (inr (y, b, t)) = absurd (apart o mark word x y a b)
 says_one o (mark ∷ word ∷ rest) p q (inr (x, a, s)) (inl (y, b, t)) = absurd (apart o mark word y x b a)
 says_one o (mark ∷ word ∷ rest) p q (inr (x, a, s)) (inr (y, b, t)) = says_one x rest p q s
-    (subst (λ z. Says z rest q) (word_one o mark word y x b a) t)
+    (subst (λ z. Says z rest q) (adds_one o mark word y x b a) t)
 
 -- ---- words behind words
 
@@ -214,7 +183,7 @@ module _ {X : Type 0} (f : X → List ℕ) (o next : Options) where
     where
       no : (p : Options) → Says o (f x ∷ f y ∷ map f r) p → ⊥
       no p (inl s) = apart o (f x) (f y) s.0 next s.1 a
-      no p (inr s) = h p (subst (λ q. Says q (map f r) p) (word_one o (f x) (f y) s.0 next s.1 a) s.2)
+      no p (inr s) = h p (subst (λ q. Says q (map f r) p) (adds_one o (f x) (f y) s.0 next s.1 a) s.2)
   word_behind x y r (Some p) a h = inr (next, a, h)
 
   pub word_first : (ws : List X) (d c : X) (again word : List ℕ) (answer : Option Options) → 2 ≤ length ws

@@ -12,20 +12,26 @@ use Rattle.std.specs.Int.{IsInRange}
 use Rattle.std.specs.Prelude.{MatchOption}
 use Rattle.oe_rows.specs.declared.layouts.Layout.{Layout}
 use Rattle.oe_rows.specs.declared.layouts.Layout.TheVariants.{WholeRows, ChangedColumns}
-use Rattle.oe_numbers.specs.declared.kinds.Kinds.{Kinds}
 use Rattle.oe_tasks.specs.Words.{AsksScript, AsksExplain, AsksSerial, AsksDrive, AsksAudit, Names, NamesFile}
-use Rattle.oe_tasks.specs.Words.{IsPlain, Says, no_options, AsksLoad, AreForAudit, AreForLoad, csv_words}
+use Rattle.oe_tasks.specs.Words.{IsPlain, Says, no_options, AsksLoad, AsksFollowing, AreForAudit, AreForLoad, csv_words}
+use Rattle.oe_tasks.specs.Words.{AreAudited, AreBehindSource, AreLoaded, AreNumbered}
+use Rattle.oe_tasks.specs.declared.BehindSource.{BehindSource}
+use Rattle.oe_tasks.specs.declared.Numbered.{Numbered}
+use Rattle.oe_tasks.specs.declared.options.LoadOptions.{LoadOptions}
 use Rattle.oe_tasks.specs.Words.{directory_words}
 use Rattle.oe_tasks.specs.Words.{IsDirectory, AreTablesOptions, AreSerialOptions, layout_word, AsksFile, AsksLayout}
 use Rattle.oe_tasks.specs.Words.{AsksExtents, AsksOpened}
 use Rattle.oe_tasks.specs.declared.SerialOptions.{SerialOptions}
 use Rattle.oe_tasks.specs.declared.options.AuditOptions.{AuditOptions}
 use Rattle.oe_tasks.specs.declared.options.Options.{Options}
+use Rattle.oe_tasks.specs.declared.options.Separator.{Separator}
+use Rattle.oe_tasks.specs.declared.options.Separator.TheVariants as separator
 use Rattle.oe_tasks.specs.declared.Task.{Task}
 use Rattle.oe_numbers.specs.declared.drives.DriveNumbers.{DriveNumbers}
 use Rattle.oe_numbers.specs.declared.drives.LoadNumbers.{LoadNumbers}
-use Rattle.oe_numbers.specs.Words.{AreInRange, words_of, AreOfLoad, load_words_of}
-use Rattle.oe_tasks.proofs.OptionFacts.{says_one}
+use Rattle.oe_numbers.specs.declared.drives.FollowingNumbers.{FollowingNumbers}
+use Rattle.oe_numbers.specs.Words.{AreInRange, words_of, AreOfLoad, load_words_of, AreFollowing, following_words_of}
+use Rattle.oe_tasks.proofs.OptionFacts.{says_one, no_before}
 use Rattle.oe_tasks.specs.declared.Task.TheVariants as task
 
 pub plain : (word : List ℕ) → (slice_index word 0 == 45) ≡ false → IsPlain word
@@ -71,11 +77,12 @@ no_script f (x ∷ y ∷ []) h n task.Script a = h refl
 no_script f (x ∷ y ∷ z ∷ r) h n task.Script a = cc
 no_script f (x ∷ y ∷ r) h n (task.File name) a = n name.now a.1
 no_script f (x ∷ y ∷ r) h n (task.Explain name) a = a
-no_script f (x ∷ y ∷ r) h n (task.Serial name from tables csv) a = a
+no_script f (x ∷ y ∷ r) h n (task.Serial name from tables between) a = a
 no_script f (x ∷ y ∷ r) h n (task.Drive d) a = a
 no_script f (x ∷ y ∷ r) h n (task.Opened d e l file) a = a
-no_script f (x ∷ y ∷ r) h n (task.Audit name options) a = a
-no_script f (x ∷ y ∷ r) h n (task.Load d first kinds flat) a = a
+no_script f (x ∷ y ∷ r) h n (task.Audit name before options) a = a
+no_script f (x ∷ y ∷ r) h n (task.Load d load) a = a
+no_script f (x ∷ y ∷ r) h n (task.Following directory d load) a = a
 
 -- the mark behind the verb, and a file's name behind it or none
 pub explains : {X : Type 0} (f : X → List ℕ) (ws : List X) (b d : X) → length ws ≡ 3 → b ≡ get_or ws 1 b
@@ -117,11 +124,12 @@ no_explain {X = X} f (x ∷ y ∷ z ∷ r) h n (task.Explain (Some name)) a =
     (sym (from_verb (x ∷ y ∷ z ∷ r) (omega arith))) a.2)
 no_explain f (x ∷ y ∷ z ∷ r) h n task.Script a = a
 no_explain f (x ∷ y ∷ z ∷ r) h n (task.File name) a = a
-no_explain f (x ∷ y ∷ z ∷ r) h n (task.Serial name from tables csv) a = a
+no_explain f (x ∷ y ∷ z ∷ r) h n (task.Serial name from tables between) a = a
 no_explain f (x ∷ y ∷ z ∷ r) h n (task.Drive d) a = a
 no_explain f (x ∷ y ∷ z ∷ r) h n (task.Opened d e l file) a = a
-no_explain f (x ∷ y ∷ z ∷ r) h n (task.Audit name options) a = a
-no_explain f (x ∷ y ∷ z ∷ r) h n (task.Load d first kinds flat) a = a
+no_explain f (x ∷ y ∷ z ∷ r) h n (task.Audit name before options) a = a
+no_explain f (x ∷ y ∷ z ∷ r) h n (task.Load d load) a = a
+no_explain f (x ∷ y ∷ z ∷ r) h n (task.Following directory d load) a = a
 
 pub drives : {X : Type 0} (f : X → List ℕ) (ws : List X) (b : X) (d : DriveNumbers) → 2 ≤ length ws → b ≡ get_or ws 1 b
     → f b ≡ codes "drive" → AreInRange d
@@ -132,26 +140,33 @@ drives f (x ∷ y ∷ r) b d h i e ranges words =
     let whole : take (length (x ∷ y ∷ r) - 2) r ≡ r = take_all (length (x ∷ y ∷ r) - 2) r (omega arith) in
     (ap f (sym i) ∙ e, ranges, ap (map f) (sym whole) ∙ words)
 
-pub audits : {X : Type 0} (f : X → List ℕ) (ws : List X) (b d : X) (name : Bor (List ℕ)) (o : Options)
-    (options : AuditOptions) → 3 ≤ length ws → b ≡ get_or ws 1 b → f b ≡ codes "audit" → d ≡ get_or ws 2 d
+-- what stands behind the first word
+second : (a b : List ℕ) (x y : List (List ℕ)) {m n : List ℕ} → m ∷ a ∷ x ≡ n ∷ b ∷ y → a ≡ b
+second a b x y e = cc
+
+third : (a b : List ℕ) (x y : List (List ℕ)) {m n : List ℕ} → m ∷ a ∷ x ≡ n ∷ b ∷ y → x ≡ y
+third a b x y e = cc
+
+pub audits : {X : Type 0} (f : X → List ℕ) (ws : List X) (b d : X) (name : Bor (List ℕ))
+    (before : Option (Bor (List ℕ))) (options : AuditOptions)
+    → 3 ≤ length ws → b ≡ get_or ws 1 b → f b ≡ codes "audit" → d ≡ get_or ws 2 d
     → name.now ≡ f d → (IsPlain name.now ⊎ (name.now ≡ codes "-"))
-    → Says no_options (map f (take (length ws - 3) (drop 3 ws))) o → AreForAudit o options
-    → AsksAudit (map f ws) (task.Audit name options)
-audits f [] b d name o options h i e j n p said own = absurd (omega (arith, h))
-audits f (x ∷ []) b d name o options h i e j n p said own = absurd (omega (arith, h))
-audits f (x ∷ y ∷ []) b d name o options h i e j n p said own = absurd (omega (arith, h))
-audits {X = X} f (x ∷ y ∷ z ∷ r) b d name o options h i e j n p said own =
+    → AreBehindSource (map f (take (length ws - 3) (drop 3 ws))) before options
+    → AsksAudit (map f ws) (task.Audit name before options)
+audits f [] b d name before options h i e j n p said = absurd (omega (arith, h))
+audits f (x ∷ []) b d name before options h i e j n p said = absurd (omega (arith, h))
+audits f (x ∷ y ∷ []) b d name before options h i e j n p said = absurd (omega (arith, h))
+audits {X = X} f (x ∷ y ∷ z ∷ r) b d name before options h i e j n p said =
     let whole : take (length (x ∷ y ∷ z ∷ r) - 3) r ≡ r = take_all (length (x ∷ y ∷ z ∷ r) - 3) r (omega arith) in
     let named : name.now ≡ f z = n ∙ ap f j in (
       ap f (sym i) ∙ e,
       sym named,
       subst (λ word. IsPlain word ⊎ (word ≡ codes "-")) named p,
-      (o, subst (λ (ts : List X). Says no_options (map f ts) o) whole said, own),
+      subst (λ (ts : List X). AreBehindSource (map f ts) before options) whole said,
     )
 
 pub no_audit : {X : Type 0} (f : X → List ℕ) (ws : List X)
-    → ((o : Options) (a : AuditOptions) → Says no_options (map f (take (length ws - 3) (drop 3 ws))) o
-    → AreForAudit o a → ⊥)
+    → ((b : BehindSource) → AreBehindSource (map f (take (length ws - 3) (drop 3 ws))) b.before b.options → ⊥)
     → (t : Task) → AsksAudit (map f ws) t → ⊥
 no_audit f [] n t a = a
 no_audit f (x ∷ []) n t a = a
@@ -159,22 +174,64 @@ no_audit f (x ∷ y ∷ []) n t a = a
 no_audit f (x ∷ y ∷ z ∷ r) n task.Script a = a
 no_audit f (x ∷ y ∷ z ∷ r) n (task.File name) a = a
 no_audit f (x ∷ y ∷ z ∷ r) n (task.Explain name) a = a
-no_audit f (x ∷ y ∷ z ∷ r) n (task.Serial name from tables csv) a = a
+no_audit f (x ∷ y ∷ z ∷ r) n (task.Serial name from tables between) a = a
 no_audit f (x ∷ y ∷ z ∷ r) n (task.Drive d) a = a
 no_audit f (x ∷ y ∷ z ∷ r) n (task.Opened d e l file) a = a
-no_audit {X = X} f (x ∷ y ∷ z ∷ r) n (task.Audit name options) (verb, named, source, (o, said, own)) =
+no_audit {X = X} f (x ∷ y ∷ z ∷ r) n (task.Audit name before options) (verb, named, source, said) =
     let whole : take (length (x ∷ y ∷ z ∷ r) - 3) r ≡ r = take_all (length (x ∷ y ∷ z ∷ r) - 3) r (omega arith) in
-    n o options (subst (λ (ts : List X). Says no_options (map f ts) o) (sym whole) said) own
-no_audit f (x ∷ y ∷ z ∷ r) n (task.Load d first kinds flat) a = a
+    n (record { before = before; options = options })
+    (subst (λ (ts : List X). AreBehindSource (map f ts) before options) (sym whole) said)
+no_audit f (x ∷ y ∷ z ∷ r) n (task.Load d load) a = a
+no_audit f (x ∷ y ∷ z ∷ r) n (task.Following directory d load) a = a
 
 -- what the words say is one set of options, and these are no audit's
-pub no_audit_options : (words : List (List ℕ)) (o : Options) → Says no_options words o
-    → ((a : AuditOptions) → AreForAudit o a → ⊥) → (p : Options) (a : AuditOptions) → Says no_options words p
-    → AreForAudit p a → ⊥
-no_audit_options words o said none p a other own =
+no_audit_options : (words : List (List ℕ)) (o : Options) → Says no_options words o
+    → ((a : AuditOptions) → AreForAudit o a → ⊥) → (a : AuditOptions) → AreAudited words a → ⊥
+no_audit_options words o said none a (p, other, own) =
     none a (subst (λ (q : Options). AreForAudit q a) (says_one no_options words p o other said) own)
 
+pub audited_of : (words : List (List ℕ)) (o : Options) (r : Option AuditOptions) → Says no_options words o
+    → MatchOption r ((a : AuditOptions) → AreForAudit o a → ⊥) (AreForAudit o)
+    → MatchOption r ((a : AuditOptions) → AreAudited words a → ⊥) (AreAudited words)
+audited_of words o None said m = no_audit_options words o said m
+audited_of words o (Some a) said m = (o, said, m)
+
+-- the words behind a source, where the first is the mark
+pub before_named : (ws rest : List (List ℕ)) (d : Bor (List ℕ)) → IsPlain d.now
+    → ws ≡ codes "--before" ∷ d.now ∷ rest → ((a : AuditOptions) → AreAudited rest a → ⊥) → (b : BehindSource)
+    → AreBehindSource ws b.before b.options → ⊥
+before_named ws rest d plain is none b h = by b.before h
+  where
+    by : (before : Option (Bor (List ℕ))) → AreBehindSource ws before b.options → ⊥
+    by None (options, own, e, (o, said, a)) =
+        no_before no_options o d.now rest (subst (λ (ts : List (List ℕ)). Says no_options ts o) (sym e ∙ is) said)
+    by (Some c) (options, own, e, a) =
+        none b.options (subst (λ (ts : List (List ℕ)). AreAudited ts b.options) (third _ _ _ _ (sym e ∙ is)) a)
+
+-- and where it is not
+pub no_before_named : (ws : List (List ℕ))
+    → ((d : List ℕ) (rest : List (List ℕ)) → IsPlain d → ws ≡ codes "--before" ∷ d ∷ rest → ⊥)
+    → ((a : AuditOptions) → AreAudited ws a → ⊥) → (b : BehindSource) → AreBehindSource ws b.before b.options → ⊥
+no_before_named ws other none b h = by b.before h
+  where
+    by : (before : Option (Bor (List ℕ))) → AreBehindSource ws before b.options → ⊥
+    by None (options, own, e, a) =
+        none b.options (subst (λ (ts : List (List ℕ)). AreAudited ts b.options) (sym e) a)
+    by (Some c) (options, own, e, a) = other c.now options own e
+
 -- LOADS
+
+-- what the words say is one set of options, and these are no load's
+no_load_options : (words : List (List ℕ)) (requests : ℕ) (o : Options) → Says no_options words o
+    → ((l : LoadOptions) → AreForLoad o requests l → ⊥) → (l : LoadOptions) → AreLoaded words requests l → ⊥
+no_load_options words requests o said none l (p, other, own) =
+    none l (subst (λ (q : Options). AreForLoad q requests l) (says_one no_options words p o other said) own)
+
+pub loaded_of : (words : List (List ℕ)) (requests : ℕ) (o : Options) (r : Option LoadOptions) → Says no_options words o
+    → MatchOption r ((l : LoadOptions) → AreForLoad o requests l → ⊥) (AreForLoad o requests)
+    → MatchOption r ((l : LoadOptions) → AreLoaded words requests l → ⊥) (AreLoaded words requests)
+loaded_of words requests o None said m = no_load_options words requests o said m
+loaded_of words requests o (Some l) said m = (o, said, m)
 
 -- the seven numbers, and what stands behind them
 seven : {X : Type 0} (f : X → List ℕ) (r : List X) (a b c d e g h : List ℕ) (options : List (List ℕ))
@@ -189,14 +246,13 @@ seven f (x1 ∷ x2 ∷ x3 ∷ x4 ∷ x5 ∷ []) a b c d e g h options is = cc
 seven f (x1 ∷ x2 ∷ x3 ∷ x4 ∷ x5 ∷ x6 ∷ []) a b c d e g h options is = cc
 seven f (x1 ∷ x2 ∷ x3 ∷ x4 ∷ x5 ∷ x6 ∷ x7 ∷ r) a b c d e g h options is = (cc, cc, omega arith)
 
-pub load_parts : {X : Type 0} (f : X → List ℕ) (ws : List X) (d : LoadNumbers) (first : ℕ) (kinds : Kinds) (flat : Bool)
-    → AsksLoad (map f ws) (task.Load d first kinds flat)
+pub load_parts : {X : Type 0} (f : X → List ℕ) (ws : List X) (d : LoadNumbers) (load : LoadOptions)
+    → AsksLoad (map f ws) (task.Load d load)
     → (9 ≤ length ws) × AreOfLoad d × (map f (take 7 (drop 2 ws)) ≡ load_words_of d)
-    × ((o : Options) × Says no_options (map f (take (length ws - 9) (drop 9 ws))) o
-    × AreForLoad o d.requests first kinds flat)
-load_parts f [] d first kinds flat a = absurd a
-load_parts f (x ∷ []) d first kinds flat a = absurd a
-load_parts f (x ∷ y ∷ r) d first kinds flat (verb, ranges, (options, is, (o, said, own))) =
+    × AreLoaded (map f (take (length ws - 9) (drop 9 ws))) d.requests load
+load_parts f [] d load a = absurd a
+load_parts f (x ∷ []) d load a = absurd a
+load_parts f (x ∷ y ∷ r) d load (verb, ranges, (options, is, said)) =
     let parts = seven f r (decimal d.scale.warehouses) (decimal d.scale.customers) (decimal d.scale.items)
     (decimal d.extents) (decimal d.terminals) (decimal d.requests) (decimal d.seed) options is in
     let long : length (drop 7 r) ≡ length r - 7 = length-drop 7 r in
@@ -205,18 +261,17 @@ load_parts f (x ∷ y ∷ r) d first kinds flat (verb, ranges, (options, is, (o,
       omega (arith, parts.2),
       ranges,
       parts.0,
-      (o, subst (λ (ts : List (List ℕ)). Says no_options ts o) (sym (ap (map f) whole ∙ parts.1)) said, own),
+      subst (λ (ts : List (List ℕ)). AreLoaded ts d.requests load) (sym (ap (map f) whole ∙ parts.1)) said,
     )
 
-pub loads : {X : Type 0} (f : X → List ℕ) (ws : List X) (b : X) (d : LoadNumbers) (first : ℕ) (kinds : Kinds)
-    (flat : Bool) (o : Options)
+pub loads : {X : Type 0} (f : X → List ℕ) (ws : List X) (b : X) (d : LoadNumbers) (load : LoadOptions)
     → 9 ≤ length ws → b ≡ get_or ws 1 b → f b ≡ codes "load" → AreOfLoad d
     → map f (take 7 (drop 2 ws)) ≡ load_words_of d
-    → Says no_options (map f (take (length ws - 9) (drop 9 ws))) o → AreForLoad o d.requests first kinds flat
-    → AsksLoad (map f ws) (task.Load d first kinds flat)
-loads f [] b d first kinds flat o h i e ranges words said own = absurd (omega (arith, h))
-loads f (x ∷ []) b d first kinds flat o h i e ranges words said own = absurd (omega (arith, h))
-loads {X = X} f (x ∷ y ∷ r) b d first kinds flat o h i e ranges words said own =
+    → AreLoaded (map f (take (length ws - 9) (drop 9 ws))) d.requests load
+    → AsksLoad (map f ws) (task.Load d load)
+loads f [] b d load h i e ranges words said = absurd (omega (arith, h))
+loads f (x ∷ []) b d load h i e ranges words said = absurd (omega (arith, h))
+loads {X = X} f (x ∷ y ∷ r) b d load h i e ranges words said =
     let long : length (drop 7 r) ≡ length r - 7 = length-drop 7 r in
     let whole : take (length (x ∷ y ∷ r) - 9) (drop 7 r) ≡ drop 7 r =
     take_all (length (x ∷ y ∷ r) - 9) (drop 7 r) (omega (arith, long)) in (
@@ -226,7 +281,7 @@ loads {X = X} f (x ∷ y ∷ r) b d first kinds flat o h i e ranges words said o
         map f (drop 7 r),
         ap (map f) (sym (take-append-drop 7 r))
             ∙ (map-append f (take 7 r) (drop 7 r) ∙ ap (λ z. z ++ map f (drop 7 r)) words),
-        (o, subst (λ (ts : List X). Says no_options (map f ts) o) whole said, own),
+        subst (λ (ts : List X). AreLoaded (map f ts) d.requests load) whole said,
       ),
     )
 
@@ -236,44 +291,119 @@ one_load d e a b same =
     let word : decimal d.requests ≡ decimal e.requests = cc in
     decimal_injective d.requests e.requests (omega (arith, a.5.1)) (omega (arith, b.5.1)) word
 
-pub no_load : {X : Type 0} (f : X → List ℕ) (ws : List X) (e : LoadNumbers) (o : Options)
+pub no_load : {X : Type 0} (f : X → List ℕ) (ws : List X) (e : LoadNumbers)
     → AreOfLoad e → map f (take 7 (drop 2 ws)) ≡ load_words_of e
-    → Says no_options (map f (take (length ws - 9) (drop 9 ws))) o
-    → ((first : ℕ) (kinds : Kinds) (flat : Bool) → AreForLoad o e.requests first kinds flat → ⊥)
+    → ((l : LoadOptions) → AreLoaded (map f (take (length ws - 9) (drop 9 ws))) e.requests l → ⊥)
     → (t : Task) → AsksLoad (map f ws) t → ⊥
-no_load f [] e o ranges words said n t a = a
-no_load f (x ∷ []) e o ranges words said n t a = a
-no_load f (x ∷ y ∷ r) e o ranges words said n task.Script a = a
-no_load f (x ∷ y ∷ r) e o ranges words said n (task.File name) a = a
-no_load f (x ∷ y ∷ r) e o ranges words said n (task.Explain name) a = a
-no_load f (x ∷ y ∷ r) e o ranges words said n (task.Serial name from tables csv) a = a
-no_load f (x ∷ y ∷ r) e o ranges words said n (task.Drive d) a = a
-no_load f (x ∷ y ∷ r) e o ranges words said n (task.Opened d g l file) a = a
-no_load f (x ∷ y ∷ r) e o ranges words said n (task.Audit name options) a = a
-no_load f (x ∷ y ∷ r) e o ranges words said n (task.Load d first kinds flat) a =
-    let h = load_parts f (x ∷ y ∷ r) d first kinds flat a in
-    let own = h.3.2 in
-    n first kinds flat
-    (subst (λ (q : Options). AreForLoad q e.requests first kinds flat)
-    (says_one no_options (map f (take (length (x ∷ y ∷ r) - 9) (drop 9 (x ∷ y ∷ r)))) h.3.0 o h.3.1 said)
-    (subst (λ (k : ℕ). AreForLoad h.3.0 k first kinds flat)
-    (one_load d e h.1 ranges (sym h.2 ∙ words)) own))
+no_load f [] e ranges words n t a = a
+no_load f (x ∷ []) e ranges words n t a = a
+no_load f (x ∷ y ∷ r) e ranges words n task.Script a = a
+no_load f (x ∷ y ∷ r) e ranges words n (task.File name) a = a
+no_load f (x ∷ y ∷ r) e ranges words n (task.Explain name) a = a
+no_load f (x ∷ y ∷ r) e ranges words n (task.Serial name from tables between) a = a
+no_load f (x ∷ y ∷ r) e ranges words n (task.Drive d) a = a
+no_load f (x ∷ y ∷ r) e ranges words n (task.Opened d g l file) a = a
+no_load f (x ∷ y ∷ r) e ranges words n (task.Audit name before options) a = a
+no_load f (x ∷ y ∷ r) e ranges words n (task.Following directory d load) a = a
+no_load f (x ∷ y ∷ r) e ranges words n (task.Load d load) a =
+    let h = load_parts f (x ∷ y ∷ r) d load a in
+    n load
+    (subst (λ (k : ℕ). AreLoaded (map f (take (length (x ∷ y ∷ r) - 9) (drop 9 (x ∷ y ∷ r)))) k load)
+    (one_load d e h.1 ranges (sym h.2 ∙ words)) h.3)
 
--- and no options of any load
-pub no_load_options : {X : Type 0} (f : X → List ℕ) (ws : List X)
-    → ((o : Options) → Says no_options (map f (take (length ws - 9) (drop 9 ws))) o → ⊥)
-    → (t : Task) → AsksLoad (map f ws) t → ⊥
-no_load_options f [] n t a = a
-no_load_options f (x ∷ []) n t a = a
-no_load_options f (x ∷ y ∷ r) n task.Script a = a
-no_load_options f (x ∷ y ∷ r) n (task.File name) a = a
-no_load_options f (x ∷ y ∷ r) n (task.Explain name) a = a
-no_load_options f (x ∷ y ∷ r) n (task.Serial name from tables csv) a = a
-no_load_options f (x ∷ y ∷ r) n (task.Drive d) a = a
-no_load_options f (x ∷ y ∷ r) n (task.Opened d g l file) a = a
-no_load_options f (x ∷ y ∷ r) n (task.Audit name options) a = a
-no_load_options f (x ∷ y ∷ r) n (task.Load d first kinds flat) a =
-    let h = load_parts f (x ∷ y ∷ r) d first kinds flat a in n h.3.0 h.3.1
+-- LOADS ON TABLES THAT ARE THERE
+
+-- the four numbers, and what stands behind them
+four : {X : Type 0} (f : X → List ℕ) (r : List X) (a b c d : List ℕ) (options : List (List ℕ))
+    → map f r ≡ a ∷ b ∷ c ∷ d ∷ options
+    → (map f (take 4 r) ≡ a ∷ b ∷ c ∷ d ∷ []) × (map f (drop 4 r) ≡ options) × (4 ≤ length r)
+four f [] a b c d options is = cc
+four f (x1 ∷ []) a b c d options is = cc
+four f (x1 ∷ x2 ∷ []) a b c d options is = cc
+four f (x1 ∷ x2 ∷ x3 ∷ []) a b c d options is = cc
+four f (x1 ∷ x2 ∷ x3 ∷ x4 ∷ r) a b c d options is = (cc, cc, omega arith)
+
+behind_four : {X : Type 0} (r : List X) → take (length r - 4) (drop 4 r) ≡ drop 4 r
+behind_four r = let long : length (drop 4 r) ≡ length r - 4 = length-drop 4 r in
+    take_all (length r - 4) (drop 4 r) (omega (arith, long))
+
+module _ {X : Type 0} (f : X → List ℕ) (ws : List X) where
+  pub numbered_parts : (n : Numbered) → AreNumbered (map f ws) n
+      → (4 ≤ length ws) × (map f (take 4 ws) ≡ following_words_of n.numbers)
+      × AreLoaded (map f (take (length ws - 4) (drop 4 ws))) n.numbers.requests n.options
+  numbered_parts n (ranges, (options, is, said)) =
+      let d = n.numbers in
+      let parts =
+      four f ws (decimal d.extents) (decimal d.terminals) (decimal d.requests) (decimal d.seed) options is in (
+        parts.2,
+        parts.0,
+        subst (λ (ts : List (List ℕ)). AreLoaded ts d.requests n.options)
+            (sym (ap (map f) (behind_four ws) ∙ parts.1)) said,
+      )
+
+  pub numbered : (d : FollowingNumbers) (load : LoadOptions) → AreFollowing d
+      → map f (take 4 ws) ≡ following_words_of d
+      → AreLoaded (map f (take (length ws - 4) (drop 4 ws))) d.requests load
+      → AreNumbered (map f ws) (record { numbers = d; options = load })
+  numbered d load ranges words said = (
+    ranges,
+    (
+      map f (drop 4 ws),
+      ap (map f) (sym (take-append-drop 4 ws))
+          ∙ (map-append f (take 4 ws) (drop 4 ws) ∙ ap (λ z. z ++ map f (drop 4 ws)) words),
+      subst (λ (ts : List X). AreLoaded (map f ts) d.requests load) (behind_four ws) said,
+    ),
+  )
+
+  -- the four numbers are one load's
+  one_following : (d e : FollowingNumbers) → AreFollowing d → AreFollowing e
+      → following_words_of d ≡ following_words_of e → d.requests ≡ e.requests
+  one_following d e a b same =
+      let word : decimal d.requests ≡ decimal e.requests = cc in
+      decimal_injective d.requests e.requests (omega (arith, a.2.1)) (omega (arith, b.2.1)) word
+
+  pub no_numbered : (e : FollowingNumbers) → AreFollowing e → map f (take 4 ws) ≡ following_words_of e
+      → ((l : LoadOptions) → AreLoaded (map f (take (length ws - 4) (drop 4 ws))) e.requests l → ⊥)
+      → (n : Numbered) → AreNumbered (map f ws) n → ⊥
+  no_numbered e ranges words none n a =
+      let h = numbered_parts n a in
+      none n.options
+      (subst (λ (k : ℕ). AreLoaded (map f (take (length ws - 4) (drop 4 ws))) k n.options)
+      (one_following n.numbers e a.0 ranges (sym h.1 ∙ words)) h.2)
+
+pub follows_on : {X : Type 0} (f : X → List ℕ) (ws : List X) (b : X) (directory : Bor (List ℕ)) (rest : List (List ℕ))
+    (n : Numbered) → 2 ≤ length ws → b ≡ get_or ws 1 b → f b ≡ codes "load" → IsPlain directory.now
+    → map f (take (length ws - 2) (drop 2 ws)) ≡ codes "--from" ∷ directory.now ∷ rest → AreNumbered rest n
+    → AsksFollowing (map f ws) (task.Following directory n.numbers n.options)
+follows_on f [] b directory rest n h i e plain is m = absurd (omega (arith, h))
+follows_on f (x ∷ []) b directory rest n h i e plain is m = absurd (omega (arith, h))
+follows_on f (x ∷ y ∷ ws) b directory rest n h i e plain is m =
+    (ap f (sym i) ∙ e, plain, (rest, ap (map f) (sym (behind_verb (x ∷ y ∷ ws) h)) ∙ is, m))
+
+-- the words behind the verb begin otherwise, or no numbers of a load stand behind the directory
+pub no_following : {X : Type 0} (f : X → List ℕ) (ws : List X)
+    → ((directory : List ℕ) (rest : List (List ℕ)) (n : Numbered) → IsPlain directory
+    → map f (take (length ws - 2) (drop 2 ws)) ≡ codes "--from" ∷ directory ∷ rest → AreNumbered rest n → ⊥)
+    → (t : Task) → AsksFollowing (map f ws) t → ⊥
+no_following f [] none t a = a
+no_following f (x ∷ []) none t a = a
+no_following f (x ∷ y ∷ r) none task.Script a = a
+no_following f (x ∷ y ∷ r) none (task.File name) a = a
+no_following f (x ∷ y ∷ r) none (task.Explain name) a = a
+no_following f (x ∷ y ∷ r) none (task.Serial name from tables between) a = a
+no_following f (x ∷ y ∷ r) none (task.Drive d) a = a
+no_following f (x ∷ y ∷ r) none (task.Opened d g l file) a = a
+no_following f (x ∷ y ∷ r) none (task.Audit name before options) a = a
+no_following f (x ∷ y ∷ r) none (task.Load d load) a = a
+no_following f (x ∷ y ∷ r) none (task.Following directory d load) (verb, plain, (numbers, is, a)) =
+    none directory.now numbers (record { numbers = d; options = load }) plain
+    (ap (map f) (behind_verb (x ∷ y ∷ r) (omega arith)) ∙ is) a
+
+pub other_numbers : (ws rest : List (List ℕ)) (d : List ℕ) → ws ≡ codes "--from" ∷ d ∷ rest
+    → ((n : Numbered) → AreNumbered rest n → ⊥) → (directory : List ℕ) (more : List (List ℕ)) (n : Numbered)
+    → IsPlain directory → ws ≡ codes "--from" ∷ directory ∷ more → AreNumbered more n → ⊥
+other_numbers ws rest d is none directory more n plain e a =
+    none n (subst (λ (ts : List (List ℕ)). AreNumbered ts n) (third _ _ _ _ (sym e ∙ is)) a)
 
 pub single : {X : Type 0} (f : X → List ℕ) (ws : List X) (b : X) → length ws ≡ 1 → b ≡ get_or ws 0 b
     → map f ws ≡ f b ∷ []
@@ -329,12 +459,6 @@ not_none f [] some e = some refl
 not_none f (x ∷ r) some e = cc
 
 -- words that begin with a mark name no file
-second : (a b : List ℕ) (x y : List (List ℕ)) {m n : List ℕ} → m ∷ a ∷ x ≡ n ∷ b ∷ y → a ≡ b
-second a b x y e = cc
-
-third : (a b : List ℕ) (x y : List (List ℕ)) {m n : List ℕ} → m ∷ a ∷ x ≡ n ∷ b ∷ y → x ≡ y
-third a b x y e = cc
-
 module _ (d : List ℕ) (n : ℕ) where
   not_file : (l : Layout) (mark w : List ℕ) (ws : List (List ℕ)) → (codes "--" ≡ mark → ⊥) → (t : Task)
       → AsksFile d n l (mark ∷ w ∷ ws) t → ⊥
@@ -347,10 +471,11 @@ module _ (d : List ℕ) (n : ℕ) where
   not_file l mark w ws other task.Script a = a
   not_file l mark w ws other (task.File name) a = a
   not_file l mark w ws other (task.Explain name) a = a
-  not_file l mark w ws other (task.Serial name from tables csv) a = a
+  not_file l mark w ws other (task.Serial name from tables between) a = a
   not_file l mark w ws other (task.Drive e) a = a
-  not_file l mark w ws other (task.Audit name options) a = a
-  not_file l mark w ws other (task.Load e first kinds flat) a = a
+  not_file l mark w ws other (task.Audit name before options) a = a
+  not_file l mark w ws other (task.Load e load) a = a
+  not_file l mark w ws other (task.Following directory e load) a = a
 
   -- words that are some, and name no file
   pub no_file : (l : Layout) (ws : List (List ℕ)) → (ws ≡ [] → ⊥) → ((file : List ℕ) → Names ws file → ⊥)
@@ -360,10 +485,11 @@ module _ (d : List ℕ) (n : ℕ) where
   no_file l ws some none task.Script a = a
   no_file l ws some none (task.File name) a = a
   no_file l ws some none (task.Explain name) a = a
-  no_file l ws some none (task.Serial name from tables csv) a = a
+  no_file l ws some none (task.Serial name from tables between) a = a
   no_file l ws some none (task.Drive e) a = a
-  no_file l ws some none (task.Audit name options) a = a
-  no_file l ws some none (task.Load e first kinds flat) a = a
+  no_file l ws some none (task.Audit name before options) a = a
+  no_file l ws some none (task.Load e load) a = a
+  no_file l ws some none (task.Following directory e load) a = a
 
   not_layout : (w : List ℕ) (ws : List (List ℕ)) (t : Task) → AsksLayout d n (codes "--extents" ∷ w ∷ ws) t → ⊥
   not_layout w ws t (None, rest, e, a) =
@@ -499,96 +625,96 @@ opens_none f (x ∷ y ∷ ws) none t (verb, (d, more, plain, g, a)) =
 -- FILES OF REPLIES
 
 -- the options of the tables behind a directory, and without one
-pub tables_named : (ws : List (List ℕ)) (d : Bor (List ℕ)) (rest : List (List ℕ)) (csv : Bool)
-    → ws ≡ codes "--tables" ∷ d.now ∷ rest → rest ≡ csv_words csv
-    → ws ≡ directory_words (codes "--tables") (Some d) ++ csv_words csv
-tables_named ws d rest csv is e = is ∙ ap (λ z. codes "--tables" ∷ d.now ∷ z) e
+pub tables_named : (ws : List (List ℕ)) (d : Bor (List ℕ)) (rest : List (List ℕ)) (between : Separator)
+    → ws ≡ codes "--tables" ∷ d.now ∷ rest → rest ≡ csv_words between
+    → ws ≡ directory_words (codes "--tables") (Some d) ++ csv_words between
+tables_named ws d rest between is e = is ∙ ap (λ z. codes "--tables" ∷ d.now ∷ z) e
 
-csv_short : (csv : Bool) (mark w : List ℕ) (ws : List (List ℕ)) → csv_words csv ≡ mark ∷ w ∷ ws → ⊥
-csv_short true mark w ws e = cc
-csv_short false mark w ws e = cc
+csv_short : (between : Separator) (mark w : List ℕ) (ws : List (List ℕ)) → csv_words between ≡ mark ∷ w ∷ ws → ⊥
+csv_short separator.Commas mark w ws e = cc
+csv_short separator.Tabs mark w ws e = cc
 
 pub no_tables : (ws : List (List ℕ)) → ((d : List ℕ) (rest : List (List ℕ)) → IsPlain d
     → ws ≡ codes "--tables" ∷ d ∷ rest → ⊥)
-    → ((csv : Bool) → ws ≡ csv_words csv → ⊥) → (tables : Option (Bor (List ℕ))) (csv : Bool)
-    → AreTablesOptions ws tables csv → ⊥
-no_tables ws none bad None csv a = bad csv a.1
-no_tables ws none bad (Some d) csv a = none d.now (csv_words csv) a.0 a.1
+    → ((between : Separator) → ws ≡ csv_words between → ⊥) → (tables : Option (Bor (List ℕ))) (between : Separator)
+    → AreTablesOptions ws tables between → ⊥
+no_tables ws none bad None between a = bad between a.1
+no_tables ws none bad (Some d) between a = none d.now (csv_words between) a.0 a.1
 
 pub bad_tables : (ws : List (List ℕ)) (d : List ℕ) (rest : List (List ℕ)) → ws ≡ codes "--tables" ∷ d ∷ rest
-    → ((csv : Bool) → rest ≡ csv_words csv → ⊥) → (tables : Option (Bor (List ℕ))) (csv : Bool)
-    → AreTablesOptions ws tables csv → ⊥
-bad_tables ws d rest is bad None csv a = csv_short csv (codes "--tables") d rest (sym a.1 ∙ is)
-bad_tables ws d rest is bad (Some e) csv a = bad csv (sym (third _ _ _ _ (sym a.1 ∙ is)))
+    → ((between : Separator) → rest ≡ csv_words between → ⊥) → (tables : Option (Bor (List ℕ))) (between : Separator)
+    → AreTablesOptions ws tables between → ⊥
+bad_tables ws d rest is bad None between a = csv_short between (codes "--tables") d rest (sym a.1 ∙ is)
+bad_tables ws d rest is bad (Some e) between a = bad between (sym (third _ _ _ _ (sym a.1 ∙ is)))
 
 module _ (ws : List (List ℕ)) where
   pub from_named : (d : Bor (List ℕ)) (rest : List (List ℕ)) (r : Option SerialOptions) → IsPlain d.now
       → ws ≡ codes "--from" ∷ d.now ∷ rest
-      → MatchOption r ((o : SerialOptions) → AreTablesOptions rest o.tables o.is_csv → ⊥)
-      (λ o. (o.from ≡ Some d) × AreTablesOptions rest o.tables o.is_csv)
-      → MatchOption r ((o : SerialOptions) → AreSerialOptions ws o.from o.tables o.is_csv → ⊥)
-      (λ o. AreSerialOptions ws o.from o.tables o.is_csv)
+      → MatchOption r ((o : SerialOptions) → AreTablesOptions rest o.tables o.separator → ⊥)
+      (λ o. (o.from ≡ Some d) × AreTablesOptions rest o.tables o.separator)
+      → MatchOption r ((o : SerialOptions) → AreSerialOptions ws o.from o.tables o.separator → ⊥)
+      (λ o. AreSerialOptions ws o.from o.tables o.separator)
   from_named d rest None own is m = λ o a. by o o.from refl a
     where
-      not_from : (tables : Option (Bor (List ℕ))) (csv : Bool)
-          → directory_words (codes "--tables") tables ++ csv_words csv ≡ codes "--from" ∷ d.now ∷ rest → ⊥
-      not_from None csv e = csv_short csv (codes "--from") d.now rest e
-      not_from (Some t) csv e = let first : codes "--tables" ≡ codes "--from" = cc in cc
+      not_from : (tables : Option (Bor (List ℕ))) (between : Separator)
+          → directory_words (codes "--tables") tables ++ csv_words between ≡ codes "--from" ∷ d.now ∷ rest → ⊥
+      not_from None between e = csv_short between (codes "--from") d.now rest e
+      not_from (Some t) between e = let first : codes "--tables" ≡ codes "--from" = cc in cc
 
       by : (o : SerialOptions) (from : Option (Bor (List ℕ))) → o.from ≡ from
-          → AreSerialOptions ws o.from o.tables o.is_csv → ⊥
+          → AreSerialOptions ws o.from o.tables o.separator → ⊥
       by o None e a =
-          let words : directory_words (codes "--tables") o.tables ++ csv_words o.is_csv
+          let words : directory_words (codes "--tables") o.tables ++ csv_words o.separator
           ≡ codes "--from" ∷ d.now ∷ rest =
           sym (a.2 ∙ ap (λ z. directory_words (codes "--from") z
-          ++ directory_words (codes "--tables") o.tables ++ csv_words o.is_csv) e) ∙ is in
-          not_from o.tables o.is_csv words
+          ++ directory_words (codes "--tables") o.tables ++ csv_words o.separator) e) ∙ is in
+          not_from o.tables o.separator words
       by o (Some b) e a =
-          let words : codes "--from" ∷ b.now ∷ directory_words (codes "--tables") o.tables ++ csv_words o.is_csv
+          let words : codes "--from" ∷ b.now ∷ directory_words (codes "--tables") o.tables ++ csv_words o.separator
           ≡ codes "--from" ∷ d.now ∷ rest =
           sym (a.2 ∙ ap (λ z. directory_words (codes "--from") z
-          ++ directory_words (codes "--tables") o.tables ++ csv_words o.is_csv) e) ∙ is in
+          ++ directory_words (codes "--tables") o.tables ++ csv_words o.separator) e) ∙ is in
           m o (a.1, sym (third _ _ _ _ words))
   from_named d rest (Some o) own is m = (
     subst IsDirectory (sym m.0) own,
     m.1.0,
     is ∙ ap (λ z. codes "--from" ∷ d.now ∷ z) m.1.1
         ∙ ap (λ z. directory_words (codes "--from") z ++ directory_words (codes "--tables") o.tables
-        ++ csv_words o.is_csv) (sym m.0),
+        ++ csv_words o.separator) (sym m.0),
   )
 
   pub from_none : (r : Option SerialOptions)
       → ((d : List ℕ) (rest : List (List ℕ)) → IsPlain d → ws ≡ codes "--from" ∷ d ∷ rest → ⊥)
-      → MatchOption r ((o : SerialOptions) → AreTablesOptions ws o.tables o.is_csv → ⊥)
-      (λ o. (o.from ≡ None) × AreTablesOptions ws o.tables o.is_csv)
-      → MatchOption r ((o : SerialOptions) → AreSerialOptions ws o.from o.tables o.is_csv → ⊥)
-      (λ o. AreSerialOptions ws o.from o.tables o.is_csv)
+      → MatchOption r ((o : SerialOptions) → AreTablesOptions ws o.tables o.separator → ⊥)
+      (λ o. (o.from ≡ None) × AreTablesOptions ws o.tables o.separator)
+      → MatchOption r ((o : SerialOptions) → AreSerialOptions ws o.from o.tables o.separator → ⊥)
+      (λ o. AreSerialOptions ws o.from o.tables o.separator)
   from_none None none m = λ o a. by o o.from refl a
     where
       by : (o : SerialOptions) (from : Option (Bor (List ℕ))) → o.from ≡ from
-          → AreSerialOptions ws o.from o.tables o.is_csv → ⊥
+          → AreSerialOptions ws o.from o.tables o.separator → ⊥
       by o None e a =
           m o (
             a.1,
             a.2 ∙ ap (λ z. directory_words (codes "--from") z
-                ++ directory_words (codes "--tables") o.tables ++ csv_words o.is_csv) e,
+                ++ directory_words (codes "--tables") o.tables ++ csv_words o.separator) e,
           )
       by o (Some b) e a =
-          none b.now (directory_words (codes "--tables") o.tables ++ csv_words o.is_csv)
+          none b.now (directory_words (codes "--tables") o.tables ++ csv_words o.separator)
           (subst IsDirectory e a.0)
           (a.2 ∙ ap (λ z. directory_words (codes "--from") z
-          ++ directory_words (codes "--tables") o.tables ++ csv_words o.is_csv) e)
+          ++ directory_words (codes "--tables") o.tables ++ csv_words o.separator) e)
   from_none (Some o) none m = (
     subst IsDirectory (sym m.0) tt,
     m.1.0,
     m.1.1 ∙ ap (λ z. directory_words (codes "--from") z ++ directory_words (codes "--tables") o.tables
-        ++ csv_words o.is_csv) (sym m.0),
+        ++ csv_words o.separator) (sym m.0),
   )
 
 -- the verb, a file, and no options
 pub serial_file : {X : Type 0} (f : X → List ℕ) (ws : List X) (b : X) (file : Bor (List ℕ)) → 3 ≤ length ws
     → b ≡ get_or ws 1 b → f b ≡ codes "serial" → NamesFile (map f ws) file.now
-    → AsksSerial (map f ws) (task.Serial file None None false)
+    → AsksSerial (map f ws) (task.Serial file None None separator.Tabs)
 serial_file f [] b file h i e n = absurd (omega (arith, h))
 serial_file f (x ∷ []) b file h i e n = absurd (omega (arith, h))
 serial_file f (x ∷ y ∷ r) b file h i e (inl n) = (ap f (sym i) ∙ e, inl ([], n.0, n.1, (tt, tt, refl)))
@@ -596,26 +722,28 @@ serial_file f (x ∷ y ∷ r) b file h i e (inr n) = (ap f (sym i) ∙ e, inr (n
 
 -- with options
 pub serial_options : {X : Type 0} (f : X → List ℕ) (ws : List X) (b c : X) (file : Bor (List ℕ))
-    (from tables : Option (Bor (List ℕ))) (csv : Bool) → 3 ≤ length ws → b ≡ get_or ws 1 b → f b ≡ codes "serial"
+    (from tables : Option (Bor (List ℕ))) (between : Separator)
+    → 3 ≤ length ws → b ≡ get_or ws 1 b → f b ≡ codes "serial"
     → c ≡ get_or ws 2 c → file.now ≡ f c → IsPlain file.now
-    → AreSerialOptions (map f (take (length ws - 3) (drop 3 ws))) from tables csv
-    → AsksSerial (map f ws) (task.Serial file from tables csv)
-serial_options f [] b c file from tables csv h i e j n p o = absurd (omega (arith, h))
-serial_options f (x ∷ []) b c file from tables csv h i e j n p o = absurd (omega (arith, h))
-serial_options f (x ∷ y ∷ []) b c file from tables csv h i e j n p o = absurd (omega (arith, h))
-serial_options {X = X} f (x ∷ y ∷ z ∷ r) b c file from tables csv h i e j n p o =
+    → AreSerialOptions (map f (take (length ws - 3) (drop 3 ws))) from tables between
+    → AsksSerial (map f ws) (task.Serial file from tables between)
+serial_options f [] b c file from tables between h i e j n p o = absurd (omega (arith, h))
+serial_options f (x ∷ []) b c file from tables between h i e j n p o = absurd (omega (arith, h))
+serial_options f (x ∷ y ∷ []) b c file from tables between h i e j n p o = absurd (omega (arith, h))
+serial_options {X = X} f (x ∷ y ∷ z ∷ r) b c file from tables between h i e j n p o =
     let whole : take (length (x ∷ y ∷ z ∷ r) - 3) r ≡ r = take_all (length (x ∷ y ∷ z ∷ r) - 3) r (omega arith) in (
       ap f (sym i) ∙ e,
       inl (
         map f r,
         ap (λ t. t ∷ map f r) (ap f (sym j) ∙ sym n),
         p,
-        subst (λ (ts : List X). AreSerialOptions (map f ts) from tables csv) whole o,
+        subst (λ (ts : List X). AreSerialOptions (map f ts) from tables between) whole o,
       ),
     )
 
 pub no_serial : {X : Type 0} (f : X → List ℕ) (ws : List X) → ((file : List ℕ) → NamesFile (map f ws) file → ⊥)
-    → ((o : SerialOptions) → AreSerialOptions (map f (take (length ws - 3) (drop 3 ws))) o.from o.tables o.is_csv → ⊥)
+    → ((o : SerialOptions)
+    → AreSerialOptions (map f (take (length ws - 3) (drop 3 ws))) o.from o.tables o.separator → ⊥)
     → (t : Task) → AsksSerial (map f ws) t → ⊥
 no_serial f [] n m t a = a
 no_serial f (x ∷ []) n m t a = a
@@ -624,16 +752,17 @@ no_serial f (x ∷ y ∷ r) n m (task.File name) a = a
 no_serial f (x ∷ y ∷ r) n m (task.Explain name) a = a
 no_serial f (x ∷ y ∷ r) n m (task.Opened d e l file) a = a
 no_serial f (x ∷ y ∷ r) n m (task.Drive d) a = a
-no_serial f (x ∷ y ∷ r) n m (task.Audit name options) a = a
-no_serial f (x ∷ y ∷ r) n m (task.Load d first kinds flat) a = a
-no_serial f (x ∷ y ∷ []) n m (task.Serial name from tables csv) (verb, inl (options, e, plain, o)) = cc
-no_serial {X = X} f (x ∷ y ∷ z ∷ r) n m (task.Serial name from tables csv) (verb, inl (options, e, plain, o)) =
+no_serial f (x ∷ y ∷ r) n m (task.Audit name before options) a = a
+no_serial f (x ∷ y ∷ r) n m (task.Load d load) a = a
+no_serial f (x ∷ y ∷ r) n m (task.Following directory d load) a = a
+no_serial f (x ∷ y ∷ []) n m (task.Serial name from tables between) (verb, inl (options, e, plain, o)) = cc
+no_serial {X = X} f (x ∷ y ∷ z ∷ r) n m (task.Serial name from tables between) (verb, inl (options, e, plain, o)) =
     let whole : take (length (x ∷ y ∷ z ∷ r) - 3) r ≡ r = take_all (length (x ∷ y ∷ z ∷ r) - 3) r (omega arith) in
     let rest : map f r ≡ options = cc in
-    m (record { from = from; tables = tables; is_csv = csv })
-    (subst (λ (ts : List X). AreSerialOptions (map f ts) from tables csv) (sym whole)
-    (subst (λ (ts : List (List ℕ)). AreSerialOptions ts from tables csv) (sym rest) o))
-no_serial f (x ∷ y ∷ r) n m (task.Serial name from tables csv) (verb, inr h) = n name.now (inr h.0)
+    m (record { from = from; tables = tables; separator = between })
+    (subst (λ (ts : List X). AreSerialOptions (map f ts) from tables between) (sym whole)
+    (subst (λ (ts : List (List ℕ)). AreSerialOptions ts from tables between) (sym rest) o))
+no_serial f (x ∷ y ∷ r) n m (task.Serial name from tables between) (verb, inr h) = n name.now (inr h.0)
 
 -- a file's name that is an option stands only behind the mark
 pub no_option : {X : Type 0} (f : X → List ℕ) (ws : List X) (c : X) (file : Bor (List ℕ)) → 3 ≤ length ws
@@ -647,8 +776,9 @@ no_option f (x ∷ y ∷ z ∷ r) c file h n j is o (task.File name) a = a
 no_option f (x ∷ y ∷ z ∷ r) c file h n j is o (task.Explain name) a = a
 no_option f (x ∷ y ∷ z ∷ r) c file h n j is o (task.Opened d e l name) a = a
 no_option f (x ∷ y ∷ z ∷ r) c file h n j is o (task.Drive d) a = a
-no_option f (x ∷ y ∷ z ∷ r) c file h n j is o (task.Audit name options) a = a
-no_option f (x ∷ y ∷ z ∷ r) c file h n j is o (task.Load d first kinds flat) a = a
-no_option f (x ∷ y ∷ z ∷ r) c file h n j is o (task.Serial name from tables csv) (verb, inl (options, e, plain, m)) =
+no_option f (x ∷ y ∷ z ∷ r) c file h n j is o (task.Audit name before options) a = a
+no_option f (x ∷ y ∷ z ∷ r) c file h n j is o (task.Load d load) a = a
+no_option f (x ∷ y ∷ z ∷ r) c file h n j is o (task.Following directory d load) a = a
+no_option f (x ∷ y ∷ z ∷ r) c file h n j is o (task.Serial name a b s) (verb, inl (options, e, plain, m)) =
     let first : f z ≡ name.now = cc in plain (ap (λ t. slice_index t 0) (sym first ∙ ap f (sym j) ∙ sym is) ∙ o)
-no_option f (x ∷ y ∷ z ∷ r) c file h n j is o (task.Serial name from tables csv) (verb, inr m) = n name.now (inr m.0)
+no_option f (x ∷ y ∷ z ∷ r) c file h n j is o (task.Serial name a b s) (verb, inr m) = n name.now (inr m.0)

@@ -4,10 +4,17 @@ ghost use Rattle.std.specs.Prelude.{◌≡◌, ◌≢◌, ◌↔◌, ◌⊎◌, 
 ghost use Rattle.std.specs.Prelude.{◌≤◌, IsFalse, List, None, Option, codes, decimal, length, map};
 ghost use Rattle.std.specs.Prelude.{slice_index, MatchOption, MatchResult};
 ghost use Rattle.oe_rows.specs.declared.layouts.Layout.{Layout};
-ghost use Rattle.oe_tasks.specs.Words.{Asks, AsksScript, AsksSerial, AsksDrive, AsksAudit, AsksLoad};
+ghost use Rattle.oe_tasks.specs.Words.{Asks, AsksScript, AsksSerial, AsksDrive, AsksAudit};
+ghost use Rattle.oe_tasks.specs.Words.{AsksLoad, AsksFollowing};
 ghost use Rattle.oe_tasks.specs.Words.{AsksExplain, AsksOpened, AsksExtents, AsksLayout, AsksFile};
 ghost use Rattle.oe_tasks.specs.Words.{Names, NamesFile, IsPlain, csv_words, layout_word};
 ghost use Rattle.oe_tasks.specs.Words.{AreSerialOptions, AreTablesOptions};
+ghost use Rattle.oe_tasks.specs.Words.{AreNumbered, AreAudited, AreBehindSource, AreLoaded};
+ghost use Rattle.oe_tasks.specs.declared.BehindSource.{BehindSource};
+ghost use Rattle.oe_tasks.specs.declared.options.AuditOptions.{AuditOptions};
+ghost use Rattle.oe_tasks.specs.declared.options.LoadOptions.{LoadOptions};
+ghost use Rattle.oe_tasks.specs.declared.options.Separator.{Separator};
+ghost use Rattle.oe_tasks.specs.declared.Numbered.{Numbered};
 ghost use Rattle.oe_tasks.specs.declared.SerialOptions.{SerialOptions};
 ghost use Rattle.oe_tasks.specs.declared.Task.{Task};
 
@@ -15,10 +22,10 @@ mod options;
 
 use clap::Error;
 use oe_help::refusal;
-use oe_numbers::{DriveNumbers, Kinds, LoadNumbers, Ordinal, number_of};
+use oe_numbers::{DriveNumbers, FollowingNumbers, LoadNumbers, Ordinal, number_of};
 use oe_rows::Layout;
 use oe_values::{ExtentCount, Number};
-pub use options::AuditOptions;
+pub use options::{AuditOptions, LoadOptions, Separator};
 use options::{audit_options, load_options, options_of};
 use std::alloc::Global;
 use std::convert::AsStr;
@@ -48,23 +55,28 @@ pub enum Task<'a> {
         file: &'a str,
         from: Option<&'a str>,
         tables: Option<&'a str>,
-        is_csv: bool,
+        separator: Separator,
     },
     /// To run terminals in threads of their own.
     Drive(DriveNumbers),
     /// To audit the tables in the files of a directory, or in a file, or on standard input where
-    /// the name is `-`.
+    /// the name is `-`, and to compare them with the files of another directory, as they were
+    /// before, where one is named.
     Audit {
         source: &'a str,
+        before: Option<&'a str>,
         options: AuditOptions,
     },
-    /// To print a load, as a script or flat, from each terminal's request of that number on, of
-    /// these kinds of transactions, or of all where none is named.
+    /// To print a load.
     Load {
         numbers: LoadNumbers,
-        first: Ordinal,
-        kinds: Kinds,
-        is_flat: bool,
+        options: LoadOptions,
+    },
+    /// To print a load that begins on the tables in the files of a directory.
+    Following {
+        directory: &'a str,
+        numbers: FollowingNumbers,
+        options: LoadOptions,
     },
 }
 
@@ -73,7 +85,21 @@ pub enum Task<'a> {
 struct SerialOptions<'a> {
     from: Option<&'a str>,
     tables: Option<&'a str>,
-    is_csv: bool,
+    separator: Separator,
+}
+
+/// What the words behind an audit's source say.
+#[derive(Clone, Copy)]
+struct BehindSource<'a> {
+    before: Option<&'a str>,
+    options: AuditOptions,
+}
+
+/// The numbers of a load on tables that are there, and its options.
+#[derive(Clone, Copy)]
+struct Numbered {
+    numbers: FollowingNumbers,
+    options: LoadOptions,
 }
 
 /// Finds what these words ask for; the first is the program's name.
@@ -112,6 +138,9 @@ fn asked<'a, S: AsStr>(words: &'a [S]) -> Option<Task<'a>>
         return Some(task);
     }
     if let Some(task) = load_of(words) {
+        return Some(task);
+    }
+    if let Some(task) = following_of(words) {
         return Some(task);
     }
     drive_of(words)
@@ -292,7 +321,7 @@ fn serial_of<'a, S: AsStr>(words: &'a [S]) -> Option<Task<'a>>
             file,
             from: None,
             tables: None,
-            is_csv: false,
+            separator: Separator::Tabs,
         });
     }
     let file = words[2].as_str();
@@ -304,7 +333,7 @@ fn serial_of<'a, S: AsStr>(words: &'a [S]) -> Option<Task<'a>>
             file,
             from: options.from,
             tables: options.tables,
-            is_csv: options.is_csv,
+            separator: options.separator,
         }),
         None => None,
     }
@@ -313,8 +342,9 @@ fn serial_of<'a, S: AsStr>(words: &'a [S]) -> Option<Task<'a>>
 // Finds the options of a file of replies that these words say.
 fn serial_options_of<'a, S: AsStr>(words: &'a [S]) -> Option<SerialOptions<'a>>
     ensures { MatchOption result
-        ((o : SerialOptions) → AreSerialOptions (map S.text words.now) o.from o.tables o.is_csv → ⊥)
-        (λ o. AreSerialOptions (map S.text words.now) o.from o.tables o.is_csv) }
+        ((o : SerialOptions) →
+        AreSerialOptions (map S.text words.now) o.from o.tables o.separator → ⊥)
+        (λ o. AreSerialOptions (map S.text words.now) o.from o.tables o.separator) }
 {
     match directory_behind("--from", words) {
         Some((from, rest)) => tables_options_of(Some(from), rest),
@@ -328,42 +358,43 @@ fn tables_options_of<'a, S: AsStr>(
     words: &'a [S],
 ) -> Option<SerialOptions<'a>>
     ensures { MatchOption result
-        ((o : SerialOptions) → AreTablesOptions (map S.text words.now) o.tables o.is_csv → ⊥)
-        (λ o. (o.from ≡ from.entry) × AreTablesOptions (map S.text words.now) o.tables o.is_csv) }
+        ((o : SerialOptions) → AreTablesOptions (map S.text words.now) o.tables o.separator → ⊥)
+        (λ o. (o.from ≡ from.entry)
+        × AreTablesOptions (map S.text words.now) o.tables o.separator) }
 {
     let Some((tables, rest)) = directory_behind("--tables", words) else {
-        return match csv_of(words) {
-            Some(is_csv) => Some(SerialOptions {
+        return match separator_said(words) {
+            Some(separator) => Some(SerialOptions {
                 from,
                 tables: None,
-                is_csv,
+                separator,
             }),
             None => None,
         };
     };
-    match csv_of(rest) {
-        Some(is_csv) => Some(SerialOptions {
+    match separator_said(rest) {
+        Some(separator) => Some(SerialOptions {
             from,
             tables: Some(tables),
-            is_csv,
+            separator,
         }),
         None => None,
     }
 }
 
-// Tells whether words say that files are comma-separated values, where they say no more.
-fn csv_of<S: AsStr>(words: &[S]) -> Option<bool>
+// Finds what stands between the fields of files by these words.
+fn separator_said<S: AsStr>(words: &[S]) -> Option<Separator>
     ensures { MatchOption result
-        ((csv : Bool) → map S.text words.now ≡ csv_words csv → ⊥)
-        (λ csv. map S.text words.now ≡ csv_words csv) }
+        ((between : Separator) → map S.text words.now ≡ csv_words between → ⊥)
+        (λ between. map S.text words.now ≡ csv_words between) }
 {
     if words.is_empty() {
-        return Some(false);
+        return Some(Separator::Tabs);
     }
     if words.len() != 1 || words[0].as_str() != "--csv" {
         return None;
     }
-    Some(true)
+    Some(Separator::Commas)
 }
 
 // Finds the file that words name.
@@ -429,13 +460,54 @@ fn audit_of<'a, S: AsStr>(words: &'a [S]) -> Option<Task<'a>>
     if is_no_source(source) {
         return None;
     }
-    let Some(options) = options_of(&words[3..]) else {
-        return None;
-    };
-    match audit_options(&options) {
-        Some(options) => Some(Task::Audit { source, options }),
+    match behind_source(&words[3..]) {
+        Some(behind) => Some(Task::Audit {
+            source,
+            before: behind.before,
+            options: behind.options,
+        }),
         None => None,
     }
+}
+
+// Finds the directory and the options that the words behind an audit's source say.
+fn behind_source<'a, S: AsStr>(words: &'a [S]) -> Option<BehindSource<'a>>
+    ensures { MatchOption result
+        ((b : BehindSource) → AreBehindSource (map S.text words.now) b.before b.options → ⊥)
+        (λ b. AreBehindSource (map S.text words.now) b.before b.options) }
+{
+    match directory_behind("--before", words) {
+        Some((before, rest)) => {
+            let Some(options) = audited(rest) else {
+                return None;
+            };
+            Some(BehindSource {
+                before: Some(before),
+                options,
+            })
+        }
+        None => {
+            let Some(options) = audited(words) else {
+                return None;
+            };
+            Some(BehindSource {
+                before: None,
+                options,
+            })
+        }
+    }
+}
+
+// Finds the options of an audit that words say.
+fn audited<S: AsStr>(words: &[S]) -> Option<AuditOptions>
+    ensures { MatchOption result
+        ((a : AuditOptions) → AreAudited (map S.text words.now) a → ⊥)
+        (AreAudited (map S.text words.now)) }
+{
+    let Some(options) = options_of(words) else {
+        return None;
+    };
+    audit_options(&options)
 }
 
 /// Tells whether a word names no source of an audit: it is taken for an option.
@@ -460,16 +532,60 @@ fn load_of<'a, S: AsStr>(words: &'a [S]) -> Option<Task<'a>>
     let Some(numbers) = LoadNumbers::read(&words[2..9]) else {
         return None;
     };
-    let Some(options) = options_of(&words[9..]) else {
+    match loaded(&words[9..], numbers.requests) {
+        Some(options) => Some(Task::Load { numbers, options }),
+        None => None,
+    }
+}
+
+// Finds the options of a load of that number of requests a terminal.
+fn loaded<S: AsStr>(words: &[S], requests: Ordinal) -> Option<LoadOptions>
+    ensures { MatchOption result
+        ((l : LoadOptions) → AreLoaded (map S.text words.now) requests l → ⊥)
+        (AreLoaded (map S.text words.now) requests) }
+{
+    let Some(options) = options_of(words) else {
         return None;
     };
-    match load_options(&options, numbers.requests) {
-        Some(load) => Some(Task::Load {
-            numbers,
-            first: load.first,
-            kinds: load.kinds,
-            is_flat: load.is_flat,
+    load_options(&options, requests)
+}
+
+// Finds the load that these words ask for, where it begins on the tables of a directory.
+fn following_of<'a, S: AsStr>(words: &'a [S]) -> Option<Task<'a>>
+    ensures { MatchOption result
+        ((task : Task) → AsksFollowing (map S.text words.now) task → ⊥)
+        (AsksFollowing (map S.text words.now)) }
+{
+    if words.len() < 2 || words[1].as_str() != "load" {
+        return None;
+    }
+    let Some((directory, rest)) = directory_behind("--from", &words[2..]) else {
+        return None;
+    };
+    match numbers_of(rest) {
+        Some(following) => Some(Task::Following {
+            directory,
+            numbers: following.numbers,
+            options: following.options,
         }),
+        None => None,
+    }
+}
+
+// Finds the numbers and the options that the words behind a load's directory say.
+fn numbers_of<S: AsStr>(words: &[S]) -> Option<Numbered>
+    ensures { MatchOption result
+        ((n : Numbered) → AreNumbered (map S.text words.now) n → ⊥)
+        (AreNumbered (map S.text words.now)) }
+{
+    if words.len() < 4 {
+        return None;
+    }
+    let Some(numbers) = FollowingNumbers::read(&words[..4]) else {
+        return None;
+    };
+    match loaded(&words[4..], numbers.requests) {
+        Some(options) => Some(Numbered { numbers, options }),
         None => None,
     }
 }

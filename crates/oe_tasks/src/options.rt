@@ -1,19 +1,35 @@
 //! The options of audits and loads: each stands at most once, in any order.
 //!
 //! One walk reads the words of both; then each command takes its own, and refuses the other's.
-ghost use Rattle.std.specs.Prelude.{◌≡◌, ◌≢◌, ◌+◌, ◌≤◌, ℕ, Bool, List, MatchOption, None, decimal, false, map};
-ghost use Rattle.std.specs.Prelude.{codes, true, unwrap_or};
+ghost use Rattle.std.specs.Prelude.{◌≡◌, ◌≢◌, ◌+◌, ◌≤◌, ℕ, List, MatchOption, None, decimal, map};
+ghost use Rattle.std.specs.Prelude.{unwrap_or};
 ghost use Rattle.std.specs.Int.{IsInRange};
 ghost use Rattle.oe_numbers.specs.Kinds.{Names as NamesKinds, none_named};
+ghost use Rattle.oe_numbers.specs.declared.forms.Items.{Items};
 ghost use Rattle.oe_numbers.specs.declared.kinds.Kinds.{Kinds};
-ghost use Rattle.oe_tasks.specs.Words.{Says, Adds, AddsFlag, AddsFirst, AddsInitial, AddsKinds, no_options};
-ghost use Rattle.oe_tasks.specs.Words.{AreForAudit, AreForLoad};
+ghost use Rattle.oe_tasks.specs.Words.{Says, Adds, AddsFlag, AddsWord, no_options};
+ghost use Rattle.oe_tasks.specs.Words.{flag_word, mark_word};
+ghost use Rattle.oe_tasks.specs.Words.{has_flag, with_flag, form_of, separator_of};
+ghost use Rattle.oe_tasks.specs.Words.{IsOfItems, AreForAudit, AreForLoad};
 ghost use Rattle.oe_tasks.specs.declared.options.AuditOptions.{AuditOptions};
+ghost use Rattle.oe_tasks.specs.declared.options.Flag.{Flag};
+ghost use Rattle.oe_tasks.specs.declared.options.LoadOptions.{LoadOptions};
+ghost use Rattle.oe_tasks.specs.declared.options.Mark.{Mark};
+ghost use Rattle.oe_tasks.specs.declared.options.Mark.TheVariants as mark;
 ghost use Rattle.oe_tasks.specs.declared.options.Options.{Options};
 
-use oe_numbers::{Kinds, Ordinal, number_of};
+use oe_numbers::{Form, Items, Kinds, Ordinal, number_of};
 use oe_values::Number;
 use std::convert::AsStr;
+
+/// What stands between the fields of a line in a file of tables.
+#[derive(Clone, Copy)]
+pub enum Separator {
+    /// A tab, as in a dump.
+    Tabs,
+    /// A comma: these are comma-separated values.
+    Commas,
+}
 
 /// The options of an audit.
 #[derive(Clone, Copy)]
@@ -22,18 +38,40 @@ pub struct AuditOptions {
     pub initial: Option<u32>,
     /// Each list is cut behind this number of rows.
     pub first: Option<u32>,
-    /// Files are comma-separated values.
-    pub is_csv: bool,
+    /// What stands between the fields of its files.
+    pub separator: Separator,
     /// The report is JSON.
     pub is_json: bool,
 }
 
 /// The options of a load.
 #[derive(Clone, Copy)]
-pub(crate) struct LoadOptions {
-    pub(crate) first: Ordinal,
-    pub(crate) kinds: Kinds,
-    pub(crate) is_flat: bool,
+pub struct LoadOptions {
+    /// The number of the first request that each terminal asks for.
+    pub first: Ordinal,
+    /// The kinds that are drawn; all, where none is named.
+    pub kinds: Kinds,
+    /// What becomes of unused items.
+    pub items: Items,
+    /// What is written.
+    pub form: Form,
+}
+
+/// An option that is a word alone.
+#[derive(Clone, Copy)]
+enum Flag {
+    Csv,
+    Json,
+    Flat,
+    Mix,
+}
+
+/// An option with a word behind it.
+#[derive(Clone, Copy)]
+enum Mark {
+    First,
+    Initial,
+    Kinds,
 }
 
 /// The options that words say, of an audit or a load.
@@ -45,6 +83,7 @@ pub(crate) struct Options {
     is_csv: bool,
     is_json: bool,
     is_flat: bool,
+    is_mix: bool,
 }
 
 /// Finds the options that these words say.
@@ -60,6 +99,7 @@ pub(crate) fn options_of<S: AsStr>(words: &[S]) -> Option<Options>
         is_csv: false,
         is_json: false,
         is_flat: false,
+        is_mix: false,
     };
     options_from(none, words)
 }
@@ -85,59 +125,109 @@ fn options_from<S: AsStr>(so_far: Options, words: &[S]) -> Option<Options>
     }
 }
 
-// Adds `--csv`, `--json` or `--flat` to options that lack it.
-fn with_flag(o: &Options, mark: &str) -> Option<Options>
+// Finds the option of that name that is a word alone.
+fn flag_of(word: &str) -> Option<Flag>
     ensures { MatchOption result
-        ((p : Options) → AddsFlag o.now mark.now p → ⊥)
-        (AddsFlag o.now mark.now) }
+        ((f : Flag) → word.now ≢ flag_word f)
+        (λ f. word.now ≡ flag_word f) }
 {
-    if mark == "--csv" {
-        if o.is_csv {
-            return None;
-        }
-        return Some(Options { is_csv: true, ..*o });
+    if word == "--csv" {
+        return Some(Flag::Csv);
     }
-    if mark == "--json" {
-        if o.is_json {
-            return None;
-        }
-        return Some(Options {
-            is_json: true,
-            ..*o
-        });
+    if word == "--json" {
+        return Some(Flag::Json);
     }
-    if mark != "--flat" || o.is_flat {
-        return None;
+    if word == "--flat" {
+        return Some(Flag::Flat);
     }
-    Some(Options {
-        is_flat: true,
-        ..*o
-    })
-}
-
-// Adds `--first`, `--initial` or `--kinds` with the word behind it to options that lack it.
-fn with_word(o: &Options, mark: &str, word: &str) -> Option<Options>
-    ensures { MatchOption result
-        ((p : Options) → Adds o.now mark.now word.now p → ⊥)
-        (Adds o.now mark.now word.now) }
-{
-    if mark == "--first" {
-        return with_first(o, word);
-    }
-    if mark == "--initial" {
-        return with_initial(o, word);
-    }
-    if mark == "--kinds" {
-        return with_kinds(o, word);
+    if word == "--mix" {
+        return Some(Flag::Mix);
     }
     None
+}
+
+// Finds the option of that name that has a word behind it.
+fn mark_of(word: &str) -> Option<Mark>
+    ensures { MatchOption result
+        ((m : Mark) → word.now ≢ mark_word m)
+        (λ m. word.now ≡ mark_word m) }
+{
+    if word == "--first" {
+        return Some(Mark::First);
+    }
+    if word == "--initial" {
+        return Some(Mark::Initial);
+    }
+    if word == "--kinds" {
+        return Some(Mark::Kinds);
+    }
+    None
+}
+
+// Tells whether options have one that is a word alone.
+fn has_flag(o: &Options, flag: Flag) -> bool
+    ensures { result ≡ has_flag flag o.now }
+{
+    match flag {
+        Flag::Csv => o.is_csv,
+        Flag::Json => o.is_json,
+        Flag::Flat => o.is_flat,
+        Flag::Mix => o.is_mix,
+    }
+}
+
+// Adds an option that is a word alone.
+fn marked(o: &Options, flag: Flag) -> Options
+    ensures { result ≡ with_flag flag o.now }
+{
+    match flag {
+        Flag::Csv => Options { is_csv: true, ..*o },
+        Flag::Json => Options {
+            is_json: true,
+            ..*o
+        },
+        Flag::Flat => Options {
+            is_flat: true,
+            ..*o
+        },
+        Flag::Mix => Options { is_mix: true, ..*o },
+    }
+}
+
+// Adds the option of that name that is a word alone, to options that lack it.
+fn with_flag(o: &Options, word: &str) -> Option<Options>
+    ensures { MatchOption result
+        ((p : Options) → AddsFlag o.now word.now p → ⊥)
+        (AddsFlag o.now word.now) }
+{
+    let Some(flag) = flag_of(word) else {
+        return None;
+    };
+    if has_flag(o, flag) {
+        return None;
+    }
+    Some(marked(o, flag))
+}
+
+// Adds the option of that name with the word behind it, to options that lack it.
+fn with_word(o: &Options, name: &str, word: &str) -> Option<Options>
+    ensures { MatchOption result
+        ((p : Options) → Adds o.now name.now word.now p → ⊥)
+        (Adds o.now name.now word.now) }
+{
+    match mark_of(name) {
+        Some(Mark::First) => with_first(o, word),
+        Some(Mark::Initial) => with_initial(o, word),
+        Some(Mark::Kinds) => with_kinds(o, word),
+        None => None,
+    }
 }
 
 // Adds `--first` with its number to options that lack it.
 fn with_first(o: &Options, word: &str) -> Option<Options>
     ensures { MatchOption result
-        ((n : ℕ) → o.now.first ≡ None → IsInRange 1 4_294_967_295 n → word.now ≢ decimal n)
-        (λ p. AddsFirst o.now word.now p) }
+        ((p : Options) → AddsWord mark.First o.now word.now p → ⊥)
+        (AddsWord mark.First o.now word.now) }
 {
     if o.first.is_some() {
         return None;
@@ -154,8 +244,8 @@ fn with_first(o: &Options, word: &str) -> Option<Options>
 // Adds `--initial` with its number to options that lack it.
 fn with_initial(o: &Options, word: &str) -> Option<Options>
     ensures { MatchOption result
-        ((n : ℕ) → o.now.initial ≡ None → IsInRange 0 4_294_967_295 n → word.now ≢ decimal n)
-        (λ p. AddsInitial o.now word.now p) }
+        ((p : Options) → AddsWord mark.Initial o.now word.now p → ⊥)
+        (AddsWord mark.Initial o.now word.now) }
 {
     if o.initial.is_some() {
         return None;
@@ -172,8 +262,8 @@ fn with_initial(o: &Options, word: &str) -> Option<Options>
 // Adds `--kinds` with its names to options that lack it.
 fn with_kinds(o: &Options, word: &str) -> Option<Options>
     ensures { MatchOption result
-        ((k : Kinds) → o.now.kinds ≡ None → NamesKinds word.now k → ⊥)
-        (λ p. AddsKinds o.now word.now p) }
+        ((p : Options) → AddsWord mark.Kinds o.now word.now p → ⊥)
+        (AddsWord mark.Kinds o.now word.now) }
 {
     if o.kinds.is_some() {
         return None;
@@ -192,15 +282,25 @@ pub(crate) fn audit_options(o: &Options) -> Option<AuditOptions>
     ensures { MatchOption result ((a : AuditOptions) → AreForAudit o.now a → ⊥)
         (AreForAudit o.now) }
 {
-    if o.kinds.is_some() || o.is_flat {
+    if o.kinds.is_some() || o.is_flat || o.is_mix {
         return None;
     }
     Some(AuditOptions {
         initial: number_in(o.initial),
         first: number_in(o.first),
-        is_csv: o.is_csv,
+        separator: separator_of(o.is_csv),
         is_json: o.is_json,
     })
+}
+
+// Tells what stands between the fields of files.
+fn separator_of(is_csv: bool) -> Separator
+    ensures { result ≡ separator_of is_csv }
+{
+    if is_csv {
+        return Separator::Commas;
+    }
+    Separator::Tabs
 }
 
 // Gives the number of an option, if it was said.
@@ -213,12 +313,12 @@ fn number_in<const LOW: u32>(said: Option<Number<LOW, 4_294_967_295>>) -> Option
     }
 }
 
-/// Takes the options of a load of that number of requests a terminal; none where others are said, or where
-/// the number of the last request is past 1,000,000,000.
+/// Takes the options of a load of that number of requests a terminal; none where others are said,
+/// or where the number of the last request is past 1,000,000,000.
 pub(crate) fn load_options(o: &Options, requests: Ordinal) -> Option<LoadOptions>
     ensures { MatchOption result
-        ((first : ℕ) (kinds : Kinds) (flat : Bool) → AreForLoad o.now requests first kinds flat → ⊥)
-        (λ l. AreForLoad o.now requests l.first l.kinds l.is_flat) }
+        ((l : LoadOptions) → AreForLoad o.now requests l → ⊥)
+        (AreForLoad o.now requests) }
 {
     if o.initial.is_some() || o.is_csv || o.is_json {
         return None;
@@ -226,11 +326,38 @@ pub(crate) fn load_options(o: &Options, requests: Ordinal) -> Option<LoadOptions
     let Some(first) = first_of(o.first, requests) else {
         return None;
     };
+    let Some(items) = items_of(o) else {
+        return None;
+    };
     Some(LoadOptions {
         first,
         kinds: kinds_of(o.kinds),
-        is_flat: o.is_flat,
+        items,
+        form: form_of(o),
     })
+}
+
+// Tells what becomes of unused items; none where `--mix` stands beside the names of kinds.
+fn items_of(o: &Options) -> Option<Items>
+    ensures { MatchOption result ((i : Items) → IsOfItems o.now i → ⊥) (IsOfItems o.now) }
+{
+    if !o.is_mix {
+        return Some(Items::Used);
+    }
+    if o.kinds.is_some() {
+        return None;
+    }
+    Some(Items::AsDrawn)
+}
+
+// Tells what is written.
+fn form_of(o: &Options) -> Form
+    ensures { result ≡ form_of o.now }
+{
+    if o.is_flat {
+        return Form::Flat;
+    }
+    Form::Script
 }
 
 // Gives the number of the first request, 1 where none was said; none where the last's is past

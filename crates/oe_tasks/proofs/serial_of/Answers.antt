@@ -24,7 +24,7 @@ returns-in-Some-serial_options_of g c =
     let long = c.if-words-lt3.false in
     let options = c.in-Some-serial_options_of.options in
     serial_options g.S.AsStr.text c.args.words.now c.index-words-1.result c.index-words-2.result c.as_str-file.result
-    options.from options.tables options.is_csv (omega (arith, long)) c.index-words-1.is
+    options.from options.tables options.separator (omega (arith, long)) c.index-words-1.is
     (sym c.as_str.ensures ∙ said) c.index-words-2.is c.as_str-file.ensures plain c.in-Some-serial_options_of.ensures
 
 pub returns-in-None : goal.returns-in-None

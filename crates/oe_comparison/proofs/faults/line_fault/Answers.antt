@@ -1,5 +1,5 @@
 use Rattle.std.specs.Prelude.{codes}
-use Rattle.oe_comparison.proofs.FrontFacts.{and_then}
+use Rattle.oe_reply_words.proofs.PartFacts.{and_then}
 use Rattle.oe_comparison.specs.Names.{column_name}
 use Rattle.oe_comparison.proofs.faults.line_fault.Goals as goal
 

@@ -1,5 +1,5 @@
 use Rattle.std.specs.Prelude.{codes}
-use Rattle.oe_comparison.proofs.FrontFacts.{and_then}
+use Rattle.oe_reply_words.proofs.PartFacts.{and_then}
 use Rattle.oe_comparison.proofs.faults.wrong.Goals as goal
 
 pub returns-in-Twice-clause-items : goal.returns-in-Twice-clause-items

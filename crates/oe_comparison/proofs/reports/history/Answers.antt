@@ -3,7 +3,7 @@ use Rattle.oe_rows.specs.Credit.{money_text}
 use Rattle.oe_texts.specs.Dump.{reference_columns}
 use Rattle.oe_texts.specs.Stamp.{stamp_text}
 use Rattle.oe_comparison.specs.Histories.{blanked}
-use Rattle.oe_comparison.proofs.TextFacts.{and_then}
+use Rattle.oe_reply_words.proofs.PartFacts.{and_then}
 use Rattle.oe_comparison.proofs.reports.history.Goals as goal
 
 pub returns-clause-items : goal.returns-clause-items

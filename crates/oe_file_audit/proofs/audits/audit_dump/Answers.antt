@@ -1,17 +1,26 @@
-use Rattle.std.proofs.Common.{◌≡◌, ◌∷◌, [], None}
-use Rattle.oe_sources.specs.Fault.{Told}
-use Rattle.oe_file_audit.specs.Reading.{DumpSpells}
-use Rattle.oe_file_audit.proofs.AuditFacts.{ends}
+use Rattle.std.proofs.Common.{Vec, Global, subst, refl}
+use Rattle.std.specs.Option.{option_map}
+use Rattle.oe_fields.specs.declared.fields.Format.TheVariants.{Tabs}
+use Rattle.oe_file_audit.specs.declared.reading.TableSource.{TableSource}
+use Rattle.oe_file_audit.specs.Audits.{Ends}
+use Rattle.oe_file_audit.specs.Earlier.{EarlierIsRead}
 use Rattle.oe_file_audit.proofs.audits.audit_dump.Goals as goal
 
-pub judge-requires : goal.judge-requires
-judge-requires g c = let read = c.in-Ok.ensures.read in (read.0, read.4)
+pub returns-in-Ok-Sound : goal.returns-in-Ok-Sound
+returns-in-Ok-Sound g c =
+    let read =
+    subst (EarlierIsRead g.B.Read.remaining Tabs
+    (option_map (λ (v : Vec (TableSource g.row.B.Denot) Global). v.items) c.args.before))
+    c.in-Ok-Sound.field-0-is c.in-Ok-Sound.ensures.read in
+    Ends.behind read.0 read.1 read.2 read.3 c.audit_dump_behind.result (c.audit_dump_behind.ensures read.0 read.4)
 
-pub returns-in-Ok : goal.returns-in-Ok
-returns-in-Ok g c =
-    let read = c.in-Ok.ensures.read in
-    ends c.args.options.now (g.W.Outlet.sink c.args.writer.now) (g.W.Outlet.sink c.judge.new.writer) read.0
-    c.in-Ok.spelled.faults.items
-    (λ facts told. (faults : Told) × DumpSpells (g.S.Read.remaining c.args.source.now)
-    (g.S.Read.remaining c.read_one.new.source) facts faults × (told ≡ faults ∷ []))
-    (λ unread. unread.table ≡ None) c.judge.result (read.1, read.2, read.3) (c.judge.ensures read.0 read.4)
+pub returns-in-Ok-Faulty : goal.returns-in-Ok-Faulty
+returns-in-Ok-Faulty g c =
+    let read =
+    subst (EarlierIsRead g.B.Read.remaining Tabs
+    (option_map (λ (v : Vec (TableSource g.row.B.Denot) Global). v.items) c.args.before))
+    c.in-Ok-Faulty.field-0-is c.in-Ok-Faulty.ensures.read in
+    Ends.faulty read.0 c.in-Ok-Faulty.faults read.1 read.2 refl
+
+pub returns-in-Err : goal.returns-in-Err
+returns-in-Err g c = Ends.stopped c.in-Err.unread c.in-Err.ensures.unread refl

@@ -1,6 +1,6 @@
 use Rattle.std.proofs.Common.{◌≡◌, ℕ, List, ◌++◌, ap, ◌∙◌, append_assoc}
 use Rattle.std.specs.Prelude.{codes, decimal}
-use Rattle.oe_facts.specs.Table.{name_of}
+use Rattle.oe_file_audit.specs.Faults.{table_text}
 use Rattle.oe_file_audit.proofs.faults.more.Goals as goal
 
 regroup : (a b c d e : List ℕ) → (((a ++ b) ++ c) ++ d) ++ e ≡ a ++ (((b ++ c) ++ d) ++ e)
@@ -10,9 +10,8 @@ pub returns : goal.returns
 returns c =
     let out = c.args.out.now.items in
     let number = decimal c.args.count in
-    c.text-3.ensures.items
+    c.text-2.ensures.items
     ∙ ap (λ o. o ++ codes " more lines\n") (c.number.ensures.items
-    ∙ ap (λ o. o ++ number) (c.text-2.ensures.items
-    ∙ ap (λ o. o ++ codes ": ") (c.text.ensures.items ∙ ap (λ n. out ++ n) (c.as_bytes.ensures.value
-    ∙ c.name.ensures))))
-    ∙ regroup out (name_of c.args.table) (codes ": ") number (codes " more lines\n")
+    ∙ ap (λ o. o ++ number) (c.text.ensures.items
+    ∙ ap (λ o. o ++ codes ": ") c.table_name.ensures.items))
+    ∙ regroup out (table_text c.args.side c.args.table) (codes ": ") number (codes " more lines\n")

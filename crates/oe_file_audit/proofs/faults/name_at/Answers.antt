@@ -1,17 +1,15 @@
-use Rattle.std.proofs.Common.{◌≡◌, sym, ap, ◌∙◌, subst, ◌≤◌, length}
-use Rattle.std.proofs.lemmas.Bool.{ltb-true}
-use Rattle.oe_file_audit.specs.Faults.{name_or, name_at}
-use Rattle.oe_file_audit.proofs.FaultFacts.{name_found, name_short}
+use Rattle.std.proofs.Common.{ℕ, List, ◌≤◌, length, arith, subst, sym}
+use Rattle.oe_file_audit.proofs.FaultFacts.{name_first_at, name_short}
 use Rattle.oe_file_audit.proofs.faults.name_at.Goals as goal
 
-pub returns-in-Some : goal.returns-in-Some
-returns-in-Some c =
-    let column = c.in-Some.found.now in
-    let looked = c.in-Some.ensures.lookup in
-    let value : column.name.now ≡ name_at c.args.table c.args.column =
-    name_found c.fact_columns.result.now c.args.column column (ltb-true _ _ (sym looked.0)) looked.1
-    ∙ ap (λ cs. name_or cs c.args.column) c.fact_columns.ensures.value in
-    record {
-      value = value;
-      most = subst (λ t. length t ≤ 20) (sym value) (name_short c.args.table c.args.column);
-    }
+pub returns-then-column-columns-clause-value : goal.returns-then-column-columns-clause-value
+returns-then-column-columns-clause-value c =
+    name_first_at c.fact_columns-columns.result.now c.args.table c.args.column _ c.fact_columns-columns.ensures.value
+    (omega (arith, c.if-column-columns.true))
+
+pub returns-then-column-columns-clause-most : goal.returns-then-column-columns-clause-most
+returns-then-column-columns-clause-most c =
+    subst (λ (t : List ℕ). length t ≤ 20)
+    (sym (name_first_at c.fact_columns-columns.result.now c.args.table c.args.column _
+    c.fact_columns-columns.ensures.value (omega (arith, c.if-column-columns.true))))
+    (name_short c.args.table c.args.column)

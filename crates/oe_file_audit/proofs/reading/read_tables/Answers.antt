@@ -9,7 +9,8 @@ use Rattle.oe_file_audit.proofs.reading.read_tables.Goals as goal
 pub loop-source-init : goal.loop-source-init
 loop-source-init g c = (
   [],
-  subst (λ told. TablesSpell g.S.Read.remaining c.args.format [] [] told) (sym c.new-2.ensures.items) TablesSpell.none,
+  subst (λ told. TablesSpell g.S.Read.remaining c.args.wanted c.args.format [] [] told) (sym c.new-2.ensures.items)
+      TablesSpell.none,
   c.new.ensures,
 )
 
@@ -51,7 +52,7 @@ returns g c =
     l.yielded l.source-iterator l.yielded_by c.next.result c.next.new.self c.in-None.is c.next.ensures.steps in
     record {
       read =
-          subst (λ sources. TablesRead g.S.Read.remaining c.args.format c.args.given sources l.so_far)
+          subst (λ sources. TablesRead g.S.Read.remaining c.args.wanted c.args.format c.args.given sources l.so_far)
           (sym (map-id l.yielded) ∙ end.0) l.invariant;
       unread = tt;
     }

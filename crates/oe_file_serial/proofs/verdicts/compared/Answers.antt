@@ -1,5 +1,5 @@
-use Rattle.std.proofs.Common.{◌≡◌, ℕ, ◌+◌, List, [], ◌∷◌, ◌++◌, length, refl, sym, ap, subst, ◌∙◌, append_assoc, arith}
-use Rattle.std.proofs.Common.{lit<, rules, Bor}
+use Rattle.std.proofs.Common.{◌≡◌, ℕ, ◌+◌, List, [], ◌∷◌, ◌++◌, length, take, refl, sym, ap, subst, ◌∙◌, append_assoc}
+use Rattle.std.proofs.Common.{arith, lit<, rules, Bor}
 use Rattle.std.proofs.lemmas.List.{append-nil, length-append}
 use Rattle.std.proofs.lemmas.List.Elements.{All-head, All-tail}
 use Rattle.std.specs.Prelude.{All}
@@ -7,8 +7,10 @@ use Rattle.oe_model.specs.System.{system}
 use Rattle.oe_core.specs.Core.{world_of}
 use Rattle.oe_file_serial.specs.Files.{IsTold, lines_of}
 use Rattle.oe_file_serial.specs.InOrder.{between}
+use Rattle.oe_file_serial.specs.Changes.{IsHint}
 use Rattle.oe_file_serial.specs.Worlds.{IsFree}
 use Rattle.oe_file_serial.specs.Verdicts.{Agrees, AreSerial, Differs}
+use Rattle.oe_file_serial.proofs.ChangeFacts.{first_are}
 use Rattle.oe_file_serial.proofs.LineFacts.{next_line, no_line}
 use Rattle.oe_file_serial.proofs.VerdictFacts.{serial_more, at_some, at_none}
 use Rattle.oe_file_serial.proofs.verdicts.compared.Goals as goal
@@ -45,19 +47,24 @@ returns-in-Ok-Some c =
     (between system (world_of c.other_text.new.core)))
     (λ (x : Bor (List ℕ)). Differs (between system (world_of c.loop-line.core)) c.in-Some.line.now x.now
     c.other_text.new.ours.items) c.in-Ok-Some.field-0 c.in-Ok-Some.theirs (search rules)
-    c.in-Ok-Some.ensures in (
-      record {
-        before = d.0;
-        line = c.in-Some.line.now;
-        behind = lines_of c.in-Some.rest.now;
-        mid = between system (world_of c.loop-line.core);
-        lines_are = d.1 ∙ ap (λ (ls : List (List ℕ)). d.0 ++ ls) next.0;
-        number_is = ap (λ (n : ℕ). n + 2) d.3;
-        agree = d.2;
-        differs = e;
-      },
-      c.last_change-last.ensures,
-    )
+    c.in-Ok-Some.ensures in
+    let first = first_are (lines_of c.args.lines.now) d.0 (lines_of c.loop-line.left.now) c.loop-line.count
+    c.loop-line.count d.1 d.3 refl in
+    let last = c.last_change-last.result in
+    record {
+      before = d.0;
+      line = c.in-Some.line.now;
+      behind = lines_of c.in-Some.rest.now;
+      mid = between system (world_of c.loop-line.core);
+      lines_are = d.1 ∙ ap (λ (ls : List (List ℕ)). d.0 ++ ls) next.0;
+      number_is = ap (λ (n : ℕ). n + 2) d.3;
+      agree = d.2;
+      differs = e;
+      hint =
+          subst (λ (ls : List (List ℕ)). IsHint ls c.in-Some.line.now c.other_text.new.ours.items last) first
+          (subst (λ (z : List ℕ). IsHint (take c.loop-line.count (lines_of c.args.lines.now)) c.in-Some.line.now z last)
+          c.as_slice.ensures.value c.last_change-last.ensures);
+    }
 
 pub loop-line-smaller : goal.loop-line-smaller
 loop-line-smaller c =
@@ -111,8 +118,8 @@ as_slice-requires c = lit< tt
 pub last_change-last-requires-clause-told : goal.last_change-last-requires-clause-told
 last_change-last-requires-clause-told c = c.requires.told
 
-pub last_change-last-requires-clause-short : goal.last_change-last-requires-clause-short
-last_change-last-requires-clause-short c =
+pub last_change-last-requires-clause-line : goal.last_change-last-requires-clause-line
+last_change-last-requires-clause-line c =
     let next = next_line c.loop-line.left.now c.in-Some.line.now c.in-Some.rest.now c.in-Some.ensures in
-    (All-head IsTold c.in-Some.line.now (lines_of c.in-Some.rest.now)
-    (subst (λ (ls : List (List ℕ)). All IsTold ls) next.0 c.loop-line.invariant.told)).2.short
+    All-head IsTold c.in-Some.line.now (lines_of c.in-Some.rest.now)
+    (subst (λ (ls : List (List ℕ)). All IsTold ls) next.0 c.loop-line.invariant.told)

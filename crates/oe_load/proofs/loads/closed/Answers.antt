@@ -6,9 +6,9 @@ use Rattle.oe_load.proofs.EndFacts.{closes_cut}
 use Rattle.oe_load.proofs.loads.closed.Goals as goal
 
 pub returns-in-Err : goal.returns-in-Err
-returns-in-Err g c = λ p is_flat start h.
-    closes_cut p is_flat start (g.W.Outlet.sink c.args.to.now) (g.W.Outlet.sink c.flush.new.to) c.args.out.now.items
+returns-in-Err g c = λ p o form start h.
+    closes_cut p o form start (g.W.Outlet.sink c.args.to.now) (g.W.Outlet.sink c.flush.new.to) c.args.out.now.items
     c.in-Ok.ending
-    (subst (λ (z : Result Ending Failed). Wrote p is_flat start (g.W.Outlet.sink c.args.to.now) c.args.out.now.items z)
+    (subst (λ (z : Result Ending Failed). Wrote p o form start (g.W.Outlet.sink c.args.to.now) c.args.out.now.items z)
     c.in-Ok.is h)
     c.in-Err.ensures.stream

@@ -29,3 +29,9 @@ returns-in-UndoFull c = λ before n.
     (subst (λ (e : Refusal). Next system before (Advance c.args.terminal) (refusal_in (step.Advance c.args.terminal) e)
     (world_of c.args.core.now)) c.in-UndoFull.is n))
     c.make_way.ensures
+
+pub returns-in-InvalidItem : goal.returns-in-InvalidItem
+returns-in-InvalidItem c = λ before n.
+    c.rolled_back.ensures before
+    (subst (λ (e : Refusal). Next system before (Advance c.args.terminal) (refusal_in (step.Advance c.args.terminal) e)
+    (world_of c.args.core.now)) c.in-InvalidItem.is n)

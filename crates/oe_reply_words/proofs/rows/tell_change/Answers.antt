@@ -1,7 +1,7 @@
-use Rattle.std.proofs.Common.{ℕ, List, ◌++◌, codes}
+use Rattle.std.proofs.Common.{◌++◌, codes}
 use Rattle.std.specs.Prelude.{decimal}
 use Rattle.oe_texts.specs.Key.{key_text}
-use Rattle.oe_reply_words.proofs.RowFacts.{behind}
+use Rattle.oe_reply_words.proofs.PartFacts.{and_then}
 use Rattle.oe_reply_words.proofs.rows.tell_change.Goals as goal
 
 pub returns-clause-items : goal.returns-clause-items
@@ -10,11 +10,11 @@ returns-clause-items c =
     let row = key_text c.args.change.now.row in
     let middle = codes " was changed last by line " in
     let line = decimal c.args.change.now.line in
-    let two = behind o (codes " (") row c.text.new.out.items c.row.new.out.items c.text.ensures.items
+    let two = and_then o (codes " (") row c.text.new.out.items c.row.new.out.items c.text.ensures.items
     c.row.ensures.items in
-    let three = behind o (codes " (" ++ row) middle c.row.new.out.items c.text-2.new.out.items two
+    let three = and_then o (codes " (" ++ row) middle c.row.new.out.items c.text-2.new.out.items two
     c.text-2.ensures.items in
-    let four = behind o (codes " (" ++ row ++ middle) line c.text-2.new.out.items c.decimal.new.out.items three
+    let four = and_then o (codes " (" ++ row ++ middle) line c.text-2.new.out.items c.decimal.new.out.items three
     c.decimal.ensures.items in
-    behind o (codes " (" ++ row ++ middle ++ line) (codes ")") c.decimal.new.out.items c.text-3.new.out.items four
+    and_then o (codes " (" ++ row ++ middle ++ line) (codes ")") c.decimal.new.out.items c.text-3.new.out.items four
     c.text-3.ensures.items

@@ -4,12 +4,12 @@ use Rattle.oe_books.specs.Closing.{IsSized}
 use Rattle.oe_books.proofs.ClosingFacts.{lack_is, each_few}
 use Rattle.oe_books.proofs.books.Books.close.Goals as goal
 
-pub returns-in-Some : goal.returns-in-Some
-returns-in-Some c given t h =
+pub returns-in-Some-clause-closed : goal.returns-in-Some-clause-closed
+returns-in-Some-clause-closed c given t h =
     lack_is given t c.args.self c.in-Some.lack (sym c.lack.ensures ∙ c.in-Some.is) h.rows
 
-pub returns : goal.returns
-returns c given t h =
+pub returns-clause-closed : goal.returns-clause-closed
+returns-clause-closed c given t h =
     let few = each_few t c.args.self (sym c.lack.ensures ∙ c.in_default.is) h.rows in
     let begun = c.begin.ensures given t h in
     let kept = c.settle.ensures.kept t begun.0 in

@@ -8,7 +8,7 @@ pub returns-in-Row : goal.returns-in-Row
 returns-in-Row g c = on_ok_weaker c.take.result
     (λ takes start rows faults got.
     got_row g.L.Ledger.holds start rows faults c.args.self.now _ c.args.table c.args.line (says c.args.said)
-    c.in-Row.fact (ap says c.in-Row.is) refl takes got) c.take.ensures
+    c.in-Row.row (ap says c.in-Row.is) refl takes got) c.take.ensures
 
 pub returns-in-Fault : goal.returns-in-Fault
 returns-in-Fault g c = on_ok_weaker c.push.result
