@@ -25,6 +25,7 @@ use oe_ports::ports::Outlet;
 use oe_tasks::AuditOptions;
 use std::io;
 use std::io::Read;
+use std::thread::Threads;
 
 // Says why a source was not read to its end.
 fn tell_unread<R: Eprint>(rt: &R, side: Side, unread: &Unread) -> io::Result<u8>
@@ -66,7 +67,7 @@ fn tell<R: Eprint, W: Output, E: Outlet>(
 }
 
 // Audits the tables in files that are open.
-fn audit_all<R: Eprint + AllocGlobal, S: Read + Drop, W: Output, E: Outlet>(
+fn audit_all<R: Eprint + AllocGlobal + Threads + Sync, S: Read + Drop + Send, W: Output, E: Outlet>(
     rt: &R,
     options: &Options,
     format: Format,
@@ -75,16 +76,21 @@ fn audit_all<R: Eprint + AllocGlobal, S: Read + Drop, W: Output, E: Outlet>(
     writer: &mut W,
     errors: &mut E,
 ) -> io::Result<u8>
-    ensures { Tells (TablesAudited S.remaining options.now format (option_map (λ v. v.items) before)
-        sources.items (W.sink writer.old) (W.sink writer.new)) audit_status
+    ensures { Tells (TablesAudited S.remaining options.now format
+        (option_map (λ v. v.items) before) sources.items (W.sink writer.old) (W.sink writer.new)) audit_status
         (audit_note (Some format)) (E.sink errors.old) (E.sink errors.new) result }
 {
-    let answer = audit_tables(rt.alloc(), options, format, before, sources, writer);
+    let answer = audit_tables(rt, rt.alloc(), options, format, before, sources, writer);
     tell(rt, Some(format), &answer, writer, errors)
 }
 
 // Audits the tables in files that are open beside those of an earlier folder of that name.
-fn audit_beside<R: Eprint + AllocGlobal, S: Read + Drop, W: Output, E: Outlet>(
+fn audit_beside<
+    R: Eprint + AllocGlobal + Threads + Sync,
+    S: Read + Drop + Send,
+    W: Output,
+    E: Outlet,
+>(
     rt: &R,
     options: &Options,
     format: Format,
@@ -108,7 +114,12 @@ fn audit_beside<R: Eprint + AllocGlobal, S: Read + Drop, W: Output, E: Outlet>(
 }
 
 // Audits the tables in files that are open, where the earlier files are open too.
-fn audit_open<R: Eprint + AllocGlobal, S: Read + Drop, W: Output, E: Outlet>(
+fn audit_open<
+    R: Eprint + AllocGlobal + Threads + Sync,
+    S: Read + Drop + Send,
+    W: Output,
+    E: Outlet,
+>(
     rt: &R,
     options: &Options,
     format: Format,
@@ -136,7 +147,12 @@ fn audit_open<R: Eprint + AllocGlobal, S: Read + Drop, W: Output, E: Outlet>(
 }
 
 // Audits the tables in the files of the folder of that name, one for each table.
-fn audit_folder<R: Eprint + AllocGlobal, S: Read + Drop, W: Output, E: Outlet>(
+fn audit_folder<
+    R: Eprint + AllocGlobal + Threads + Sync,
+    S: Read + Drop + Send,
+    W: Output,
+    E: Outlet,
+>(
     rt: &R,
     options: &Options,
     format: Format,
@@ -147,7 +163,8 @@ fn audit_folder<R: Eprint + AllocGlobal, S: Read + Drop, W: Output, E: Outlet>(
     errors: &mut E,
 ) -> io::Result<u8>
     ensures { FolderAnswered (W.sink writer.old) (W.sink writer.new) (E.sink errors.old)
-        (E.sink errors.new) S.remaining options.now format (option_map (λ f. f.sources) before.entry)
+        (E.sink errors.new) S.remaining options.now format
+        (option_map (λ f. f.sources) before.entry)
         sources result }
 {
     match sources {
@@ -166,7 +183,13 @@ fn tell_no_commas<R: Eprint>(rt: &R) -> io::Result<u8>
 }
 
 // Audits the tables in a dump that is open.
-fn audit_sections<R: Eprint + AllocGlobal, B: Read + Drop, S: Read + Drop, W: Output, E: Outlet>(
+fn audit_sections<
+    R: Eprint + AllocGlobal + Threads + Sync,
+    B: Read + Drop + Send,
+    S: Read + Drop,
+    W: Output,
+    E: Outlet,
+>(
     rt: &R,
     options: &Options,
     before: Option<Vec<TableSource<B>>>,
@@ -178,12 +201,18 @@ fn audit_sections<R: Eprint + AllocGlobal, B: Read + Drop, S: Read + Drop, W: Ou
         (S.remaining source) (W.sink writer.old) (W.sink writer.new))
         audit_status (audit_note None) (E.sink errors.old) (E.sink errors.new) result }
 {
-    let answer = run_dump(rt.alloc(), options, before, source, writer);
+    let answer = run_dump(rt, rt.alloc(), options, before, source, writer);
     tell(rt, None, &answer, writer, errors)
 }
 
 // Audits the tables in a dump that is open beside the files of an earlier folder of that name.
-fn audit_dump_beside<R: Eprint + AllocGlobal, B: Read + Drop, S: Read + Drop, W: Output, E: Outlet>(
+fn audit_dump_beside<
+    R: Eprint + AllocGlobal + Threads + Sync,
+    B: Read + Drop + Send,
+    S: Read + Drop,
+    W: Output,
+    E: Outlet,
+>(
     rt: &R,
     options: &Options,
     name: &str,
@@ -206,7 +235,13 @@ fn audit_dump_beside<R: Eprint + AllocGlobal, B: Read + Drop, S: Read + Drop, W:
 }
 
 // Audits the tables in a dump that is open, where the earlier files are open too.
-fn audit_behind<R: Eprint + AllocGlobal, B: Read + Drop, S: Read + Drop, W: Output, E: Outlet>(
+fn audit_behind<
+    R: Eprint + AllocGlobal + Threads + Sync,
+    B: Read + Drop + Send,
+    S: Read + Drop,
+    W: Output,
+    E: Outlet,
+>(
     rt: &R,
     options: &Options,
     before: Option<BeforeFolder<'_, B>>,
@@ -234,7 +269,13 @@ fn audit_behind<R: Eprint + AllocGlobal, B: Read + Drop, S: Read + Drop, W: Outp
 
 // Audits the tables in the dump of that name, whose sections are never comma-separated values. The
 // files of an earlier folder have tabs then.
-fn audit_dump<R: Eprint + AllocGlobal, B: Read + Drop, S: Read + Drop, W: Output, E: Outlet>(
+fn audit_dump<
+    R: Eprint + AllocGlobal + Threads + Sync,
+    B: Read + Drop + Send,
+    S: Read + Drop,
+    W: Output,
+    E: Outlet,
+>(
     rt: &R,
     options: &Options,
     format: Format,
@@ -260,7 +301,13 @@ fn audit_dump<R: Eprint + AllocGlobal, B: Read + Drop, S: Read + Drop, W: Output
 
 /// Audits the tables in the folder or the dump of that name: those that `open_audited` has opened.
 /// Where an earlier folder is given, rows are compared with its.
-pub fn answer_audit<R: Eprint + AllocGlobal, F: Read + Drop, D: Read + Drop, W: Output, E: Outlet>(
+pub fn answer_audit<
+    R: Eprint + AllocGlobal + Threads + Sync,
+    F: Read + Drop + Send,
+    D: Read + Drop,
+    W: Output,
+    E: Outlet,
+>(
     rt: &R,
     said: &AuditOptions,
     before: Option<BeforeFolder<'_, F>>,
@@ -270,7 +317,8 @@ pub fn answer_audit<R: Eprint + AllocGlobal, F: Read + Drop, D: Read + Drop, W: 
     errors: &mut E,
 ) -> io::Result<u8>
     ensures { AuditAnswered (W.sink writer.old) (W.sink writer.new) (E.sink errors.old)
-        (E.sink errors.new) F.remaining D.remaining said.now (option_map (λ f. f.sources) before.entry)
+        (E.sink errors.new) F.remaining D.remaining said.now
+        (option_map (λ f. f.sources) before.entry)
         files result }
 {
     let options = &audit_options(said);

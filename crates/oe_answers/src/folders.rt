@@ -64,7 +64,7 @@ const LASTING: [Table; 5] = [
     Table::Stock,
 ];
 
-/// Gives what stands before a table's name where it is told of.
+/// Gives what a line writes before a table's name.
 pub(crate) fn before_name(side: Side) -> &'static str {
     match side {
         Side::Now => "",
@@ -231,7 +231,7 @@ pub fn open_before<'a, 'p, 'r, R: Files + Eprint + AllocGlobal + Clock + Clone +
     }
 }
 
-// Opens a file that is a dump, of so many bytes.
+// Opens a dump, which has `bytes` bytes.
 fn open_dump<'p, 'r, R: Files + Eprint + Clock>(
     rt: &R,
     name: &str,

@@ -1,4 +1,4 @@
-//! What a person is told of nine files that are not open, no rows, or no population; and the status
+//! Notes for a person on nine files that are not open, no rows, or no population; and the status
 //! then.
 ghost use Rattle.std.specs.Prelude.{IfOk};
 ghost use Rattle.oe_answers.specs.Endings.{EndsWith, Told};

@@ -1,4 +1,4 @@
-//! What a person is told of what can't be judged. A note that can't be written whole is let go.
+//! Notes for a person on what can't be judged. A note that can't be written whole is let go.
 ghost use Rattle.oe_answers.specs.Endings.{Told};
 ghost use Rattle.oe_answers.specs.Notes.{verdict_note, comparison_verdict_note, audit_verdict_note};
 

@@ -4,3 +4,4 @@ pub mod ClosingFacts
 pub mod InitialFacts
 pub mod TakingFacts
 pub mod FoundFacts
+pub mod ApartFacts

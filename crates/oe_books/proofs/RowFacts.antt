@@ -1,8 +1,9 @@
 -- One row more.
-use Rattle.std.proofs.Common.{◌≡◌, ℕ, ◌+◌, ◌<◌, ◌≤◌, ◌^◌, List, [], ◌∷◌, length, Ok, Err, sym, ap, ◌∙◌, arith}
+use Rattle.std.proofs.Common.{◌≡◌, ℕ, ◌+◌, ◌<◌, ◌≤◌, ◌^◌, List, [], ◌∷◌, ◌++◌, length, Ok, Err, sym, ap, ◌∙◌, arith}
+use Rattle.std.proofs.Common.{subst, refl, append-nil, inl, inr}
 use Rattle.std.proofs.lemmas.List.{length-append}
 use Rattle.std.proofs.lemmas.List.Elements.{All-push}
-use Rattle.std.specs.Prelude.{All, OnOk, Result}
+use Rattle.std.specs.Prelude.{All, OnOk, Result, ◌⊎◌}
 use Rattle.std.specs.Int.RustNames.{unsigned_abs}
 use Rattle.oe_facts.specs.declared.facts.DistrictFact.{DistrictFact}
 use Rattle.oe_facts.specs.declared.facts.HistoryFact.{HistoryFact}
@@ -35,6 +36,23 @@ one_more IsKept old new f e takes facts h = record {
   counted = e ∙ ap (λ n. capped (n + 1)) h.counted ∙ capped_more (length facts)
       ∙ ap capped (sym (length-append facts (f ∷ [])));
 }
+
+-- a ledger that counts none is of no fact
+none_counted : {F : Type 0} (facts : List F) → 0 ≡ capped (length facts) → facts ≡ []
+none_counted [] e = refl
+none_counted (f ∷ facts) e = absurd (omega (arith, e))
+
+module _ {F L : Type 0} (IsKept : List F → L → Type 0) (old other new : Rows L) where
+  -- a ledger took all rows of another, where one of both has none
+  pub all_more : ((new ≡ old) × (other.count ≡ 0)) ⊎ ((new ≡ other) × (old.count ≡ 0))
+      → (facts more : List F) → IsOf IsKept facts old → IsOf IsKept more other → IsOf IsKept (facts ++ more) new
+  all_more (inl is) facts more h g =
+      let none = none_counted more (sym is.1 ∙ g.counted) in
+      subst (λ xs. IsOf IsKept (facts ++ xs) new) (sym none)
+      (subst (λ xs. IsOf IsKept xs new) (sym (append-nil facts)) (subst (IsOf IsKept facts) (sym is.0) h))
+  all_more (inr is) facts more h g =
+      let none = none_counted facts (sym is.1 ∙ h.counted) in
+      subst (λ xs. IsOf IsKept (xs ++ more) new) (sym none) (subst (IsOf IsKept more) (sym is.0) g)
 
 pub districts_more : (old new : Districts) (f : DistrictFact) → unsigned_abs f.ytd ≤ 2 ^ 63
     → Takes KeepsDistricts old new f → Takes BookDistricts old new f

@@ -1,5 +1,5 @@
 -- The facts of nine tables, each table's in the order of its rows.
-use Rattle.std.specs.Prelude.{ℕ, List, [], ◌∷◌, ◌++◌, length, Option, Some, None}
+use Rattle.std.specs.Prelude.{ℕ, Bool, true, false, List, [], ◌∷◌, ◌++◌, length, Option, Some, None}
 use Rattle.std.specs.List.{fold}
 use Rattle.std.specs.Option.{option_or}
 use Rattle.oe_facts.specs.declared.facts.WarehouseFact.{WarehouseFact}
@@ -60,6 +60,30 @@ with_fact t (fact.Stock f) = record t { stocks = t.stocks ++ f ∷ [] }
 -- these facts by their tables
 abbrev pub parted : List Fact → Facts
 parted facts = fold with_fact no_facts facts
+
+-- Rows of these tables are taken in alike, wherever they come. Those of the other three are not: the CUSTOMER rows
+-- before the first ORDER or ORDER-LINE row tell how many orders the population had.
+abbrev pub stands_apart : Table → Bool
+stands_apart table.Warehouse = true
+stands_apart table.District = true
+stands_apart table.Customer = false
+stands_apart table.History = true
+stands_apart table.NewOrder = true
+stands_apart table.Order = false
+stands_apart table.OrderLine = false
+stands_apart table.Item = true
+stands_apart table.Stock = true
+
+-- with the facts of others behind, of the tables that stand apart
+abbrev pub with_apart : Facts → Facts → Facts
+with_apart t u = record t {
+  warehouses = t.warehouses ++ u.warehouses;
+  districts = t.districts ++ u.districts;
+  histories = t.histories ++ u.histories;
+  new_orders = t.new_orders ++ u.new_orders;
+  items = t.items ++ u.items;
+  stocks = t.stocks ++ u.stocks;
+}
 
 -- how many facts a table has
 abbrev pub rows_of : Facts → Table → ℕ

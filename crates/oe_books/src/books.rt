@@ -4,8 +4,8 @@
 //! ORDER-LINE row comes: it is given, or it is the number of CUSTOMER rows that a district has by
 //! then. Only memory can be refused; the books are lost then, and stay so: they take no fact, and
 //! are not closed.
-ghost use Rattle.std.specs.Prelude.{◌≡◌, ℕ, Option, OnOk, is_err, false, IsErr};
-ghost use Rattle.oe_books.specs.Facts.{Facts, no_facts, with_fact};
+ghost use Rattle.std.specs.Prelude.{◌≡◌, ℕ, Option, OnOk, OnSome, IfNone, is_err, false, IsErr, IsNone};
+ghost use Rattle.oe_books.specs.Facts.{Facts, no_facts, with_fact, with_apart};
 ghost use Rattle.oe_books.specs.Keeping.{KeepsRows, Keeps, IsBegun, IsLost, behind_customer};
 
 use crate::rows::{
@@ -141,5 +141,64 @@ impl Books {
         let entered = self.enter(fact);
         self.is_lost = entered.is_err();
         entered
+    }
+
+    // Takes in the rows of other books, of the tables that stand apart. None where both have rows of
+    // one; some ledgers may have theirs then.
+    fn take_all(&mut self, other: Books) -> Option<()>
+        ensures keeps { OnSome result ((given own : Option ℕ) (t u : Facts) → Keeps given t self.old
+            → Keeps own u other → Keeps given (with_apart t u) self.new) }
+        ensures lost { self.new.is_lost ≡ self.old.is_lost }
+    {
+        let Books {
+            alloc: _,
+            is_lost: _,
+            initial: _,
+            warehouses,
+            districts,
+            customers: _,
+            histories,
+            new_orders,
+            orders: _,
+            lines: _,
+            items,
+            stocks,
+        } = other;
+        let in_warehouses = self.warehouses.take_all(warehouses);
+        let in_districts = self.districts.take_all(districts);
+        let in_histories = self.histories.take_all(histories);
+        let in_new_orders = self.new_orders.take_all(new_orders);
+        let in_items = self.items.take_all(items);
+        let in_stocks = self.stocks.take_all(stocks);
+        in_warehouses
+            .and(in_districts)
+            .and(in_histories)
+            .and(in_new_orders)
+            .and(in_items)
+            .and(in_stocks)
+    }
+
+    /// Takes in the rows of other books, but for those of CUSTOMER, ORDER and ORDER-LINE: where these
+    /// come tells how many orders the population had. None where both have rows of one table, or the
+    /// others are lost; the books are lost then.
+    pub fn append_apart(&mut self, other: Books) -> Option<()>
+        ensures keeps { OnSome result ((given own : Option ℕ) (t u : Facts) → Keeps given t self.old
+            → Keeps own u other → Keeps given (with_apart t u) self.new) }
+        ensures lost { IfNone result (IsLost self.new) }
+        ensures stays { OnSome result (self.new.is_lost ≡ self.old.is_lost) }
+        ensures refused { IsLost other → IsNone result }
+    {
+        if other.is_lost {
+            other.discard();
+            self.is_lost = true;
+            return None;
+        }
+        match self.take_all(other) {
+            Some(()) => Some(()),
+            None => {
+                self.is_lost = true;
+                None
+            }
+        }
     }
 }

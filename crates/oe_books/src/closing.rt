@@ -142,7 +142,7 @@ impl Books {
 
     // Gives the books up. Each way out that drops them costs its check a minute, so that one does.
     #[inline(never)]
-    fn discard(self) {}
+    pub(crate) fn discard(self) {}
 
     /// Closes the books behind the last row. Where memory is refused, or was before, they are lost.
     pub fn close(mut self, alloc: Global) -> Result<Closed, AllocError>

@@ -1,5 +1,5 @@
 //! A table's ledger, with the number of its rows.
-ghost use Rattle.std.specs.Prelude.{◌≡◌, ◌<◌, ◌≤◌, ◌+◌, ◌^◌, [], OnOk};
+ghost use Rattle.std.specs.Prelude.{◌≡◌, ◌⊎◌, ◌<◌, ◌≤◌, ◌+◌, ◌^◌, [], OnOk, OnSome};
 ghost use Rattle.std.specs.Int.RustNames.{unsigned_abs};
 ghost use Rattle.oe_ledgers.specs.Keeping.{KeepsWarehouses, KeepsCustomers, KeepsNewOrders, KeepsItems, KeepsStocks, Takes};
 ghost use Rattle.oe_books.specs.Keeping.{capped, IsOf, BookDistricts, BookHistories, BookOrders, BookLines};
@@ -29,6 +29,23 @@ pub struct Lines {
 }
 
 impl<L> Rows<L> {
+    /// Takes the rows of another ledger in, where one of both has none.
+    pub(crate) fn take_all(&mut self, other: Rows<L>) -> Option<()>
+    where
+        L: Drop,
+        ensures { OnSome result (((self.new ≡ self.old) × (other.count ≡ 0))
+            ⊎ ((self.new ≡ other) × (self.old.count ≡ 0))) }
+    {
+        if other.count == 0 {
+            return Some(());
+        }
+        if self.count == 0 {
+            *self = other;
+            return Some(());
+        }
+        None
+    }
+
     /// Takes a ledger without a row.
     pub(crate) fn new(kept: L) -> Rows<L>
         ensures { result ≡ record { kept = kept; count = 0 } }

@@ -1,3 +1,4 @@
+pub mod Ahead
 pub mod Columns
 pub mod Constants
 pub mod Facts

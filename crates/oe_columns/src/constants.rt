@@ -340,7 +340,8 @@ pub fn heading_constants(
     format: Format,
     line: &[u8],
 ) -> Result<Constants, LayoutFault>
-    ensures { result ≡ wanted_constants wanted (heading_constants table (fields_of format line.now)) }
+    ensures { result
+        ≡ wanted_constants wanted (heading_constants table (fields_of format line.now)) }
 {
     match wanted {
         Wanted::Facts => Ok(Constants::none()),

@@ -25,8 +25,8 @@ pub enum Named {
     Twice,
 }
 
-/// Why the places of the columns are not known. A column is told by its number among those that a
-/// fact needs.
+/// Why the places of the columns are not known. A column's number counts the columns that a fact
+/// needs.
 #[derive(Clone, Copy)]
 pub enum LayoutFault {
     /// The heading does not name this column.

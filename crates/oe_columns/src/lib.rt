@@ -1,6 +1,6 @@
-//! The columns that a fact needs of its table, their places on a line, and the fact that a line
-//! spells; and the print of the columns that no transaction changes. Clause numbers are TPC
-//! Benchmark C 5.11's.
+//! The columns that a fact needs of its table, their places on a line, the fact that a line spells,
+//! and the print of the columns that no transaction changes. Clause numbers are TPC Benchmark C
+//! 5.11's.
 #![tactic(auto)]
 
 pub mod columns;

@@ -140,7 +140,18 @@ fn row_print(table: Table, row: &mut Row<'_>) -> u64
     print
 }
 
+/// Makes the print of a line whose columns stand at these places.
+#[inline(never)]
+fn line_print(table: Table, format: Format, line: &[u8], places: &[usize]) -> u64
+    ensures { result ≡ row_mixed (constants_of table) 0
+        (record { places = places.now; fields = fields_of format line.now }) START }
+{
+    let mut row = Row::new(format, line, places);
+    row_print(table, &mut row)
+}
+
 /// Makes the print of a row, where the places of its columns are known.
+#[inline]
 pub fn print(table: Table, format: Format, line: &[u8], constants: &Constants) -> Option<u64>
     ensures { result
         ≡ print_of table (record { places = constants.now; fields = fields_of format line.now }) }
@@ -149,6 +160,5 @@ pub fn print(table: Table, format: Format, line: &[u8], constants: &Constants) -
     if places.is_empty() {
         return None;
     }
-    let mut row = Row::new(format, line, places);
-    Some(row_print(table, &mut row))
+    Some(line_print(table, format, line, places))
 }

@@ -2,15 +2,17 @@
 //!
 //! A row is seen as the places of its columns, and the fields of its line. Nothing that is read
 //! changes it. The only error is the first column whose field does not spell what it has to.
-ghost use Rattle.std.specs.Prelude.{◌≡◌, ◌≤◌, IfOk};
+ghost use Rattle.std.specs.Prelude.{◌≡◌, ◌≤◌, [], IfOk, IfSome, Some};
 ghost use Rattle.std.specs.Option.{option_copied};
 ghost use Rattle.oe_columns.specs.Columns.{id, district_id, line_number, small, counter};
+ghost use Rattle.oe_columns.specs.Ahead.{AreFirst};
 ghost use Rattle.oe_columns.specs.Values.{Number, Quantity, Money, Presence, Flag, field_at, column, number_found, read_as};
 ghost use Rattle.oe_fields.specs.Parting.{fields_of};
-ghost use Rattle.oe_fields.specs.Spelling.{number_in};
+ghost use Rattle.oe_fields.specs.Spelling.{number_in, amount_in};
 ghost use Rattle.oe_columns.specs.declared.columns.Kind.TheVariants as kind;
 
-use oe_fields::{Fields, Format, amount, flag, is_null, quantity};
+use arrayvec::ArrayVec;
+use oe_fields::{Fields, Format, flag, is_null, quantity};
 use std::marker::Model;
 
 /// The first column, by its number among those that a fact needs, whose field does not spell what
@@ -32,15 +34,44 @@ fn ranged(at: usize, low: u64, high: u64, n: Option<u64>) -> Result<u64, Misfit>
     }
 }
 
-/// A line, and the places of the columns that are read.
+/// So many columns are read at once: no table has more numbers in front.
+const AHEAD: usize = 6;
+
+/// Reads the numbers of the first columns, as long as these are the line's next fields.
+#[inline(always)]
+fn numbers_ahead(fields: &mut Fields<'_>, places: &[usize], ahead: &mut ArrayVec<u64, AHEAD>)
+    requires { ahead.old.items ≡ [] }
+    ensures format { fields.new.format ≡ fields.old.format }
+    ensures text { fields.new.text ≡ fields.old.text }
+    ensures value { AreFirst (fields_of fields.old.format fields.old.text) places.now
+        ahead.new.items }
+{
+    for place in places {
+        if AHEAD <= ahead.len() {
+            return;
+        }
+        if *place != fields.place() {
+            return;
+        }
+        match fields.take_digits() {
+            Some(n) => ahead.push(n),
+            None => return,
+        }
+    }
+}
+
+/// A line, and the places of the columns that are read. The numbers of the first columns are read
+/// with the row.
 #[derive(Drop)]
 pub struct Row<'a> {
     fields: Fields<'a>,
     places: &'a [usize],
+    ahead: ArrayVec<u64, AHEAD>,
 }
 
 impl<'a> Model for Row<'a> {
     ghost use Rattle.oe_columns.specs.Values.{Placed};
+    ghost use Rattle.oe_columns.specs.Ahead.{AreFirst};
     ghost use Rattle.oe_fields.specs.Parting.{fields_of};
 
     ghost Value = { Placed };
@@ -49,6 +80,9 @@ impl<'a> Model for Row<'a> {
       places = r.places.now;
       fields = fields_of r.fields.format r.fields.text;
     } };
+
+    ghost invariant = { λ r. AreFirst (fields_of r.fields.format r.fields.text) r.places.now
+        r.ahead.items };
 }
 
 impl<'a> Row<'a> {
@@ -57,9 +91,13 @@ impl<'a> Row<'a> {
     pub fn new(format: Format, line: &'a [u8], places: &'a [usize]) -> Row<'a>
         ensures { result ≡ record { places = places.now; fields = fields_of format line.now } }
     {
+        let mut fields = Fields::new(format, line);
+        let mut ahead = ArrayVec::new();
+        numbers_ahead(&mut fields, places, &mut ahead);
         Row {
-            fields: Fields::new(format, line),
+            fields,
             places,
+            ahead,
         }
     }
 
@@ -76,10 +114,21 @@ impl<'a> Row<'a> {
         }
     }
 
-    /// Gives the whole number of a column's field, if it is there and spells one.
+    /// Gives the number of a column that was read with the row.
     #[inline]
+    fn known(&self, at: usize) -> Option<u64>
+        ensures { IfSome result (λ n. Some n ≡ number_in (field_at self.now at)) }
+    {
+        match self.ahead.as_slice().get(at) {
+            Some(n) => Some(*n),
+            None => None,
+        }
+    }
+
+    /// Gives the whole number of a column's field, which is looked for.
+    #[inline(never)]
     #[tactic(auto, unfolding(crate::specs::Values::field_at))]
-    fn whole(&mut self, at: usize) -> Option<u64>
+    fn far_whole(&mut self, at: usize) -> Option<u64>
         ensures same { self.new ≡ self.old }
         ensures value { result ≡ number_in (field_at self.old at) }
     {
@@ -87,6 +136,18 @@ impl<'a> Row<'a> {
             Some(place) => self.fields.number_at(*place),
             None => None,
         }
+    }
+
+    /// Gives the whole number of a column's field, if it is there and spells one.
+    #[inline(always)]
+    fn whole(&mut self, at: usize) -> Option<u64>
+        ensures same { self.new ≡ self.old }
+        ensures value { result ≡ number_in (field_at self.old at) }
+    {
+        if let Some(n) = self.known(at) {
+            return Some(n);
+        }
+        self.far_whole(at)
     }
 
     /// Reads a number in its range.
@@ -150,10 +211,10 @@ impl<'a> Row<'a> {
         self.number(at, 0, 18_446_744_073_709_551_615)
     }
 
-    /// Reads S_QUANTITY.
-    #[inline]
+    /// Reads a quantity by its field.
+    #[inline(never)]
     #[tactic(auto, unfolding(crate::specs::Values::column, crate::specs::Values::value_of))]
-    pub(crate) fn quantity(&mut self, at: usize) -> Result<i64, Misfit>
+    fn far_quantity(&mut self, at: usize) -> Result<i64, Misfit>
         ensures same { self.new ≡ self.old }
         ensures value { read_as (λ z. Quantity z) result ≡ column kind.Quantity at self.old }
     {
@@ -166,17 +227,40 @@ impl<'a> Row<'a> {
         }
     }
 
+    /// Reads S_QUANTITY.
+    #[inline]
+    pub(crate) fn quantity(&mut self, at: usize) -> Result<i64, Misfit>
+        ensures same { self.new ≡ self.old }
+        ensures value { read_as (λ z. Quantity z) result ≡ column kind.Quantity at self.old }
+    {
+        if let Some(n) = self.known(at) {
+            if n <= 1_000_000_000_000_000 {
+                return Ok(n as i64);
+            }
+        }
+        self.far_quantity(at)
+    }
+
+    /// Gives the amount of a column's field, if it is there and spells one.
+    #[inline]
+    #[tactic(auto, unfolding(crate::specs::Values::field_at))]
+    fn cents(&mut self, at: usize) -> Option<i64>
+        ensures same { self.new ≡ self.old }
+        ensures value { result ≡ amount_in (field_at self.old at) }
+    {
+        match self.places.get(at) {
+            Some(place) => self.fields.amount_at(*place),
+            None => None,
+        }
+    }
+
     /// Reads an amount of money.
     #[inline]
-    #[tactic(auto, unfolding(crate::specs::Values::column, crate::specs::Values::value_of))]
     pub(crate) fn amount(&mut self, at: usize) -> Result<i64, Misfit>
         ensures same { self.new ≡ self.old }
         ensures value { read_as (λ z. Money z) result ≡ column kind.Amount at self.old }
     {
-        let Some(field) = self.field(at) else {
-            return Err(Misfit { column: at });
-        };
-        match amount(field) {
+        match self.cents(at) {
             Some(z) => Ok(z),
             None => Err(Misfit { column: at }),
         }

@@ -1,6 +1,6 @@
 //! Whether the tables that a serial file's transactions leave are those in nine files. Each file's
-//! rows are walked beside the table's, in the order of their keys, and the first row that differs
-//! is told. Clause numbers are TPC Benchmark C 5.11's.
+//! rows are walked beside the table's, in the order of their keys, and a line names the first row
+//! that differs. Clause numbers are TPC Benchmark C 5.11's.
 #![tactic(auto)]
 
 mod columns;

@@ -1,5 +1,5 @@
 //! A file's rows beside this order's, both in one order: a walk tells the first that differs, and
-//! counts the others. How rows compare, and what is told of them, is for those who compare.
+//! counts the others. The caller says how rows compare, and what a line says of them.
 ghost use Rattle.std.specs.Prelude.{◌≡◌, ◌+◌, ℕ, List, OnOk, IfOk, Some, if◌then◌else◌};
 ghost use Rattle.std.specs.Iterator.{YieldsFirstBy};
 ghost use Rattle.std.specs.declared.cmp.Ordering.{Ordering};
@@ -36,7 +36,7 @@ pub(crate) enum Turn {
     Passed(Ordering, u64),
 }
 
-/// How rows with such keys are compared, and what is told of those that differ.
+/// How rows of one table are compared, and what lines say of rows that differ.
 pub(crate) trait Comparing<K, R> {
     /// The order of both sides' rows.
     ghost order_of: { K → K → Ordering };

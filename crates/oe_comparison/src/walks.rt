@@ -1,5 +1,5 @@
-//! A table's rows beside its file's, in the order of their keys: the first that differs is told, and
-//! the others are counted.
+//! A table's rows beside its file's, in the order of their keys: a line names the first that
+//! differs, and the others are counted.
 ghost use Rattle.std.specs.Prelude.{◌≡◌, OnOk, Some};
 ghost use Rattle.std.specs.declared.cmp.Ordering.TheVariants.{Equal};
 ghost use Rattle.oe_comparison.specs.Columns.{shown, first_other};
@@ -92,7 +92,7 @@ fn pass_both<K, R: RowLine<K> + DumpedRow<K> + ComparedRow>(
     pass_column(their_key, theirs, key, ours, others, report)
 }
 
-/// Rows are compared with those of their keys.
+/// A row is compared with the row of its own key.
 pub(crate) struct ByKey;
 
 impl<K: TableKey, R: RowLine<K> + DumpedRow<K> + ComparedRow> Comparing<K, R> for ByKey {

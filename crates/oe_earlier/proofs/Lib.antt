@@ -1,2 +1,2 @@
 -- What this crate's proofs share.
-mod KeptFacts
+pub mod KeptFacts

@@ -52,3 +52,14 @@ with_row t print (fact.History f) = t
 with_row t print (fact.NewOrder f) = t
 with_row t print (fact.Order f) = t
 with_row t print (fact.OrderLine f) = t
+
+-- the rows of both, one list behind the other
+abbrev pub traced_together : Traced → Traced → Traced
+traced_together t u = record {
+  warehouses = t.warehouses ++ u.warehouses;
+  districts = t.districts ++ u.districts;
+  customers = t.customers ++ u.customers;
+  items = t.items ++ u.items;
+  stocks = t.stocks ++ u.stocks;
+  residues = t.residues ++ u.residues;
+}

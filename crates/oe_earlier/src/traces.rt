@@ -1,13 +1,13 @@
 //! What is kept of WAREHOUSE, DISTRICT, CUSTOMER, ITEM and STOCK rows to compare them with earlier
 //! ones: by key how many there are and their print, and of a STOCK row (S_QUANTITY + S_YTD) mod 91.
 //!
-//! A print is 64 bits of the columns that no transaction changes; who gives it says of which. Where
-//! a key stands more than once, its greatest print counts. Only memory can be refused; a row may
+//! A print is 64 bits of the columns that no transaction changes; the caller chooses them. Where a
+//! key stands more than once, its greatest print counts. Only memory can be refused; a row may
 //! then be in part of the sums.
-ghost use Rattle.std.specs.Prelude.{◌≡◌, ◌++◌, ◌∷◌, [], List, OnOk};
+ghost use Rattle.std.specs.Prelude.{◌≡◌, ◌++◌, ◌∷◌, [], List, OnOk, OnSome};
 ghost use Rattle.oe_facts.specs.declared.tables.Fact.TheVariants as fact;
 ghost use Rattle.oe_tally.specs.Tallies.{SameTotals};
-ghost use Rattle.oe_earlier.specs.Traces.{trace_of, traces_joined, residue_of, Traced, no_rows, with_row};
+ghost use Rattle.oe_earlier.specs.Traces.{trace_of, traces_joined, residue_of, Traced, no_rows, with_row, traced_together};
 ghost use Rattle.oe_earlier.specs.Keeping.{KeepsTraces, AreSettledTraces};
 ghost use Rattle.oe_earlier.specs.declared.traces.Trace.{Trace};
 
@@ -106,6 +106,20 @@ fn put<K: Ord + Copy>(tally: &mut Tally<K, Trace>, key: K, print: u64) -> Result
     tally.add(key, Trace::of(print))
 }
 
+// Takes the entries of another tally in, where one of both has none.
+fn take_all<K: Ord + Copy, V: Join>(kept: &mut Tally<K, V>, other: Tally<K, V>) -> Option<()>
+    ensures { OnSome result (kept.new ≡ kept.old ++ other) }
+{
+    if other.entries().is_empty() {
+        return Some(());
+    }
+    if kept.entries().is_empty() {
+        *kept = other;
+        return Some(());
+    }
+    None
+}
+
 impl Traces {
     /// Begins without a row.
     pub fn new(alloc: Global) -> Self
@@ -148,6 +162,34 @@ impl Traces {
             Fact::Order(_) => Ok(()),
             Fact::OrderLine(_) => Ok(()),
         }
+    }
+
+    /// Takes in what is kept of rows of other tables. None where both have rows of one; some of the
+    /// sums may have theirs then.
+    pub fn append(&mut self, other: Traces) -> Option<()>
+        ensures { OnSome result ((t u : Traced) → KeepsTraces t self.old → KeepsTraces u other
+            → KeepsTraces (traced_together t u) self.new) }
+    {
+        let Traces {
+            warehouses,
+            districts,
+            customers,
+            items,
+            stocks,
+            residues,
+        } = other;
+        let in_warehouses = take_all(&mut self.warehouses, warehouses);
+        let in_districts = take_all(&mut self.districts, districts);
+        let in_customers = take_all(&mut self.customers, customers);
+        let in_items = take_all(&mut self.items, items);
+        let in_stocks = take_all(&mut self.stocks, stocks);
+        let in_residues = take_all(&mut self.residues, residues);
+        in_warehouses
+            .and(in_districts)
+            .and(in_customers)
+            .and(in_items)
+            .and(in_stocks)
+            .and(in_residues)
     }
 
     /// Puts all sums in the order of their keys.

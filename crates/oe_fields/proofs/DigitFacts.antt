@@ -30,7 +30,7 @@ held_large : (n : ℕ) (s : List ℕ) → 2 ^ 64 ≤ n → held n s ≡ None
 unfolding held
 held_large n s h = rw (le-ltb n (2 ^ 64) h) refl
 
-more_small : (n d : ℕ) → n * 10 + (d - 48) < 2 ^ 64 → more_of n d ≡ Some (n * 10 + (d - 48))
+pub more_small : (n d : ℕ) → n * 10 + (d - 48) < 2 ^ 64 → more_of n d ≡ Some (n * 10 + (d - 48))
 unfolding more_of
 more_small n d h = rw (lt-ltb (n * 10 + (d - 48)) (2 ^ 64) h) refl
 

@@ -6,7 +6,7 @@ use Rattle.std.specs.Prelude.{slice_get, slice_range, nat_le}
 use Rattle.std.specs.Option.{IfSome}
 use Rattle.std.proofs.Common.{take, get_or, ◌-◌}
 use Rattle.std.proofs.lemmas.List.{take_rest}
-use Rattle.oe_fields.specs.Front.{BeginsWithNumber}
+use Rattle.oe_fields.specs.Front.{BeginsWith, BeginsWithNumber}
 use Rattle.std.specs.Option.{option_map}
 use Rattle.std.specs.Char.{is_ascii_digit}
 use Rattle.std.proofs.lemmas.Bool.Decides.{nat_tests}
@@ -16,7 +16,7 @@ use Rattle.oe_fields.specs.declared.fields.Format.TheVariants.{Tabs, Commas}
 use Rattle.oe_fields.specs.Parting.{separator, held_behind, parts, before_first, parted_from, left_of, is_quoted}
 use Rattle.oe_fields.specs.Parting.{text_of, fields_of}
 use Rattle.oe_fields.specs.Spelling.{digits_of, behind_digits, begins_with_digit, sum_of_digits, whole_of}
-use Rattle.oe_fields.specs.Spelling.{number_of, number_in}
+use Rattle.oe_fields.specs.Spelling.{number_of, value_in}
 use Rattle.oe_fields.proofs.PartFacts.{next_left, at_mapped}
 
 -- the digits and what is left behind them
@@ -29,7 +29,7 @@ digits_whole (b ∷ s) =
     ]
 
 -- a digit parts no fields, and holds nothing
-digit_plain : (format : Format) (b : ℕ) → is_ascii_digit b ≡ true
+pub digit_plain : (format : Format) (b : ℕ) → is_ascii_digit b ≡ true
     → (parts format false b ≡ false) × (held_behind format false b ≡ false)
 digit_plain Tabs b h = grind (arith, nat_tests)
 digit_plain Commas b h = grind (arith, nat_tests)
@@ -39,7 +39,7 @@ abbrev pub ended_by : Format → Option (List ℕ) → List ℕ
 ended_by format None = []
 ended_by format (Some s) = separator format ∷ s
 
-parted_end : (format : Format) (left : Option (List ℕ))
+pub parted_end : (format : Format) (left : Option (List ℕ))
     → parted_from format false (ended_by format left) ≡ [] ∷ left_of format left
 parted_end format None = refl
 parted_end Tabs (Some s) = refl
@@ -80,7 +80,7 @@ none_behind_digits (b ∷ s) =
       | false ↦ λ h. refl
     ]) refl
 
-begins : (s : List ℕ) → length (behind_digits s) ≢ length s → begins_with_digit (digits_of s) ≡ true
+pub begins : (s : List ℕ) → length (behind_digits s) ≢ length s → begins_with_digit (digits_of s) ≡ true
 begins [] h = absurd (h refl)
 begins (b ∷ s) h =
     (elim (is_ascii_digit b) as
@@ -100,12 +100,12 @@ behind_short (b ∷ s) =
     ]
 
 -- what was read at the front
-record Read (s : List ℕ) (n : ℕ) (r : List ℕ) : Type 0 where
-  small : sum_of_digits (digits_of s) < 2 ^ 64
-  number : n ≡ sum_of_digits (digits_of s)
-  rest : r ≡ behind_digits s
+pub record Read (s : List ℕ) (n : ℕ) (r : List ℕ) : Type 0 where
+  pub small : sum_of_digits (digits_of s) < 2 ^ 64
+  pub number : n ≡ sum_of_digits (digits_of s)
+  pub rest : r ≡ behind_digits s
 
-was_read : (s : List ℕ) (n : ℕ) (r : List ℕ) → whole_of s ≡ Some (n, r) → Read s n r
+pub was_read : (s : List ℕ) (n : ℕ) (r : List ℕ) → whole_of s ≡ Some (n, r) → Read s n r
 unfolding whole_of
 was_read s n r e = by_size (nat_lt (sum_of_digits (digits_of s)) (2 ^ 64)) refl e
   where
@@ -133,7 +133,7 @@ and_false : (t : Bool) → (t && false) ≡ false
 and_false true = refl
 and_false false = refl
 
-digits_text : (format : Format) (s : List ℕ) → begins_with_digit s ≡ true → text_of format s ≡ s
+pub digits_text : (format : Format) (s : List ℕ) → begins_with_digit s ≡ true → text_of format s ≡ s
 unfolding text_of
 digits_text Tabs s h = refl
 digits_text Commas [] h = refl
@@ -174,15 +174,16 @@ at_separator format [] b d h e is = absurd (omega (arith, h))
 at_separator format (c ∷ s) b d h e is =
     ap (λ x. x ∷ s) (e ∙ is) ∙ ap (λ z. separator format ∷ z) (sym (take_rest (c ∷ s) 1))
 
-pub taken_number : (format : Format) (line : List ℕ) (place n : ℕ) (s : List ℕ) (left : Option (List ℕ))
-    → parted_from format false s ≡ drop place (parted_from format false line) → BeginsWithNumber format s n left
-    → (Some n ≡ number_in (slice_get (fields_of format line) place))
+pub taken_value : {A : Type 0} (spells : List ℕ → Option A) (format : Format) (line : List ℕ) (place : ℕ) (v : A)
+    (s : List ℕ) (left : Option (List ℕ))
+    → parted_from format false s ≡ drop place (parted_from format false line) → BeginsWith spells format s v left
+    → (Some v ≡ value_in spells (slice_get (fields_of format line) place))
     × (left_of format left ≡ drop (place + 1) (parted_from format false line))
 unfolding fields_of
-taken_number format line place n s left e b =
+taken_value spells format line place v s left e b =
     let next = next_left (parted_from format false line) place b.field (left_of format left) (sym b.parted ∙ e) in
     let at : suc place ≡ place + 1 = omega arith in (
-      sym (ap number_in (at_mapped (text_of format) (parted_from format false line) place
+      sym (ap (value_in spells) (at_mapped (text_of format) (parted_from format false line) place
           ∙ ap (option_map (text_of format)) (sym next.1)) ∙ b.spelled),
       next.0 ∙ ap (λ p. drop p (parted_from format false line)) at,
     )

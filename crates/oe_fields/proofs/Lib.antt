@@ -1,3 +1,4 @@
+pub mod AmountFacts
 pub mod DigitFacts
 pub mod FrontFacts
 pub mod PartFacts

@@ -1,12 +1,13 @@
 -- Where a line is parted.
 use Rattle.std.proofs.Common.{◌≡◌, ℕ, zero, suc, ◌+◌, ◌-◌, ◌<◌, ◌≤◌, List, [], ◌∷◌, length, take, drop, get_or, Bool}
 use Rattle.std.proofs.Common.{true, false, cond, Option, Some, None, sym, ap, ◌∙◌, refl, arith, take_all, map}
+use Rattle.std.proofs.Common.{length-take, get_or-take, drop-drop, min, subst, ◌||◌, ◌==◌}
 use Rattle.std.proofs.lemmas.Bool.Decides.{nat_tests}
 use Rattle.std.specs.Prelude.{slice_get}
 use Rattle.std.specs.Option.{option_map}
 use Rattle.std.proofs.lemmas.Bool.{eq-eqb}
 use Rattle.std.proofs.lemmas.List.{drop_more, take_rest, length-drop}
-use Rattle.memchr.specs.Find.{Nowhere, NoneBefore, Passes, is_byte2}
+use Rattle.memchr.specs.Find.{Nowhere, NoneBefore, Passes, IsFirstByte, is_byte2, is_byte3}
 use Rattle.oe_fields.specs.declared.fields.Format.{Format}
 use Rattle.oe_fields.specs.declared.fields.Format.TheVariants.{Tabs, Commas}
 use Rattle.oe_fields.specs.Parting.{separator, mark, held_behind, parts, before_first, parted_from, end_from, left_of}
@@ -80,35 +81,59 @@ plain_before format a m s n i j none k h =
     ap (λ x. is_byte2 x (mark format) (get_or s k 0)) (sym i) ∙ ap (λ x. is_byte2 a x (get_or s k 0)) (sym j)
     ∙ not_true _ (none k (omega arith) h)
 
--- no separator and no mark
-pub no_end : (format : Format) (a m : ℕ) (s : List ℕ) → a ≡ separator format → m ≡ mark format
-    → Nowhere (Passes (is_byte2 a m) s) 0 (length s) → length s ≡ end_from format false s
-no_end format a m s i j none =
-    let more = goes_on format s (length s) (omega arith) (plain_before format a m s (length s) i j none) in
-    let most = end_within format false s in
-    omega (arith, more, most)
-
-pub first_end : (format : Format) (a m : ℕ) (s : List ℕ) (n : ℕ) → a ≡ separator format → m ≡ mark format
-    → NoneBefore (Passes (is_byte2 a m) s) 0 (length s) n
-    → end_from format false s ≡ n + end_from format false (drop n s)
-first_end format a m s n i j first =
-    goes_on format s n (omega (arith, first.high)) (plain_before format a m s n i j first.before)
-
 -- a separator
 separates : (format : Format) (b : ℕ) → b ≡ separator format → parts format false b ≡ true
 separates Tabs b e = eq-eqb b 9 e
 separates Commas b e = eq-eqb b 44 e
 
-pub at_separator : (format : Format) (a m b : ℕ) (s : List ℕ) (n : ℕ) → a ≡ separator format → m ≡ mark format
-    → NoneBefore (Passes (is_byte2 a m) s) 0 (length s) n → get_or s n 0 ≡ b → b ≡ separator format
-    → n ≡ end_from format false s
-at_separator format a m b s n i j first e is =
+or_twice : (p q : Bool) → p || q || q ≡ p || q
+or_twice true q = refl
+or_twice false true = refl
+or_twice false false = refl
+
+-- a search for three bytes of which two are one
+pub of_three : (a m : ℕ) (s : List ℕ) (r : Option ℕ) → IsFirstByte (is_byte3 a m m) s r → IsFirstByte (is_byte2 a m) s r
+of_three a m s r h = subst (λ test. IsFirstByte test s r) (λ i x. or_twice (x == a) (x == m) i) h
+
+-- how far the field at the front goes on, where it goes on to a place and the bytes behind up to `end` have none of
+-- both
+pub none_near : (format : Format) (a m : ℕ) (s : List ℕ) (start most end : ℕ) → a ≡ separator format → m ≡ mark format
+    → end_from format false s ≡ start + end_from format false (drop start s)
+    → Nowhere (Passes (is_byte2 a m) (take most (drop start s))) 0 (length (take most (drop start s)))
+    → start + most ≡ end → end ≤ length s → end_from format false s ≡ end + end_from format false (drop end s)
+none_near format a m s start most end i j so_far none is h =
+    let near = take most (drop start s) in
+    let left = length-drop start s in
+    let size = length-take most (drop start s) in
+    let more = goes_on format (drop start s) most (omega (arith, h, is, left)) (λ k less.
+    ap (is_byte2 (separator format) (mark format)) (sym (get_or-take most (drop start s) k 0 less))
+    ∙ plain_before format a m near (length near) i j none k (omega (arith, less, h, is, left, size))) in
+    let same = ap (end_from format false) (drop-drop most start s ∙ ap (λ n. drop n s) is) in
+    omega (arith, so_far, more, same, is)
+
+-- the same up to the first of both
+pub first_near : (format : Format) (a m : ℕ) (s : List ℕ) (start most n : ℕ) → a ≡ separator format → m ≡ mark format
+    → end_from format false s ≡ start + end_from format false (drop start s)
+    → NoneBefore (Passes (is_byte2 a m) (take most (drop start s))) 0 (length (take most (drop start s))) n
+    → end_from format false s ≡ (start + n) + end_from format false (drop (start + n) s)
+first_near format a m s start most n i j so_far first =
+    let near = take most (drop start s) in
+    let size = length-take most (drop start s) in
+    let more = goes_on format (drop start s) n (omega (arith, first.high, size)) (λ k h.
+    ap (is_byte2 (separator format) (mark format))
+    (sym (get_or-take most (drop start s) k 0 (omega (arith, h, first.high, size))))
+    ∙ plain_before format a m near n i j first.before k h) in
+    let same = ap (end_from format false) (drop-drop n start s) in
+    omega (arith, so_far, more, same)
+
+pub at_separator : (format : Format) (b : ℕ) (s : List ℕ) (n : ℕ) → n < length s → get_or s n 0 ≡ b
+    → b ≡ separator format → n ≡ n + end_from format false (drop n s)
+at_separator format b s n h e is =
     let here : end_from format false (drop n s) ≡ 0 =
-    ap (end_from format false) (drop_more s n 0 first.high)
+    ap (end_from format false) (drop_more s n 0 h)
     ∙ ap (λ t. cond t 0 (suc (end_from format (held_behind format false (get_or s n 0)) (drop (n + 1) s))))
     (separates format (get_or s n 0) (e ∙ is)) in
-    let more = first_end format a m s n i j first in
-    omega (arith, here, more)
+    omega (arith, here)
 
 -- ---- the fields that are left
 

@@ -71,10 +71,14 @@ number_of s =
       if are_zeros d then Some w.0 else None)
     else None
 
+-- what the text of a field spells, if it is there
+abbrev pub value_in : {A : Type 0} → (List ℕ → Option A) → Option (List ℕ) → Option A
+value_in spells None = None
+value_in spells (Some s) = spells s
+
 -- the whole number of a field, if it is there
 abbrev pub number_in : Option (List ℕ) → Option ℕ
-number_in None = None
-number_in (Some s) = number_of s
+number_in field = value_in number_of field
 
 -- up to 10^15
 abbrev pub within_most : ℕ → Option ℕ
@@ -112,6 +116,10 @@ amount_of s = do
   n ← cents_of (sign_of s).1
   Some (signed_of (sign_of s).0 n)
 
+-- the amount of a field, if it is there
+abbrev pub amount_in : Option (List ℕ) → Option ℤ
+amount_in field = value_in amount_of field
+
 -- nothing, a minus sign, a backslash and N, or the word
 unfoldable pub is_null : List ℕ → Bool
 is_null s = (length s == 0) || (is_word s (codes "-") || (is_word s (92 ∷ 78 ∷ []) || is_word s (codes "NULL")))
@@ -133,3 +141,11 @@ abbrev pub digits_from : ℕ → List ℕ → Option (ℕ × List ℕ)
 digits_from n [] = Some (n, [])
 digits_from n (b ∷ s) =
     if is_ascii_digit b then (more_of n b >>= λ m. digits_from m s) else Some (n, b ∷ s)
+
+-- a point and two decimals at the front: their hundredths, and what is left behind them
+abbrev pub two_decimals_of : List ℕ → Option (ℕ × List ℕ)
+two_decimals_of [] = None
+two_decimals_of (p ∷ []) = None
+two_decimals_of (p ∷ a ∷ []) = None
+two_decimals_of (p ∷ a ∷ b ∷ s) =
+    if p == 46 && (is_ascii_digit a && is_ascii_digit b) then Some ((a - 48) * 10 + (b - 48), s) else None

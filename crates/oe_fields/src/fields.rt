@@ -5,15 +5,19 @@
 //! and a field that begins and ends with a quote stands without these two. What is passed over is
 //! not looked at any further. A line is seen as the list of its fields, and the place of the next.
 //! By the invariant what is left of the line has the fields from that place on. Nothing can fail.
-ghost use Rattle.std.specs.Prelude.{◌≡◌, ◌+◌, ◌<◌, ◌≤◌, ◌^◌, Bool, true, false, length, drop, is_some, slice_get, OnSome, IfSome, Some, IfNone, None, if◌then◌else◌};
+ghost use Rattle.std.specs.Prelude.{◌≡◌, ◌+◌, ◌<◌, ◌≤◌, ◌^◌, pos, Bool, true, false, length, drop, is_some, slice_get, OnSome, IfSome, Some, IfNone, None, if◌then◌else◌};
 ghost use Rattle.std.specs.Option.{option_copied, option_map};
-ghost use Rattle.oe_fields.specs.Front.{BeginsWithNumber};
-ghost use Rattle.oe_fields.specs.Spelling.{number_in};
+ghost use Rattle.memchr.specs.Find.{IsFirstByte, is_byte2};
+ghost use Rattle.oe_fields.specs.Front.{BeginsWithNumber, BeginsWithAmount};
+ghost use Rattle.oe_fields.specs.Spelling.{number_in, amount_in};
 ghost use Rattle.oe_fields.specs.Parting.{separator, mark, held_behind, end_from, is_quoted, text_of, parted_of, fields_of};
 
-use crate::numbers::{number, whole};
-use memchr::memchr2;
+use crate::numbers::{amount, number, signed, two_decimals, whole, within_most};
+use memchr::{memchr2, memchr3};
 use std::marker::Model;
+
+/// So many bytes are looked at together where a field ends.
+const NEAR: usize = 32;
 
 /// How fields are parted.
 #[derive(Clone, Copy)]
@@ -32,17 +36,6 @@ fn separator(format: Format) -> u8
     match format {
         Format::Tabs => b'\t',
         Format::Commas => b',',
-    }
-}
-
-/// Gives the byte behind which a separator may be of the field.
-#[inline]
-fn mark(format: Format) -> u8
-    ensures { result ≡ mark format }
-{
-    match format {
-        Format::Tabs => b'\\',
-        Format::Commas => b'"',
     }
 }
 
@@ -74,22 +67,47 @@ fn end_behind(format: Format, text: &[u8], start: usize) -> usize
     text.len()
 }
 
-/// Finds the end of the field at the front: the place of the separator, or the text's length.
+/// Finds the end of the field at the front, which goes on up to the byte at `i`.
+#[inline]
+fn end_at(format: Format, text: &[u8], i: usize) -> usize
+    requires { i < length text.now }
+    ensures value { result ≡ i + end_from format false (drop i text.now) }
+    ensures within { result ≤ length text.now }
+{
+    if text[i] == separator(format) {
+        return i;
+    }
+    end_behind(format, text, i)
+}
+
+/// Finds the first byte that is a separator or a mark. A search whose bytes are written in its call
+/// is fast where it is called once alone: so commas have a search of their own, for three bytes.
+#[inline]
+fn first_near(format: Format, near: &[u8]) -> Option<usize>
+    ensures { IsFirstByte (is_byte2 (separator format) (mark format)) near.now result }
+{
+    match format {
+        Format::Tabs => memchr2(b'\t', b'\\', near),
+        Format::Commas => memchr3(b',', b'"', b'"', near),
+    }
+}
+
+/// Finds the end of the field at the front: the place of the separator, or the text's length. The
+/// bytes are looked at together, some at a time.
 #[inline]
 fn field_end(format: Format, text: &[u8]) -> usize
     ensures value { result ≡ end_from format false text.now }
     ensures within { result ≤ length text.now }
 {
-    match memchr2(separator(format), mark(format), text) {
-        None => text.len(),
-        Some(i) => {
-            if text[i] == separator(format) {
-                i
-            } else {
-                end_behind(format, text, i)
-            }
+    let mut start = 0;
+    while NEAR <= text.len() - start {
+        let near = &text[start..start + NEAR];
+        match first_near(format, near) {
+            Some(i) => return end_at(format, text, start + i),
+            None => start += NEAR,
         }
     }
+    end_behind(format, text, start)
 }
 
 /// Tells whether a field begins and ends with a quote.
@@ -136,6 +154,29 @@ fn number_front(format: Format, rest: &[u8]) -> Option<(u64, Option<&[u8]>)>
         return None;
     }
     Some((n, Some(left)))
+}
+
+/// Reads the amount of the field at the front, in cents, where that has digits, a point and two
+/// decimals alone, and gives what is left behind the field. `None` tells nothing of the field.
+#[inline]
+fn amount_front(format: Format, rest: &[u8]) -> Option<(u64, Option<&[u8]>)>
+    ensures value { IfSome result (λ p. BeginsWithAmount format rest.now (pos p.0)
+        (option_copied p.1)) }
+    ensures small { IfSome result (λ p. p.0 ≤ 10 ^ 15) }
+{
+    let (n, behind) = whole(rest)?;
+    if behind.len() == rest.len() {
+        return None;
+    }
+    let (hundredths, after) = two_decimals(behind)?;
+    let cents = within_most(n, hundredths)?;
+    let [first, left @ ..] = after else {
+        return Some((cents, None));
+    };
+    if *first != separator(format) {
+        return None;
+    }
+    Some((cents, Some(left)))
 }
 
 /// A line's fields.
@@ -211,9 +252,9 @@ impl<'a> Fields<'a> {
     }
 
     /// Takes the next field, where it has digits alone and 64 bits hold their number. `None`
-    /// tells nothing of the field.
+    /// tells nothing of the field, and takes none.
     #[inline]
-    fn take_digits(&mut self) -> Option<u64>
+    pub fn take_digits(&mut self) -> Option<u64>
         ensures format { self.new.format ≡ self.old.format }
         ensures text { self.new.text ≡ self.old.text }
         ensures value { IfSome result (λ n. Some n
@@ -253,6 +294,53 @@ impl<'a> Fields<'a> {
     {
         let field = self.at(place)?;
         number(field)
+    }
+
+    /// Takes the next field, where it has digits, a point and two decimals alone. `None` tells
+    /// nothing of the field.
+    #[inline]
+    fn take_cents(&mut self) -> Option<u64>
+        ensures format { self.new.format ≡ self.old.format }
+        ensures text { self.new.text ≡ self.old.text }
+        ensures value { IfSome result (λ n. Some (pos n)
+            ≡ amount_in (slice_get (fields_of self.old.format self.old.text) self.old.place)) }
+        ensures small { IfSome result (λ n. n ≤ 10 ^ 15) }
+        ensures none { IfNone result (self.new ≡ self.old) }
+    {
+        let rest = self.rest?;
+        let (n, left) = amount_front(self.format, rest)?;
+        self.rest = left;
+        self.place += 1;
+        Some(n)
+    }
+
+    /// Reads the amount of money at that place, which may have a minus sign, in cents, within
+    /// 10^15 either side.
+    #[inline]
+    pub fn amount_at(&mut self, place: usize) -> Option<i64>
+        ensures format { self.new.format ≡ self.old.format }
+        ensures text { self.new.text ≡ self.old.text }
+        ensures value { result
+            ≡ amount_in (slice_get (fields_of self.old.format self.old.text) place) }
+    {
+        if self.place == place {
+            if let Some(n) = self.take_cents() {
+                return Some(signed(false, n));
+            }
+        }
+        self.slow_amount_at(place)
+    }
+
+    /// Reads the amount at that place, by its field.
+    #[inline(never)]
+    fn slow_amount_at(&mut self, place: usize) -> Option<i64>
+        ensures format { self.new.format ≡ self.old.format }
+        ensures text { self.new.text ≡ self.old.text }
+        ensures value { result
+            ≡ amount_in (slice_get (fields_of self.old.format self.old.text) place) }
+    {
+        let field = self.at(place)?;
+        amount(field)
     }
 
     /// Passes over fields up to that place. `None` where there are none at it.

@@ -6,20 +6,26 @@
 ghost use Rattle.std.specs.Prelude.{◌≡◌, ◌≤◌, ◌<◌, ◌+◌, ◌-◌, ◌*◌, ◌^◌, ◌==◌, IfSome, codes};
 ghost use Rattle.std.specs.List.{list_all};
 ghost use Rattle.std.specs.Option.{option_map};
-ghost use Rattle.oe_fields.specs.Spelling.{digits_from, more_of, begins_with_digit, decimals_of, whole_of, hundredths_of, cents_of, within_most, sign_of, signed_of, number_of, quantity_of, amount_of};
+ghost use Rattle.oe_fields.specs.Spelling.{digits_from, more_of, begins_with_digit, decimals_of, whole_of, hundredths_of, two_decimals_of, cents_of, within_most, sign_of, signed_of, number_of, quantity_of, amount_of};
 
 use crate::words::is_word;
 
 /// The greatest amount and the greatest quantity, either side of 0: 10^15.
 const MOST: u64 = 1_000_000_000_000_000;
 
+/// Below this number one digit more makes no number above 64 bits.
+const SAFE: u64 = 1_844_674_407_370_955_100;
+
 /// Gives the number behind one digit more, where 64 bits hold it.
 #[inline]
-#[tactic(auto, unfolding(crate::specs::Spelling::more_of))]
+#[tactic(auto, unfolding(crate::specs::Spelling::more_of), using(crate::proofs::DigitFacts::more_small))]
 fn more(n: u64, digit: u8) -> Option<u64>
     requires { 48 ≤ digit }
     ensures { result ≡ more_of n digit }
 {
+    if n < SAFE {
+        return Some(n * 10 + u64::from(digit - b'0'));
+    }
     n.checked_mul(10)?.checked_add(u64::from(digit - b'0'))
 }
 
@@ -87,6 +93,21 @@ fn hundredths(decimals: &[u8]) -> Option<u64>
     }
 }
 
+/// Reads a point and two decimals at the front: gives their hundredths, and what follows them.
+#[inline]
+pub(crate) fn two_decimals(text: &[u8]) -> Option<(u64, &[u8])>
+    ensures value { option_map (λ p. (p.0, p.1.now)) result ≡ two_decimals_of text.now }
+    ensures small { IfSome result (λ p. p.0 < 100) }
+{
+    match text {
+        [point, tens, ones, rest @ ..]
+            if *point == b'.' && tens.is_ascii_digit() && ones.is_ascii_digit() => {
+            Some((u64::from(*tens - b'0') * 10 + u64::from(*ones - b'0'), rest))
+        }
+        _ => None,
+    }
+}
+
 /// Tells whether a text begins with a digit.
 #[inline]
 fn begins_with_digit(text: &[u8]) -> bool
@@ -114,9 +135,10 @@ pub fn number(field: &[u8]) -> Option<u64>
 
 /// Gives a whole and hundredths in hundredths, up to 10^15.
 #[inline]
-fn within_most(whole: u64, hundredths: u64) -> Option<u64>
+pub(crate) fn within_most(whole: u64, hundredths: u64) -> Option<u64>
     requires { hundredths < 100 }
-    ensures { result ≡ within_most (whole * 100 + hundredths) }
+    ensures value { result ≡ within_most (whole * 100 + hundredths) }
+    ensures small { IfSome result (λ n. n ≤ 10 ^ 15) }
 {
     if whole > MOST / 100 {
         return None;
@@ -154,7 +176,7 @@ fn sign(field: &[u8]) -> (bool, &[u8])
 
 /// Gives a number its sign.
 #[inline]
-fn signed(minus: bool, n: u64) -> i64
+pub(crate) fn signed(minus: bool, n: u64) -> i64
     requires { n ≤ 10 ^ 15 }
     ensures { result ≡ signed_of minus n }
 {

@@ -1,19 +1,20 @@
 -- What sources spell, and what is wrong with their lines.
-use Rattle.std.specs.Prelude.{◌≡◌, ℕ, List, [], ◌∷◌, ◌++◌, map, Option, Some, None}
-use Rattle.std.specs.List.{fold}
+use Rattle.std.specs.Prelude.{◌≡◌, ℕ, ◌==◌, Bool, List, [], ◌∷◌, ◌++◌, map, Option, Some, None, Result, Ok, Err}
+use Rattle.std.specs.List.{fold, list_any}
 use Rattle.oe_facts.specs.declared.tables.Fact.{Fact}
 use Rattle.oe_facts.specs.declared.tables.Table.{Table}
 use Rattle.oe_fields.specs.declared.fields.Format.{Format}
 use Rattle.oe_columns.specs.declared.constants.Wanted.{Wanted}
 use Rattle.oe_columns.specs.declared.prints.RowFact.{RowFact}
-use Rattle.oe_earlier.specs.Traces.{Traced, no_rows, with_row}
+use Rattle.oe_earlier.specs.Traces.{Traced, no_rows, with_row, traced_together}
 use Rattle.oe_earlier.specs.Keeping.{KeepsTraces}
 use Rattle.oe_filelines.specs.Lines.{AreLines, AreAll}
 use Rattle.oe_sources.specs.Dump.{dump_says, dump_faults}
-use Rattle.oe_sources.specs.Fault.{Told, no_faults, each_pushed}
+use Rattle.oe_sources.specs.Fault.{Told, place_of, no_faults, each_pushed}
 use Rattle.oe_sources.specs.Tables.{table_says}
 use Rattle.oe_sources.specs.Taken.{spelled}
-use Rattle.oe_books.specs.Facts.{parted}
+use Rattle.oe_sources.specs.declared.ledgers.Taken as taken
+use Rattle.oe_books.specs.Facts.{Facts, parted, with_apart}
 use Rattle.oe_books.specs.Keeping.{Keeps}
 use Rattle.oe_file_audit.specs.declared.reading.Entered.{Entered}
 use Rattle.oe_file_audit.specs.declared.reading.Spelled.{Spelled}
@@ -40,6 +41,13 @@ prints_of rows = fold with_print no_rows rows
 pub record Holds (given : Option ℕ) (e : Entered) (rows : List RowFact) : Type 0 where
   pub books : Keeps given (parted (facts_of rows)) e.books
   pub traces : KeepsTraces (prints_of rows) e.traces
+
+-- of the rows of both, where the others are of tables that stand apart
+pub record HoldsBoth (one other both : Entered) : Type 0 where
+  pub books : (given own : Option ℕ) (t u : Facts) → Keeps given t one.books → Keeps own u other.books
+      → Keeps given (with_apart t u) both.books
+  pub traces : (t u : Traced) → KeepsTraces t one.traces → KeepsTraces u other.traces
+      → KeepsTraces (traced_together t u) both.traces
 
 abbrev pub HoldsSome : Option ℕ → Entered → Type 0
 HoldsSome given e = (rows : List RowFact) × Holds given e rows
@@ -80,6 +88,28 @@ module _ {S : Type 0} (remaining : S → Option (List ℕ)) (wanted : Wanted) (f
   abbrev pub TablesRead : (given : Option ℕ) → List (TableSource S) → Spelled → Type 0
   TablesRead given sources spelled =
       (facts : List RowFact) × TablesSpell sources facts spelled.faults.items × Holds given spelled.entered facts
+
+  -- the source of a table was read to its end by itself, and its own books are of its facts and prints
+  abbrev pub ReadAlone : TableSource S → taken.Taken Entered → Type 0
+  ReadAlone s told =
+      (own : List RowFact) × TableSpells (remaining s.source) s.table wanted format own told.faults
+      × Holds (Some 0) told.ledger own
+
+-- one of these sources is of that table
+abbrev pub has_source : {S : Type 0} → List (TableSource S) → Table → Bool
+has_source sources t = list_any (λ s. place_of s.table == place_of t) sources
+
+-- what was read by itself is taken in behind
+abbrev pub IsBehind : Spelled → taken.Taken Entered → Spelled → Type 0
+IsBehind so_far own both =
+    HoldsBoth so_far.entered own.ledger both.entered × (both.faults.items ≡ so_far.faults.items ++ own.faults ∷ [])
+
+-- both were read, and the one is taken in behind the other
+abbrev pub PutBehind : Result Spelled Unread → Result (taken.Taken Entered) Unread → Spelled → Type 0
+PutBehind (Ok so_far) (Ok own) both = IsBehind so_far own both
+PutBehind (Ok so_far) (Err unread) both = ⊥
+PutBehind (Err unread) (Ok own) both = ⊥
+PutBehind (Err unread) (Err other) both = ⊥
 
 -- one of these sources was not read to its end, and it is named
 abbrev pub StopsAt : {S : Type 0} → List (TableSource S) → Unread → Type 0

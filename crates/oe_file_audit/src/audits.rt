@@ -22,6 +22,7 @@ use oe_ports::ports::Outlet;
 use oe_sources::Faults;
 use std::alloc::Global;
 use std::io::Read;
+use std::thread::Threads;
 
 /// How files are audited.
 #[derive(Clone, Copy)]
@@ -189,7 +190,8 @@ fn judge<W: Outlet>(
 }
 
 // Audits the rows of tables behind what earlier rows were.
-fn audit_tables_behind<S: Read + Drop, W: Outlet>(
+fn audit_tables_behind<R: Threads + Sync, S: Read + Drop + Send, W: Outlet>(
+    rt: &R,
     alloc: Global,
     options: &Options,
     format: Format,
@@ -202,7 +204,14 @@ fn audit_tables_behind<S: Read + Drop, W: Outlet>(
         (λ wanted. TablesSpell S.remaining wanted format sources.items) (StopsAt sources.items)
         of_earlier result }
 {
-    match read_tables(alloc, options.initial, earlier.wanted(), format, sources) {
+    match read_tables(
+        rt,
+        alloc,
+        options.initial,
+        earlier.wanted(),
+        format,
+        sources,
+    ) {
         Ok(spelled) => judge(alloc, options, earlier, spelled, writer),
         Err(unread) => {
             earlier.discard();
@@ -213,7 +222,8 @@ fn audit_tables_behind<S: Read + Drop, W: Outlet>(
 
 /// Audits the rows of tables, each from a source of its own, and writes the report. Where earlier
 /// sources are given, they are read first, and rows are compared with theirs.
-pub fn audit_tables<S: Read + Drop, W: Outlet>(
+pub fn audit_tables<R: Threads + Sync, S: Read + Drop + Send, W: Outlet>(
+    rt: &R,
     alloc: Global,
     options: &Options,
     format: Format,
@@ -224,9 +234,9 @@ pub fn audit_tables<S: Read + Drop, W: Outlet>(
     ensures { TablesAudited S.remaining options.now format (option_map (λ v. v.items) before)
         sources.items (W.sink writer.old) (W.sink writer.new) result }
 {
-    match read_earlier(alloc, format, before) {
+    match read_earlier(rt, alloc, format, before) {
         Ok(EarlierRead::Sound(earlier)) => {
-            audit_tables_behind(alloc, options, format, earlier, sources, writer)
+            audit_tables_behind(rt, alloc, options, format, earlier, sources, writer)
         }
         Ok(EarlierRead::Faulty(faults)) => Ok(Verdict::UnreadableBefore(faults)),
         Err(unread) => Err(AuditFault::UnreadBefore(unread)),
@@ -257,7 +267,8 @@ fn audit_dump_behind<S: Read + Drop, W: Outlet>(
 
 /// Audits the rows of a dump, and writes the report. Where earlier sources are given, files of
 /// tables with tabs, they are read first, and rows are compared with theirs.
-pub fn audit_dump<B: Read + Drop, S: Read + Drop, W: Outlet>(
+pub fn audit_dump<R: Threads + Sync, B: Read + Drop + Send, S: Read + Drop, W: Outlet>(
+    rt: &R,
     alloc: Global,
     options: &Options,
     before: Option<Vec<TableSource<B>>>,
@@ -267,7 +278,7 @@ pub fn audit_dump<B: Read + Drop, S: Read + Drop, W: Outlet>(
     ensures { DumpAudited B.remaining options.now (option_map (λ v. v.items) before)
         (S.remaining source) (W.sink writer.old) (W.sink writer.new) result }
 {
-    match read_earlier(alloc, Format::Tabs, before) {
+    match read_earlier(rt, alloc, Format::Tabs, before) {
         Ok(EarlierRead::Sound(earlier)) => {
             audit_dump_behind(alloc, options, earlier, source, writer)
         }

@@ -14,6 +14,7 @@ use oe_fields::Format;
 use oe_sources::Faults;
 use std::alloc::Global;
 use std::io::Read;
+use std::thread::Threads;
 
 /// What is kept of earlier rows, and whether there are any to compare rows with.
 #[derive(Drop)]
@@ -86,7 +87,8 @@ fn kept(spelled: Spelled) -> EarlierRead
 }
 
 /// Reads the sources of earlier rows, where they are given.
-pub(crate) fn read_earlier<S: Read + Drop>(
+pub(crate) fn read_earlier<R: Threads + Sync, S: Read + Drop + Send>(
+    rt: &R,
     alloc: Global,
     format: Format,
     before: Option<Vec<TableSource<S>>>,
@@ -98,7 +100,7 @@ pub(crate) fn read_earlier<S: Read + Drop>(
     let Some(sources) = before else {
         return Ok(EarlierRead::Sound(Earlier::none(alloc)));
     };
-    match read_tables(alloc, Some(0), Wanted::Prints, format, sources) {
+    match read_tables(rt, alloc, Some(0), Wanted::Prints, format, sources) {
         Ok(spelled) => Ok(kept(spelled)),
         Err(unread) => Err(unread),
     }

@@ -34,7 +34,7 @@ const TABLES: [Table; 9] = [
     Table::Stock,
 ];
 
-/// Which sources are told of.
+/// Whether a line names today's sources or the earlier ones.
 #[derive(Clone, Copy)]
 pub enum Side {
     /// Those whose rows are checked.
@@ -231,7 +231,8 @@ struct MoreLines<'a> {
 }
 
 impl LineOf<Table> for MoreLines<'_> {
-    ghost line = { λ l table. more_text l.side table (slice_index l.faults.now.counts (place_of table)) };
+    ghost line = { λ l table. more_text l.side table
+        (slice_index l.faults.now.counts (place_of table)) };
 
     fn append(&self, table: &Table, out: &mut Pending) {
         let count = self.faults.count(*table);

@@ -1,10 +1,17 @@
-//! Sources are read one after another, and each fact that they spell is entered in the books; and
-//! its print, where prints are wanted, in what is kept to compare rows with earlier ones.
-ghost use Rattle.std.specs.Prelude.{◌≡◌, ◌++◌, ◌∷◌, [], ℕ, List, Option, Some, None, IfOk, IfErr, IfSome, OnOk};
+//! Each fact that sources spell is entered in the books; and its print, where prints are wanted, in
+//! what is kept to compare rows with earlier ones.
+//!
+//! A table's file that may be read by itself has a thread of its own, and books that are put behind
+//! the others. Those of CUSTOMER, ORDER and ORDER-LINE are read one after another beside it: the
+//! CUSTOMER rows before the first order tell how many orders the population had.
+ghost use Rattle.std.specs.Thread.{IsSend, IsSync};
+ghost use Rattle.std.specs.Prelude.{◌≡◌, ◌++◌, ◌∷◌, ◌⊎◌, ◌&&◌, not, [], ℕ, List, Option, Some, None, Err, IfOk, IfErr, IfSome, OnOk};
 ghost use Rattle.oe_file_audit.specs.declared.reading.TableSource.{TableSource};
 ghost use Rattle.oe_earlier.specs.Traces.{Traced};
 ghost use Rattle.oe_earlier.specs.Keeping.{KeepsTraces};
-ghost use Rattle.oe_file_audit.specs.Reading.{Holds, with_print, TablesRead, StopsAt, DumpRead};
+ghost use Rattle.oe_books.specs.Facts.{stands_apart};
+ghost use Rattle.oe_sources.specs.Fault.{place_of};
+ghost use Rattle.oe_file_audit.specs.Reading.{Holds, HoldsBoth, with_print, TablesRead, ReadAlone, PutBehind, IsBehind, has_source, StopsAt, DumpRead};
 
 use oe_books::Books;
 use oe_columns::{RowFact, Wanted};
@@ -15,6 +22,7 @@ use oe_filelines::Stop;
 use oe_sources::{Faults, Ledger, Taken, read_dump, read_table};
 use std::alloc::{AllocError, Global};
 use std::io::Read;
+use std::thread::{Threads, join};
 
 /// Books that take the facts of sources, and what is kept of their prints.
 #[derive(Drop)]
@@ -74,6 +82,22 @@ impl Entered {
         }
     }
 
+    // Takes in what a source spells of a table that stands apart, in books of its own.
+    fn joined(self, other: Entered) -> Option<Entered>
+        ensures { IfSome result (HoldsBoth self other) }
+    {
+        let Entered { books, traces } = other;
+        let mut both = self;
+        let printed = both.traces.append(traces);
+        match both.books.append_apart(books).and(printed) {
+            Some(()) => Some(both),
+            None => {
+                both.discard();
+                None
+            }
+        }
+    }
+
     // Gives up the books. Each way out that drops them costs its check a minute: one does.
     #[inline(never)]
     pub(crate) fn discard(self) {}
@@ -116,6 +140,29 @@ fn with_source(faults: Vec<Faults>, taken: Taken<Entered>) -> Option<Spelled>
     })
 }
 
+impl Spelled {
+    // No source was read.
+    fn new(alloc: Global, given: Option<u32>) -> Spelled
+        ensures entered { Holds given result.entered [] }
+        ensures faults { result.faults.items ≡ [] }
+    {
+        Spelled {
+            entered: Entered::new(alloc, given),
+            faults: Vec::new(alloc),
+        }
+    }
+
+    // Gives up what was read.
+    #[inline(never)]
+    fn discard(self) {}
+}
+
+// Gives up what a source spells.
+#[inline(never)]
+fn give_up(taken: Result<Taken<Entered>, Unread>) {
+    let _ended = taken;
+}
+
 // Reads the source of a table, behind those that were read.
 fn read_next<S: Read + Drop>(
     alloc: Global,
@@ -144,10 +191,131 @@ fn read_next<S: Read + Drop>(
     })
 }
 
-/// Reads the sources of tables, one after another. `given` is the number of orders that the
-/// population had in each district; else the sources of customers come before those of orders and
-/// their lines.
-pub fn read_tables<S: Read + Drop>(
+// Reads the source of a table by itself.
+fn read_alone<S: Read + Drop>(
+    alloc: Global,
+    wanted: Wanted,
+    format: Format,
+    source: TableSource<S>,
+) -> Result<Taken<Entered>, Unread>
+    ensures read { IfOk result (ReadAlone S.remaining wanted format source) }
+    ensures unread { IfErr result (λ unread. unread.table ≡ Some source.table) }
+{
+    let TableSource { table, source } = source;
+    let entered = Entered::new(alloc, Some(0));
+    match read_table(alloc, table, wanted, format, source, entered) {
+        Ok(taken) => Ok(taken),
+        Err(stop) => Err(Unread {
+            table: Some(table),
+            stop,
+        }),
+    }
+}
+
+// Takes in what a source spells that was read by itself.
+fn with_alone(so_far: Spelled, own: Taken<Entered>) -> Option<Spelled>
+    ensures { IfSome result (IsBehind so_far own) }
+{
+    let Spelled { entered, faults } = so_far;
+    let Taken {
+        ledger,
+        faults: told,
+    } = own;
+    match entered.joined(ledger) {
+        Some(both) => with_source(
+            faults,
+            Taken {
+                ledger: both,
+                faults: told,
+            },
+        ),
+        None => None,
+    }
+}
+
+// Puts what was read by itself of a table behind what was read of sources before it.
+fn put_behind(
+    table: Table,
+    so_far: Result<Spelled, Unread>,
+    own: Result<Taken<Entered>, Unread>,
+) -> Result<Spelled, Unread>
+    requires { IfErr own (λ unread. unread.table ≡ Some table) }
+    ensures read { IfOk result (PutBehind so_far own) }
+    ensures unread { IfErr result (λ unread. (so_far ≡ Err unread)
+        ⊎ (unread.table ≡ Some table)) }
+{
+    let so_far = match so_far {
+        Ok(so_far) => so_far,
+        Err(unread) => {
+            give_up(own);
+            return Err(unread);
+        }
+    };
+    let taken = match own {
+        Ok(taken) => taken,
+        Err(unread) => {
+            so_far.discard();
+            return Err(unread);
+        }
+    };
+    match with_alone(so_far, taken) {
+        Some(both) => Ok(both),
+        None => Err(Unread {
+            table: Some(table),
+            stop: Stop::NoMemory,
+        }),
+    }
+}
+
+// Tells whether rows of a table are entered alike, wherever they come.
+fn stands_apart(table: Table) -> bool
+    ensures { result ≡ stands_apart table }
+{
+    match table {
+        Table::Customer | Table::Order | Table::OrderLine => false,
+        _ => true,
+    }
+}
+
+// Gives the place of a table among the nine.
+fn place_of(table: Table) -> u8
+    ensures { result ≡ place_of table }
+{
+    match table {
+        Table::Warehouse => 0,
+        Table::District => 1,
+        Table::Customer => 2,
+        Table::History => 3,
+        Table::NewOrder => 4,
+        Table::Order => 5,
+        Table::OrderLine => 6,
+        Table::Item => 7,
+        Table::Stock => 8,
+    }
+}
+
+// Tells whether a source is of that table.
+fn has_source<S>(sources: &[TableSource<S>], table: Table) -> bool
+    ensures { result ≡ has_source sources.now table }
+{
+    sources
+        .iter()
+        .any(|source| place_of(source.table) == place_of(table))
+}
+
+// Tells whether the source of a table may be read by itself beside those before it.
+fn is_alone<S>(sources: &[TableSource<S>], table: Table) -> bool
+    ensures { result ≡ (stands_apart table && not (has_source sources.now table)) }
+{
+    stands_apart(table) && !has_source(sources, table)
+}
+
+/// Reads the sources of tables: what they spell is as if each were read behind those before it.
+/// `given` is the number of orders that the population had in each district; else the sources of
+/// customers come before those of orders and their lines.
+#[cycle(read_tables)]
+pub fn read_tables<R: Threads + Sync, S: Read + Drop + Send>(
+    rt: &R,
     alloc: Global,
     given: Option<u32>,
     wanted: Wanted,
@@ -157,19 +325,28 @@ pub fn read_tables<S: Read + Drop>(
     ensures read { IfOk result (TablesRead S.remaining wanted format given sources.items) }
     ensures unread { IfErr result (StopsAt sources.items) }
 {
-    let mut so_far = Spelled {
-        entered: Entered::new(alloc, given),
-        faults: Vec::new(alloc),
+    let mut sources = sources;
+    let Some(source) = sources.pop() else {
+        return Ok(Spelled::new(alloc, given));
     };
-    for source in sources {
-        match read_next(alloc, wanted, format, source, so_far) {
-            Ok(next) => so_far = next,
-            Err(unread) => return Err(unread),
-        }
+    let table = source.table;
+    if !is_alone(&sources, table) {
+        return match read_tables(rt, alloc, given, wanted, format, sources) {
+            Ok(so_far) => read_next(alloc, wanted, format, source, so_far),
+            Err(unread) => Err(unread),
+        };
     }
-    // Named behind the loop, so that its invariant may speak of it.
-    let _given = given;
-    Ok(so_far)
+    let own = move || -> Result<Taken<Entered>, Unread>
+        ensures { IfOk result (ReadAlone S.remaining wanted format source)
+            × IfErr result (λ unread. unread.table ≡ Some source.table) }
+    { read_alone(alloc, wanted, format, source) };
+    let before = move || -> Result<Spelled, Unread>
+        requires { IsSync R.row × IsSend S.row }
+        ensures { IfOk result (TablesRead S.remaining wanted format given sources.items)
+            × IfErr result (StopsAt sources.items) }
+    { read_tables(rt, alloc, given, wanted, format, sources) };
+    let (own, so_far) = join(rt, own, before);
+    put_behind(table, so_far, own)
 }
 
 /// Reads a dump.

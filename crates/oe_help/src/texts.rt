@@ -16,11 +16,11 @@ pub(crate) const AUDIT: &str =
     "Audits the tables of any engine, which lie in the files of a directory";
 
 pub(crate) const LOAD: &str =
-    "Prints a load of terminals' requests, as a script or one request a line";
+    "Prints a load of terminals' requests, as a script, one request a line, or a table";
 
 pub(crate) const LOAD_WORDS: &str =
     "the seven numbers come first, or --from DIR and the last four of them; behind them --kinds or \
---mix, --first and --flat; a kind is neworder, payment, status, delivery or level; \
+--mix, --first, and --flat or --busy; a kind is neworder, payment, status, delivery or level; \
 R + N - 1 is at most 1000000000";
 
 pub(crate) const USAGE: &str = "oe_server script [--explain] < FILE
@@ -31,8 +31,8 @@ pub(crate) const USAGE: &str = "oe_server script [--explain] < FILE
        oe_server audit DIR [--before DIR2] [--csv] [--first N] [--initial N] [--json]
        oe_server audit FILE [--first N] [--initial N] [--json]
        oe_server audit - [--first N] [--initial N] [--json]
-       oe_server load W C I E T N SEED [--kinds KIND,.. | --mix] [--first R] [--flat]
-       oe_server load --from DIR E T N SEED [--kinds KIND,.. | --mix] [--first R] [--flat]
+       oe_server load W C I E T N SEED [--kinds KIND,.. | --mix] [--first R] [--flat | --busy]
+       oe_server load --from DIR E T N SEED [--kinds KIND,.. | --mix] [--first R] [--flat | --busy]
        oe_server --help | --version";
 
 pub(crate) const FORMS: &str = "\
@@ -143,12 +143,15 @@ or queries each, which SEED makes, by the standard's weights or of the kinds tha
 (neworder, payment, status, delivery, level). It writes a script in which their stages overlap,
 and which is answered no error but Busy: each terminal's first transaction begins before any
 goes on, a cycle of waits ends by a rollback, and purge now makes room. With --flat it writes the
-opening, and for each request a line T REQUEST. With --first R each terminal begins with its R-th
-request, so that loads follow one another; R + N - 1 is at most 1000000000. With --mix 1 in 100
-orders asks for an item that is not valid, and is answered error 12 and rolled back; without,
-none does. With --from the load begins on the nine files in DIR, whose rows have the scale: its
-script is one for script --from DIR --extents E, and knows no open; by --flat the opening is
-open E. Where the rows lack one that such a load may ask for, it is refused, on standard error:
+opening, and for each request a line T REQUEST. With --busy it writes what is in the script's way:
+  KIND S n X n Busy n cycles n: locks taken, answers Busy, and rollbacks that break cycles
+  Busy n NAME: the ten names most often in the way; and longest wait n: in lines
+With --first R each terminal begins with its R-th request, so that loads follow one another; R +
+N - 1 is at most 1000000000. With --mix 1 in 100 orders asks for an item that is not valid, and is
+answered error 12 and rolled back; without, none does. With --from the load begins on the nine
+files in DIR, whose rows have the scale: its script is one for script --from DIR --extents E, and
+knows no open; by --flat the opening is open E. Where the rows lack one that such a load may ask
+for, it is refused, on standard error:
   no load: no KEY, or no load: KEY: no customer NAME
 
 The status is 0 at the end of a script's input, whatever the answers, for a file of replies

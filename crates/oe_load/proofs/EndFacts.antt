@@ -13,6 +13,7 @@ use Rattle.oe_numbers.specs.declared.forms.Form.TheVariants as load_form
 use Rattle.oe_plans.specs.declared.plans.Plan.{Plan}
 use Rattle.oe_load.specs.Loads.{IsScript, IsDone, none_served, opening_text, script_text}
 use Rattle.oe_load.specs.declared.origins.Origin.{Origin}
+use Rattle.oe_busy.specs.declared.happenings.Happening.{Happening}
 use Rattle.oe_load.specs.Turns.{Steps}
 use Rattle.oe_load.specs.Ends.{IsBegun, Begun, Whole, Wrote, LoadRan}
 use Rattle.oe_load.specs.declared.turns.Shortage.{Shortage}
@@ -47,10 +48,10 @@ module _ (p : Plan) (o : Origin) (a : Option Sink) where
     sent_waits a [] i (script_text p o []) (e ∙ sym (append-nil (opening_text p o load_form.Script))),
   )
 
-  pub line_more : (b c : Option Sink) (i j k : List ℕ) (w : World system) (s : ℕ → ℕ) (n : ℕ) (v : World system)
-      (u : ℕ → ℕ) (m : ℕ) → Standing p o a b i w s n → Sent b i c j [] → Steps p n w s j m v u k
+  pub line_more : (b c : Option Sink) (i j k : List ℕ) (w : World system) (s : ℕ → ℕ) (n : ℕ) (h : Happening)
+      (v : World system) (u : ℕ → ℕ) (m : ℕ) → Standing p o a b i w s n → Sent b i c j [] → Steps p n w s j h m v u k
       → Standing p o a c k v u m
-  line_more b c i j k w s n v u m (cs, script, phase, sent) more (x, told, opens, e) = (
+  line_more b c i j k w s n h v u m (cs, script, phase, sent) more (x, told, happened, opens, e) = (
     cs ++ x ∷ [],
     script_more p o cs w s x v u script told,
     phase_more p n m cs x s u phase opens,
@@ -117,6 +118,13 @@ whole_begun p o load_form.Script text h = record {
   served = h.served;
   script = h.script;
   text_is = h.text_is;
+}
+whole_begun p o load_form.Busy text h = record {
+  happenings = h.happenings;
+  world = h.world;
+  served = h.served;
+  watched = h.watched;
+  table = h.table;
 }
 
 module _ (p : Plan) (o : Origin) (form : Form) (a : Option Sink) where

@@ -8,7 +8,7 @@ use Rattle.oe_ports.specs.Ports.{Sink}
 use Rattle.oe_ports.specs.Ports as ports
 use Rattle.oe_ports.proofs.Streaming.{sent_then, sent_as, sent_waits}
 use Rattle.std.proofs.Common.{suc, ◌+◌, Some, arith}
-use Rattle.std.specs.Prelude.{nat_lt, false}
+use Rattle.std.specs.Prelude.{Bool, false}
 use Rattle.std.proofs.lemmas.Bool.{cond-false}
 use Rattle.rand_pcg.specs.Lcg.{Lcg}
 use Rattle.oe_terms.specs.Draws.{random, words_of}
@@ -16,7 +16,7 @@ use Rattle.oe_numbers.specs.declared.forms.Form.TheVariants as load_form
 use Rattle.oe_plans.specs.declared.plans.Plan.{Plan}
 use Rattle.oe_load.specs.Loads.{IsNext, HasWords, AreServed, none_served, opening_text}
 use Rattle.oe_load.specs.declared.origins.Origin.{Origin}
-use Rattle.oe_load.specs.Flats.{Sent, InTurn, flat_text, requests_text, behind, left_behind, turn_of}
+use Rattle.oe_load.specs.Flats.{Sent, InTurn, flat_text, requests_text, behind, first_behind, turn_of}
 use Rattle.oe_load.specs.Turns.{Sends, Turns}
 use Rattle.oe_load.specs.Ends.{IsFlatBegun, Wrote}
 use Rattle.oe_load.specs.declared.turns.Shortage.{Shortage}
@@ -102,18 +102,16 @@ module _ (p : Plan) (o : Origin) (a : Option Sink) where
   ends_cut b c i k s g e (xs, turns, sent) cut =
       (requests_text p o xs, inr (is_begun xs s g turns), cut_off a b c i (requests_text p o xs) sent cut)
 
--- A TERMINAL WITH REQUESTS LEFT
+-- THE FIRST TERMINAL THAT PASSES A TEST
 
 -- what is looked at next
-pub looks_on : (p : Plan) (served : ℕ → ℕ) (t before n m : ℕ) → n ≡ suc m
-    → nat_lt (served (behind p t before)) p.numbers.requests ≡ false
-    → left_behind p served t (before + 1) m ≡ left_behind p served t before n
-looks_on p served t before n m count none =
+pub looks_on : (p : Plan) (f : ℕ → Bool) (t before n m : ℕ) → n ≡ suc m → f (behind p t before) ≡ false
+    → first_behind p f t (before + 1) m ≡ first_behind p f t before n
+looks_on p f t before n m count none =
     let next : before + 1 ≡ suc before = omega arith in
-    ap (λ (k : ℕ). left_behind p served t k m) next
-    ∙ (sym (cond-false (nat_lt (served (behind p t before)) p.numbers.requests) (Some (behind p t before))
-    (left_behind p served t (suc before) m) none)
-    ∙ ap (λ (k : ℕ). left_behind p served t before k) (sym count))
+    ap (λ (k : ℕ). first_behind p f t k m) next
+    ∙ (sym (cond-false (f (behind p t before)) (Some (behind p t before)) (first_behind p f t (suc before) m) none)
+    ∙ ap (λ (k : ℕ). first_behind p f t before k) (sym count))
 
 -- the request of the terminal whose turn it is
 pub sends_turn : {T E : Type 0} (p : Plan) (s : ℕ → ℕ) (g h : Lcg) (t : ℕ) (text : List ℕ) (r : Result T E) (u : ℕ → ℕ)

@@ -39,8 +39,11 @@ use Rattle.oe_load.specs.Together.{Opens, reads_last}
 use Rattle.oe_load.specs.Together as together
 use Rattle.oe_load.specs.Turns.{Tells, Turned, AsksNext, Steps, Took, begun_after}
 use Rattle.oe_load.specs.declared.turns.Shortage.{Shortage}
-use Rattle.oe_load.specs.declared.turns.Outcome.{Outcome}
-use Rattle.oe_load.specs.declared.turns.Outcome.TheVariants as outcome
+use Rattle.oe_core.specs.Asks.{wanted_by}
+use Rattle.oe_busy.specs.declared.happenings.Happening.{Happening}
+use Rattle.oe_busy.specs.declared.happenings.Happening.TheVariants as happening
+use Rattle.oe_load.specs.Happens.{wanted_in_cycle, Happens, IsBreaking, IsPassing}
+use Rattle.oe_load.specs.Happens as happens
 
 -- A LINE BEHIND OTHERS
 
@@ -78,10 +81,10 @@ short_of old new text k e h small =
     omega (arith, long, parts, h, small)
 
 tells : (p : Plan) (w : World system) (s : ℕ → ℕ) (c : Command) (v : World system) (u : ℕ → ℕ) (old new : List ℕ)
-    (k : ℕ) → HasForm c → Line p w s c v u → new ≡ old ++ line_text c → length new ≤ length old + k → k ≤ 1_025
-    → Tells p w s old v u new
-tells p w s c v u old new k form line e h small =
-    (c, record { form = form; short = short_of old new (line_text c) k e h small; line = line }, e)
+    (x : Happening) (k : ℕ) → HasForm c → Line p w s c v u → Happens w c v x → new ≡ old ++ line_text c
+    → length new ≤ length old + k → k ≤ 1_025 → Tells p w s old x v u new
+tells p w s c v u old new x k form line happened e h small =
+    (c, record { form = form; short = short_of old new (line_text c) k e h small; line = line }, happened, e)
 
 module _ (p : Plan) (w : World system) (s : ℕ → ℕ) (v : World system) (old new : List ℕ) where
   told : (c : Command) (u : ℕ → ℕ) (k : ℕ) → HasForm c → Line p w s c v u → new ≡ old ++ line_text c
@@ -91,37 +94,43 @@ module _ (p : Plan) (w : World system) (s : ℕ → ℕ) (v : World system) (old
 
   pub asks_begin : (t : ℕ) (q : Request) → IsInRange 1 64 t → IsRequest q → IsNext p s t (asked.Transaction q)
       → Next system w (Begin t q) Begun v → new ≡ old ++ line_text (command.Begin t q) → length new ≤ length old + 574
-      → AsksNext p w s t old (Ok outcome.Begun) v s new
+      → AsksNext p w s t old (Ok happening.Begun) v s new
   asks_begin t q range form next n e h =
       (q, told (command.Begin t q) s 574 (range, form) (begins t q v next n) e h (omega arith), refl, e)
 
-  pub tells_more : (t : ℕ) → IsInRange 1 64 t → Next system w (Advance t) More v
-      → new ≡ old ++ line_text (command.Next t) → length new ≤ length old + 16 → Tells p w s old v s new
-  tells_more t range n e h = tells p w s (command.Next t) v s old new 16 range (goes_on t v n) e h (omega arith)
+  pub tells_more : (t : ℕ) (x : Happening) → IsInRange 1 64 t → Next system w (Advance t) More v
+      → IsPassing t (wanted_by w t) x → new ≡ old ++ line_text (command.Next t) → length new ≤ length old + 16
+      → Tells p w s old x v s new
+  tells_more t x range n q e h = tells p w s (command.Next t) v s old new x 16 range (goes_on t v n)
+      (happens.passes t More v x n tt q) e h (omega arith)
 
   pub tells_busy : (t : ℕ) (x : Name) (u : ℕ) → IsInRange 1 64 t → Next system w (Advance t) (Busy x u) v
-      → new ≡ old ++ line_text (command.Next t) → length new ≤ length old + 16 → Tells p w s old v s new
-  tells_busy t x u range n e h = tells p w s (command.Next t) v s old new 16 range (waits t x u v n) e h (omega arith)
+      → new ≡ old ++ line_text (command.Next t) → length new ≤ length old + 16
+      → Tells p w s old (happening.Waits t x u) v s new
+  tells_busy t x u range n e h = tells p w s (command.Next t) v s old new (happening.Waits t x u) 16 range
+      (waits t x u v n) (happens.meets t x u v n) e h (omega arith)
 
-  pub tells_commit : (t m : ℕ) (y : Reply) (after : ℕ → ℕ) → IsInRange 1 64 t
-      → Next system w (Advance t) (Committed m y) v → after ≡ bump t s
-      → new ≡ old ++ line_text (command.Next t) → length new ≤ length old + 16 → Tells p w s old v after new
-  tells_commit t m y after range n same e h =
-      subst (λ (f : ℕ → ℕ). Tells p w s old v f new) (sym same)
-      (tells p w s (command.Next t) v (bump t s) old new 16 range (commits t m y v n) e h (omega arith))
+  pub tells_commit : (t m : ℕ) (y : Reply) (x : Happening) (after : ℕ → ℕ) → IsInRange 1 64 t
+      → Next system w (Advance t) (Committed m y) v → IsPassing t (wanted_by w t) x → after ≡ bump t s
+      → new ≡ old ++ line_text (command.Next t) → length new ≤ length old + 16 → Tells p w s old x v after new
+  tells_commit t m y x after range n q same e h =
+      subst (λ (f : ℕ → ℕ). Tells p w s old x v f new) (sym same)
+      (tells p w s (command.Next t) v (bump t s) old new x 16 range (commits t m y v n)
+      (happens.passes t (Committed m y) v x n tt q) e h (omega arith))
 
-  pub tells_abort : (t : ℕ) (after : ℕ → ℕ) → IsInRange 1 64 t → p.items ≡ AsDrawn
-      → Next system w (Advance t) (Aborted InvalidItem) v → after ≡ bump t s
-      → new ≡ old ++ line_text (command.Next t) → length new ≤ length old + 16 → Tells p w s old v after new
-  tells_abort t after range drawn n same e h =
-      subst (λ (f : ℕ → ℕ). Tells p w s old v f new) (sym same)
-      (tells p w s (command.Next t) v (bump t s) old new 16 range (rolls_back t v drawn n) e h (omega arith))
+  pub tells_abort : (t : ℕ) (x : Happening) (after : ℕ → ℕ) → IsInRange 1 64 t → p.items ≡ AsDrawn
+      → Next system w (Advance t) (Aborted InvalidItem) v → IsPassing t (wanted_by w t) x → after ≡ bump t s
+      → new ≡ old ++ line_text (command.Next t) → length new ≤ length old + 16 → Tells p w s old x v after new
+  tells_abort t x after range drawn n q same e h =
+      subst (λ (f : ℕ → ℕ). Tells p w s old x v f new) (sym same)
+      (tells p w s (command.Next t) v (bump t s) old new x 16 range (rolls_back t v drawn n)
+      (happens.passes t (Aborted InvalidItem) v x n tt q) e h (omega arith))
 
   pub asks_reply : (t : ℕ) (q : Query) (f : QueryReply) (after : ℕ → ℕ) (k : ℕ) → IsQuery q
       → IsNext p s t (asked.Query q) → k ≡ newest system w
       → Next system w (Read k q) (Replied f) v → after ≡ bump t s
       → new ≡ old ++ line_text (command.Read moment.Now q) → length new ≤ length old + 55
-      → AsksNext p w s t old (Ok outcome.Done) v after new
+      → AsksNext p w s t old (Ok happening.Done) v after new
   asks_reply t q f after k form next now n same e h = (
     q,
     subst (λ (g : ℕ → ℕ). Told p w s (command.Read moment.Now q) v g) (sym same)
@@ -132,33 +141,42 @@ module _ (p : Plan) (w : World system) (s : ℕ → ℕ) (v : World system) (old
     e,
   )
 
-  pub tells_way : (t : ℕ) → IsInRange 1 64 t → Next system w (Rollback t) Rolled_back v
-      → new ≡ old ++ line_text (command.Rollback t) → length new ≤ length old + 20 → Tells p w s old v s new
-  tells_way t range n e h = tells p w s (command.Rollback t) v s old new 20 range (gives_way t v n) e h (omega arith)
+  pub tells_way : (t : ℕ) (x : Happening) → IsInRange 1 64 t → Next system w (Rollback t) Rolled_back v
+      → IsBreaking t (wanted_in_cycle w t) x → new ≡ old ++ line_text (command.Rollback t)
+      → length new ≤ length old + 20 → Tells p w s old x v s new
+  tells_way t x range n q e h = tells p w s (command.Rollback t) v s old new x 20 range (gives_way t v n)
+      (happens.breaks t v x q) e h (omega arith)
 
   pub tells_purge : (m k : ℕ) → k ≡ newest system w → Next system w (Purge k) (Purged m) v
-      → new ≡ old ++ line_text (command.Purge moment.Now) → length new ≤ length old + 10 → Tells p w s old v s new
+      → new ≡ old ++ line_text (command.Purge moment.Now) → length new ≤ length old + 10
+      → Tells p w s old happening.Done v s new
   tells_purge m k now n e h =
-      tells p w s (command.Purge moment.Now) v s old new 10 tt
-      (purges m v (subst (λ (j : ℕ). Next system w (Purge j) (Purged m) v) now n)) e h (omega arith)
+      tells p w s (command.Purge moment.Now) v s old new happening.Done 10 tt
+      (purges m v (subst (λ (j : ℕ). Next system w (Purge j) (Purged m) v) now n)) (happens.purges v) e h (omega arith)
 
 -- a line was told, or none
-pub turned_of : (p : Plan) (w : World system) (s : ℕ → ℕ) (t : ℕ) (old : List ℕ) (r : Result Outcome Shortage)
+pub turned_of : (p : Plan) (w : World system) (s : ℕ → ℕ) (t : ℕ) (old : List ℕ) (r : Result Happening Shortage)
     (v : World system) (u : ℕ → ℕ) (new : List ℕ) → AsksNext p w s t old r v u new → Turned p w s old r v u new
-turned_of p w s t old (Ok outcome.Begun) v u new (q, line, same, e) = (
+turned_of p w s t old (Ok happening.Begun) v u new (q, line, same, e) = (
   command.Begin t q,
   line,
+  happens.begins t q v,
   e,
 )
-turned_of p w s t old (Ok outcome.Done) v u new (q, line, is, same, e) = (command.Read moment.Now q, line, e)
-turned_of p w s t old (Ok (outcome.Waits x)) v u new h = absurd h
+turned_of p w s t old (Ok happening.Done) v u new (q, line, is, same, e) =
+    (command.Read moment.Now q, line, happens.reads q v, e)
+turned_of p w s t old (Ok (happening.Went x)) v u new h = absurd h
+turned_of p w s t old (Ok (happening.Took x n m)) v u new h = absurd h
+turned_of p w s t old (Ok (happening.Waits x n y)) v u new h = absurd h
+turned_of p w s t old (Ok (happening.Broke x n)) v u new h = absurd h
+turned_of p w s t old (Ok (happening.GaveWay x)) v u new h = absurd h
 turned_of p w s t old (Err e) v u new h = h
 
 -- WHO HAS BEGUN
 
 opens_read : (p : Plan) (k now : ℕ) (s u : ℕ → ℕ) (q : Query) → k < p.numbers.terminals
     → asked_of p (suc k) (p.first + s (suc k)) ≡ asked.Query q → u ≡ bump (suc k) s
-    → now ≡ begun_after p k u outcome.Done → Opens p k s (command.Read moment.Now q) u now
+    → now ≡ begun_after p k u happening.Done → Opens p k s (command.Read moment.Now q) u now
 opens_read p k now s u q few is same count = by (cases_Bool (u (suc k) == p.numbers.requests))
   where
     at : (n : ℕ) → now ≡ n → Opens p k s (command.Read moment.Now q) (bump (suc k) s) n
@@ -174,34 +192,39 @@ opens_read p k now s u q few is same count = by (cases_Bool (u (suc k) == p.numb
     by (inr more) = at k (count ∙ cond-false (u (suc k) == p.numbers.requests) (suc k) k more)
         (together.reads q few is)
 
-steps_at : (p : Plan) (k now : ℕ) (w : World system) (s : ℕ → ℕ) (old : List ℕ) (o : Outcome) (v : World system)
+steps_at : (p : Plan) (k now : ℕ) (w : World system) (s : ℕ → ℕ) (old : List ℕ) (o : Happening) (v : World system)
     (u : ℕ → ℕ) (new : List ℕ) → k < p.numbers.terminals → AsksNext p w s (suc k) old (Ok o) v u new
-    → now ≡ begun_after p k u o → Steps p k w s old now v u new
-steps_at p k now w s old outcome.Begun v u new few (q, line, same, e) count = (
+    → now ≡ begun_after p k u o → Steps p k w s old o now v u new
+steps_at p k now w s old happening.Begun v u new few (q, line, same, e) count = (
   command.Begin (suc k) q,
   line,
+  happens.begins (suc k) q v,
   subst (λ (m : ℕ). Opens p k s (command.Begin (suc k) q) u m) (sym count)
       (subst (λ (f : ℕ → ℕ). Opens p k s (command.Begin (suc k) q) f (suc k)) (sym same) (together.begins q few)),
   e,
 )
-steps_at p k now w s old outcome.Done v u new few (q, line, is, same, e) count =
-    (command.Read moment.Now q, line, opens_read p k now s u q few is same count, e)
-steps_at p k now w s old (outcome.Waits x) v u new few h count = absurd h
+steps_at p k now w s old happening.Done v u new few (q, line, is, same, e) count =
+    (command.Read moment.Now q, line, happens.reads q v, opens_read p k now s u q few is same count, e)
+steps_at p k now w s old (happening.Went x) v u new few h count = absurd h
+steps_at p k now w s old (happening.Took x n m) v u new few h count = absurd h
+steps_at p k now w s old (happening.Waits x n y) v u new few h count = absurd h
+steps_at p k now w s old (happening.Broke x n) v u new few h count = absurd h
+steps_at p k now w s old (happening.GaveWay x) v u new few h count = absurd h
 
 -- an early turn
-pub steps_of : (p : Plan) (k t now : ℕ) (w : World system) (s : ℕ → ℕ) (old : List ℕ) (o : Outcome)
+pub steps_of : (p : Plan) (k t now : ℕ) (w : World system) (s : ℕ → ℕ) (old : List ℕ) (o : Happening)
     (v : World system) (u : ℕ → ℕ) (new : List ℕ) → k < p.numbers.terminals → t ≡ k + 1
-    → AsksNext p w s t old (Ok o) v u new → now ≡ begun_after p k u o → Steps p k w s old now v u new
+    → AsksNext p w s t old (Ok o) v u new → now ≡ begun_after p k u o → Steps p k w s old o now v u new
 steps_of p k t now w s old o v u new few at h count =
     let next : t ≡ suc k = omega (arith, at) in
     steps_at p k now w s old o v u new few (subst (λ (x : ℕ). AsksNext p w s x old (Ok o) v u new) next h) count
 
 -- a later one
-pub took_of : {T E : Type 0} (p : Plan) (k now : ℕ) (w : World system) (s : ℕ → ℕ) (old : List ℕ) (r : Result T E)
-    (v : World system) (u : ℕ → ℕ) (new : List ℕ) → p.numbers.terminals ≤ k → now ≡ k
+pub took_of : {E : Type 0} (p : Plan) (k now : ℕ) (w : World system) (s : ℕ → ℕ) (old : List ℕ)
+    (r : Result Happening E) (v : World system) (u : ℕ → ℕ) (new : List ℕ) → p.numbers.terminals ≤ k → now ≡ k
     → Turned p w s old r v u new → Took p k w s old r now v u new
-took_of p k now w s old (Ok x) v u new all still (c, line, e) =
-    (c, line, subst (λ (m : ℕ). Opens p k s c u m) (sym still) (together.goes_on c u all), e)
+took_of p k now w s old (Ok x) v u new all still (c, line, happened, e) =
+    (c, line, happened, subst (λ (m : ℕ). Opens p k s c u m) (sym still) (together.goes_on c u all), e)
 took_of p k now w s old (Err x) v u new all still h = h
 
 -- WHAT IS ASKED FOR NEXT

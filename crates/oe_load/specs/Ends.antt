@@ -13,6 +13,11 @@ use Rattle.rand_pcg.specs.Lcg.{Lcg}
 use Rattle.oe_terms.specs.Draws.{words_of}
 use Rattle.oe_load.specs.declared.origins.Origin.{Origin}
 use Rattle.oe_load.specs.Together.{HasTransactions, BeginTogether}
+use Rattle.oe_busy.specs.declared.happenings.Happening.{Happening}
+use Rattle.oe_busy.specs.Tables.{AreCounted, IsTable}
+use Rattle.oe_busy.specs.declared.tables.Busyness.{Busyness}
+use Rattle.oe_load.specs.declared.turns.Shortage.{Shortage}
+use Rattle.oe_load.specs.Happens.{IsWatched}
 use Rattle.oe_load.specs.Flats as flats
 use Rattle.oe_load.specs.Flats.{InTurn, requests_text}
 use Rattle.oe_load.specs.declared.loads.Ending.{Ending}
@@ -54,14 +59,33 @@ pub record IsFlatWhole (p : Plan) (o : Origin) (text : List ℕ) : Type 0 where
   pub all : AreServed p served
   pub text_is : text ≡ requests_text p o requests
 
--- the requests alone, or a script
+-- The text is the table of what happened at the lines of a script as far as it was told; whole, where all requests are
+-- served.
+pub record IsBusyBegun (p : Plan) (o : Origin) (text : List ℕ) : Type 0 where
+  pub happenings : List Happening
+  pub world : World system
+  pub served : ℕ → ℕ
+  pub watched : IsWatched p o happenings world served
+  pub table : IsTable happenings text
+
+pub record IsBusyWhole (p : Plan) (o : Origin) (text : List ℕ) : Type 0 where
+  pub happenings : List Happening
+  pub world : World system
+  pub served : ℕ → ℕ
+  pub watched : IsWatched p o happenings world served
+  pub done : IsDone p world served
+  pub table : IsTable happenings text
+
+-- the requests alone, a script, or a table
 abbrev pub Begun : Plan → Origin → Form → List ℕ → Type 0
 Begun p o load_form.Flat text = IsFlatBegun p o text
 Begun p o load_form.Script text = IsBegun p o text
+Begun p o load_form.Busy text = IsBusyBegun p o text
 
 abbrev pub Whole : Plan → Origin → Form → List ℕ → Type 0
 Whole p o load_form.Flat text = IsFlatWhole p o text
 Whole p o load_form.Script text = IsWhole p o text
+Whole p o load_form.Busy text = IsBusyWhole p o text
 
 -- The whole load was written; it stops short, and what there is of it was written, or nothing was; or a write failed
 -- behind a beginning of that.
@@ -79,3 +103,13 @@ Wrote p o form old new waits (Ok (ending.Short e)) =
     (text : List ℕ) × ((text ≡ []) ⊎ Begun p o form text) × Sent old [] new waits text
 Wrote p o form old new waits (Err e) =
     (text : List ℕ) × ((text ≡ []) ⊎ Begun p o form text) × Cut old [] new text
+
+-- the load was watched to its end, or until it stopped short, and the counts are those of what happened; or they are
+-- no longer known
+abbrev pub Watches : Plan → Origin → Busyness → Result Ending Shortage → Type 0
+Watches p o b (Ok ending.Served) =
+    (hs : List Happening) × (w : World system) × (served : ℕ → ℕ) × IsWatched p o hs w served × IsDone p w served
+    × AreCounted b hs
+Watches p o b (Ok (ending.Short e)) =
+    (hs : List Happening) × (w : World system) × (served : ℕ → ℕ) × IsWatched p o hs w served × AreCounted b hs
+Watches p o b (Err e) = Unit {0}

@@ -1,5 +1,5 @@
 -- The requests of a load alone, in an order in which each is the next of its terminal.
-use Rattle.std.specs.Prelude.{zero, suc, ◌+◌, ◌-◌, ◌%◌, nat_lt, if◌then◌else◌, Option}
+use Rattle.std.specs.Prelude.{zero, suc, ◌+◌, ◌-◌, ◌%◌, nat_lt, if◌then◌else◌, Bool, Option}
 use Rattle.std.specs.Prelude.{None, Some, ◌≡◌, ℕ, List, [], ◌∷◌, ◌++◌, decimal}
 use Rattle.std.specs.List.{flat_map}
 use Rattle.oe_theory.specs.World.{bump}
@@ -32,12 +32,15 @@ flat_text t a = joined (decimal t ∷ words_of a) ++ 10 ∷ []
 abbrev pub behind : Plan → ℕ → ℕ → ℕ
 behind p t n = (t - 1 + n) % p.numbers.terminals + 1
 
--- the first of this number of terminals that has requests left, behind `before` others from one on
+-- the first of this number of terminals that passes a test, behind `before` others from one on
+abbrev pub first_behind : Plan → (ℕ → Bool) → ℕ → ℕ → ℕ → Option ℕ
+first_behind p f t before zero = None
+first_behind p f t before (suc n) =
+    if f (behind p t before) then Some (behind p t before) else first_behind p f t (suc before) n
+
+-- that has requests left
 abbrev pub left_behind : Plan → (ℕ → ℕ) → ℕ → ℕ → ℕ → Option ℕ
-left_behind p served t before zero = None
-left_behind p served t before (suc n) =
-    if nat_lt (served (behind p t before)) p.numbers.requests then Some (behind p t before)
-    else left_behind p served t (suc before) n
+left_behind p served = first_behind p (λ t. nat_lt (served t) p.numbers.requests)
 
 -- whose turn it is: the first terminal with requests left, from a drawn one on, round
 abbrev pub turn_of : Plan → (ℕ → ℕ) → Lcg → Option ℕ

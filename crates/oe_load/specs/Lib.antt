@@ -2,5 +2,7 @@
 pub mod Loads
 pub mod Together
 pub mod Flats
+pub mod Happens
+pub mod Picks
 pub mod Turns
 pub mod Ends

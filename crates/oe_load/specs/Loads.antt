@@ -119,11 +119,14 @@ abbrev pub ring_text : Plan → List ℕ
 ring_text p = codes "open " ++ decimal p.numbers.extents ++ 10 ∷ []
 
 -- The line before a load's others. A script on tables that are there has none, since it begins opened; its requests
--- alone have a line of the extents, as a file of replies that begins with a folder's population.
+-- alone have a line of the extents, as a file of replies that begins with a folder's population. A table has none.
 abbrev pub opening_text : Plan → Origin → Form → List ℕ
-opening_text p origin.Population form = line_text (opening p)
+opening_text p origin.Population load_form.Flat = line_text (opening p)
+opening_text p origin.Population load_form.Script = line_text (opening p)
+opening_text p origin.Population load_form.Busy = []
 opening_text p (origin.Tables t) load_form.Flat = ring_text p
 opening_text p (origin.Tables t) load_form.Script = []
+opening_text p (origin.Tables t) load_form.Busy = []
 
 -- the opening and these lines as text
 abbrev pub script_text : Plan → Origin → List Command → List ℕ

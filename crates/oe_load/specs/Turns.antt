@@ -14,10 +14,11 @@ use Rattle.oe_plans.specs.declared.plans.Plan.{Plan}
 use Rattle.oe_plans.specs.declared.plans.Asked.{Asked}
 use Rattle.oe_plans.specs.declared.plans.Asked.TheVariants as asked
 use Rattle.oe_plans.specs.Plans.{asked_of}
-use Rattle.oe_load.specs.declared.turns.Outcome.{Outcome}
+use Rattle.oe_busy.specs.declared.happenings.Happening.{Happening}
+use Rattle.oe_busy.specs.declared.happenings.Happening.TheVariants as happening
 use Rattle.oe_load.specs.declared.turns.Shortage.{Shortage}
-use Rattle.oe_load.specs.declared.turns.Outcome.TheVariants as outcome
 use Rattle.oe_load.specs.Loads.{Told, IsNext, HasWords}
+use Rattle.oe_load.specs.Happens.{Happens}
 use Rattle.oe_load.specs.Together.{Opens}
 use Rattle.oe_load.specs.Flats.{flat_text, turn_of}
 
@@ -25,44 +26,55 @@ use Rattle.oe_load.specs.Flats.{flat_text, turn_of}
 abbrev pub counts_of : List ℕ → ℕ → ℕ
 counts_of list t = get_or list t 0
 
--- a line was told, and stands behind the text
-abbrev pub Tells : Plan → World system → (ℕ → ℕ) → List ℕ → World system → (ℕ → ℕ) → List ℕ → Type 0
-Tells p w served text v after more = (c : Command) × Told p w served c v after × (more ≡ text ++ line_text c)
+-- a line was told at which this happened, and stands behind the text
+abbrev pub Tells : Plan → World system → (ℕ → ℕ) → List ℕ → Happening → World system → (ℕ → ℕ) → List ℕ → Type 0
+Tells p w served text h v after more =
+    (c : Command) × Told p w served c v after × Happens w c v h × (more ≡ text ++ line_text c)
 
 -- that, or nothing was written
-abbrev pub Turned : {T E : Type 0} → Plan → World system → (ℕ → ℕ) → List ℕ → Result T E → World system → (ℕ → ℕ)
-    → List ℕ → Type 0
-Turned p w served text (Ok x) v after more = Tells p w served text v after more
+abbrev pub Turned : {E : Type 0} → Plan → World system → (ℕ → ℕ) → List ℕ → Result Happening E → World system
+    → (ℕ → ℕ) → List ℕ → Type 0
+Turned p w served text (Ok h) v after more = Tells p w served text h v after more
 Turned p w served text (Err e) v after more = more ≡ text
 
 -- A terminal's next request was asked for: its transaction begins, or its query is answered; or nothing was written.
-abbrev pub AsksNext : Plan → World system → (ℕ → ℕ) → ℕ → List ℕ → Result Outcome Shortage → World system → (ℕ → ℕ)
+abbrev pub AsksNext : Plan → World system → (ℕ → ℕ) → ℕ → List ℕ → Result Happening Shortage → World system → (ℕ → ℕ)
     → List ℕ → Type 0
-AsksNext p w served t text (Ok outcome.Begun) v after more =
+AsksNext p w served t text (Ok happening.Begun) v after more =
     (q : Request) × Told p w served (command.Begin t q) v after × (after ≡ served)
     × (more ≡ text ++ line_text (command.Begin t q))
-AsksNext p w served t text (Ok outcome.Done) v after more =
+AsksNext p w served t text (Ok happening.Done) v after more =
     (q : Query) × Told p w served (command.Read moment.Now q) v after
     × (asked_of p t (p.first + served t) ≡ asked.Query q) × (after ≡ bump t served)
     × (more ≡ text ++ line_text (command.Read moment.Now q))
-AsksNext p w served t text (Ok (outcome.Waits u)) v after more = ⊥
+AsksNext p w served t text (Ok (happening.Went x)) v after more = ⊥
+AsksNext p w served t text (Ok (happening.Took x n m)) v after more = ⊥
+AsksNext p w served t text (Ok (happening.Waits x n u)) v after more = ⊥
+AsksNext p w served t text (Ok (happening.Broke x n)) v after more = ⊥
+AsksNext p w served t text (Ok (happening.GaveWay x)) v after more = ⊥
 AsksNext p w served t text (Err e) v after more = more ≡ text
 
 -- How many terminals have begun after the next one's request was asked for. Where that was its last, and a query, it
 -- has no transaction.
-abbrev pub begun_after : Plan → ℕ → (ℕ → ℕ) → Outcome → ℕ
-begun_after p begun after outcome.Begun = suc begun
-begun_after p begun after outcome.Done = if after (suc begun) == p.numbers.requests then suc begun else begun
-begun_after p begun after (outcome.Waits u) = begun
+abbrev pub begun_after : Plan → ℕ → (ℕ → ℕ) → Happening → ℕ
+begun_after p begun after happening.Begun = suc begun
+begun_after p begun after happening.Done = if after (suc begun) == p.numbers.requests then suc begun else begun
+begun_after p begun after (happening.Went x) = begun
+begun_after p begun after (happening.Took x n m) = begun
+begun_after p begun after (happening.Waits x n u) = begun
+begun_after p begun after (happening.Broke x n) = begun
+begun_after p begun after (happening.GaveWay x) = begun
 
--- The load told a line, and `now` terminals have begun behind it; or it wrote nothing.
-abbrev pub Steps : Plan → ℕ → World system → (ℕ → ℕ) → List ℕ → ℕ → World system → (ℕ → ℕ) → List ℕ → Type 0
-Steps p begun w served text now v after more =
-    (c : Command) × Told p w served c v after × Opens p begun served c after now × (more ≡ text ++ line_text c)
+-- The load told a line at which this happened, and `now` terminals have begun behind it; or it wrote nothing.
+abbrev pub Steps : Plan → ℕ → World system → (ℕ → ℕ) → List ℕ → Happening → ℕ → World system → (ℕ → ℕ) → List ℕ
+    → Type 0
+Steps p begun w served text h now v after more =
+    (c : Command) × Told p w served c v after × Happens w c v h × Opens p begun served c after now
+    × (more ≡ text ++ line_text c)
 
-abbrev pub Took : {T E : Type 0} → Plan → ℕ → World system → (ℕ → ℕ) → List ℕ → Result T E → ℕ → World system
+abbrev pub Took : {E : Type 0} → Plan → ℕ → World system → (ℕ → ℕ) → List ℕ → Result Happening E → ℕ → World system
     → (ℕ → ℕ) → List ℕ → Type 0
-Took p begun w served text (Ok x) now v after more = Steps p begun w served text now v after more
+Took p begun w served text (Ok h) now v after more = Steps p begun w served text h now v after more
 Took p begun w served text (Err e) now v after more = more ≡ text
 
 -- a terminal's next request was told

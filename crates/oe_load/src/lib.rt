@@ -1,5 +1,6 @@
 //! Seeded loads: a script in which terminals' transactions overlap and that meets no error but
-//! `Busy`, or the requests alone for another engine. Clause numbers are TPC Benchmark C 5.11's.
+//! `Busy`, a table of what was in its way, or the requests alone for another engine. Clause numbers
+//! are TPC Benchmark C 5.11's.
 #![tactic(auto)]
 
 mod flats;
@@ -9,6 +10,7 @@ mod picks;
 mod ranges;
 mod served;
 mod turns;
+mod watches;
 
 pub use loads::{LoadFault, run_load};
 pub use origins::Origin;

@@ -19,7 +19,9 @@ use crate::flats::flat;
 use crate::origins::{Origin, open};
 use crate::picks::{Holders, Pick, note, picked, terminal_after};
 use crate::served::{Served, are_served, none_served, served_of};
-use crate::turns::{Outcome, Shortage, Turn, ask, give_way, take_turn};
+use crate::turns::{Shortage, Turn, ask, give_way, take_turn};
+use crate::watches::busy;
+use oe_busy::Happening;
 use oe_core::Core;
 use oe_numbers::Form;
 use oe_plans::Plan;
@@ -36,7 +38,7 @@ use std::alloc::Global;
 use thiserror::Error;
 
 /// No load takes more turns for each of its requests. Most take some twenty.
-const TURNS: u64 = 2_000;
+pub(crate) const TURNS: u64 = 2_000;
 
 /// Why a load is not told whole.
 #[derive(Clone, Copy, Debug, Error)]
@@ -61,7 +63,7 @@ pub(crate) enum Ending {
 /// How many of the first terminals have begun, or have no transaction; whose turn is drawn by which
 /// words then, and who was answered `Busy`.
 #[derive(Drop)]
-struct Drawing {
+pub(crate) struct Drawing {
     begun: u32,
     words: Lcg64Xsh32,
     holders: Holders,
@@ -74,29 +76,48 @@ pub(crate) fn requests_in(plan: &Plan) -> u64
     u64::from(plan.numbers.terminals.get()) * u64::from(plan.numbers.requests.get())
 }
 
-/// Gives the number of the terminal that an answer `Busy` names, or 0.
-fn holder_in(turn: &Turn) -> u32 {
+/// Begins to draw: no terminal has begun.
+pub(crate) fn first_drawing(plan: &Plan) -> Drawing
+    ensures { result.begun ≡ 0 }
+{
+    Drawing {
+        begun: 0,
+        words: words(plan.numbers.seed, Terminal::new(64).unwrap()),
+        holders: [None; 65],
+    }
+}
+
+/// Gives the terminal that an answer `Busy` names.
+fn holder_of(happening: &Happening) -> Option<Terminal> {
+    match happening {
+        Happening::Waits(_, _, holder) => Some(*holder),
+        _ => None,
+    }
+}
+
+/// Gives the same of a turn.
+fn holder_in(turn: &Turn) -> Option<Terminal> {
     match turn {
-        Ok(Outcome::Waits(holder)) => holder.get(),
-        _ => 0,
+        Ok(happening) => holder_of(happening),
+        Err(_) => None,
     }
 }
 
 /// Counts the terminals that have begun, after the next one's request was asked for.
-fn begun_after(plan: &Plan, begun: u32, served: &Served, outcome: &Outcome) -> u32
+fn begun_after(plan: &Plan, begun: u32, served: &Served, happening: &Happening) -> u32
     requires { begun < 63 }
-    ensures { result ≡ begun_after plan.now begun (counts_of served.now) outcome.now }
+    ensures { result ≡ begun_after plan.now begun (counts_of served.now) happening.now }
 {
-    match outcome {
-        Outcome::Begun => begun + 1,
-        Outcome::Done => {
+    match happening {
+        Happening::Begun => begun + 1,
+        Happening::Done => {
             if served_of(served, terminal_after(begun)) == plan.numbers.requests.get() {
                 begun + 1
             } else {
                 begun
             }
         }
-        Outcome::Waits(_) => begun,
+        _ => begun,
     }
 }
 
@@ -122,9 +143,9 @@ fn early(
         return Err(Shortage::NoEnd);
     }
     match ask(plan, core, served, terminal, out) {
-        Ok(outcome) => {
-            drawing.begun = begun_after(plan, drawing.begun, served, &outcome);
-            Ok(outcome)
+        Ok(happening) => {
+            drawing.begun = begun_after(plan, drawing.begun, served, &happening);
+            Ok(happening)
         }
         Err(shortage) => Err(shortage),
     }
@@ -145,7 +166,7 @@ fn late(
 {
     match picked(plan, core, served, &drawing.holders, &mut drawing.words) {
         Pick::GiveWay(terminal) => {
-            note(&mut drawing.holders, terminal, 0);
+            note(&mut drawing.holders, terminal, None);
             give_way(plan, core, served, terminal, out)
         }
         Pick::Turn(terminal) => {
@@ -157,7 +178,7 @@ fn late(
 }
 
 /// Takes a turn: the terminals begin, one after another; then turns are drawn.
-fn taken(
+pub(crate) fn taken(
     plan: &Plan,
     core: &mut Core,
     served: &mut Served,
@@ -176,7 +197,7 @@ fn taken(
 }
 
 /// Tells whether all requests were served, and nothing is open.
-fn is_done(plan: &Plan, core: &Core, served: &Served) -> bool
+pub(crate) fn is_done(plan: &Plan, core: &Core, served: &Served) -> bool
     ensures { result ≡ true → IsDone plan.now (world_of core.now) (counts_of served.now) }
 {
     core.open_count() == 0 && are_served(plan, served)
@@ -194,11 +215,7 @@ fn told<W: Outlet>(
         Wrote plan.now o Script (W.sink to.old) (W.sink to.new) out.new.items result }
 {
     let mut served = none_served();
-    let mut drawing = Drawing {
-        begun: 0,
-        words: words(plan.numbers.seed, Terminal::new(64).unwrap()),
-        holders: [0; 65],
-    };
+    let mut drawing = first_drawing(plan);
     for _ in 0..requests_in(plan) * TURNS {
         if is_done(plan, core, &served) {
             return Ok(Ending::Served);
@@ -223,7 +240,7 @@ fn scale_holds(scale: &Scale)
 }
 
 /// Opens a core on what a load begins on.
-fn opened(alloc: Global, plan: &Plan, origin: Origin) -> Result<Core, NoMemory>
+pub(crate) fn opened(alloc: Global, plan: &Plan, origin: Origin) -> Result<Core, NoMemory>
     requires { IsOrigin origin }
     ensures { IfOk result (λ c. IsScript plan.now origin [] (world_of c) none_served) }
 {
@@ -274,7 +291,8 @@ fn script<W: Outlet>(
     ending
 }
 
-/// Writes a plan's requests alone, or its script; the opening waits.
+/// Writes a plan's requests alone, its script, or a table of what was in the script's way; the
+/// opening waits.
 fn written<W: Outlet>(
     alloc: Global,
     plan: &Plan,
@@ -289,6 +307,7 @@ fn written<W: Outlet>(
 {
     match form {
         Form::Script => script(alloc, plan, origin, out, to),
+        Form::Busy => Ok(busy(alloc, plan, origin, out)),
         Form::Flat => {
             origin.discard();
             flat(plan, out, to)
@@ -331,6 +350,11 @@ fn closed<W: Outlet>(
 ///
 /// In the form `Flat` it is the opening and the requests alone, each behind its terminal; on tables
 /// that are there the opening says the extents alone.
+///
+/// In the form `Busy` it is a table of what happened at the lines of such a script: how often locks
+/// of each kind were taken, in the way, and waited for by a transaction that was rolled back; the
+/// names most often in the way; and the longest wait. Where it stops short the table is of the
+/// lines so far.
 ///
 /// `Short`: memory was refused, one transaction filled the ring, a column's range was left, or too
 /// many turns were taken; what was written is a load that stops there, or nothing. So it is where a

@@ -27,15 +27,21 @@ impl Origin {
 }
 
 /// Tells the line before the others: the opening of a population; on tables that are there none,
-/// and before requests alone the extents, as a file of replies from such tables begins.
+/// and before requests alone the extents, as a file of replies from such tables begins. A table has
+/// none.
 pub(crate) fn open(out: &mut Pending, plan: &Plan, origin: &Origin, form: Form)
     requires { out.old.items ≡ [] }
     ensures { out.new.items ≡ opening_text plan.now origin.now form }
 {
     match origin {
-        Origin::Population => open_line(out, &plan.numbers.scale, plan.numbers.extents),
+        Origin::Population => match form {
+            Form::Script | Form::Flat => {
+                open_line(out, &plan.numbers.scale, plan.numbers.extents);
+            }
+            Form::Busy => {}
+        },
         Origin::Tables(_) => match form {
-            Form::Script => {}
+            Form::Script | Form::Busy => {}
             Form::Flat => ring_line(out, plan),
         },
     }

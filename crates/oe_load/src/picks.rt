@@ -1,5 +1,12 @@
-//! Whose turn it is. No clause speaks of it, but that it is a turn of some terminal, or of none.
+//! Whose turn it is: a function of what is open, of what was served, of whom the answers `Busy`
+//! have named, and of a number that is drawn.
 ghost use Rattle.std.specs.Prelude.{◌≡◌, ◌≤◌, ◌<◌, ◌+◌};
+ghost use Rattle.oe_theory.specs.World.{set};
+ghost use Rattle.oe_core.specs.Core.{world_of};
+ghost use Rattle.oe_terms.specs.Draws.{random};
+ghost use Rattle.oe_load.specs.Flats.{first_behind};
+ghost use Rattle.oe_load.specs.Picks.{holders_of, holder_of, end_of_waits, is_in_cycle, is_left, is_able, first_open, pick_of};
+ghost use Rattle.oe_load.specs.Turns.{counts_of};
 
 use crate::served::{Served, served_of};
 use oe_core::Core;
@@ -9,9 +16,9 @@ use oe_values::{TERMINALS, Terminal};
 use oe_waits::waits_for;
 use rand_pcg::Lcg64Xsh32;
 
-/// Who was answered `Busy`, and the number of the terminal that the answer names, or 0; with a
-/// place for each number from 0 to 64.
-pub(crate) type Holders = [u32; 65];
+/// Whom each terminal's last answer named, where that was `Busy`; with a place for each number from
+/// 0, which is nobody's, to 64.
+pub(crate) type Holders = [Option<Terminal>; 65];
 
 /// What is to be done next.
 #[derive(Clone, Copy)]
@@ -31,13 +38,17 @@ pub(crate) fn terminal_after(before: u32) -> Terminal
 }
 
 /// Tells whether a terminal has a transaction open, or requests that were not asked for.
-fn is_left(plan: &Plan, core: &Core, served: &Served, terminal: Terminal) -> bool {
+fn is_left(plan: &Plan, core: &Core, served: &Served, terminal: Terminal) -> bool
+    ensures { result ≡ is_left plan.now (world_of core.now) (counts_of served.now) terminal }
+{
     core.is_open(terminal) || served_of(served, terminal) < plan.numbers.requests.get()
 }
 
 /// Gives the terminal that one was answered `Busy` for, where it still holds what is asked for.
-fn holder_of(core: &Core, holders: &Holders, terminal: Terminal) -> Option<Terminal> {
-    let Some(holder) = Terminal::new(holders[terminal.get() as usize]) else {
+fn holder_of(core: &Core, holders: &Holders, terminal: Terminal) -> Option<Terminal>
+    ensures { result ≡ holder_of (world_of core.now) (holders_of holders.now) terminal }
+{
+    let Some(holder) = holders[terminal.get() as usize] else {
         return None;
     };
     if waits_for(core, terminal, holder) {
@@ -48,7 +59,9 @@ fn holder_of(core: &Core, holders: &Holders, terminal: Terminal) -> Option<Termi
 
 /// Follows the waits from a terminal: gives the terminal itself where they come back to it, and
 /// else where they have led after 64 waits, which is in a cycle, or where they have ended.
-fn followed(core: &Core, holders: &Holders, terminal: Terminal) -> Terminal {
+fn followed(core: &Core, holders: &Holders, terminal: Terminal) -> Terminal
+    ensures { result ≡ end_of_waits (world_of core.now) (holders_of holders.now) terminal }
+{
     let mut at = terminal;
     for _ in 0..TERMINALS {
         match holder_of(core, holders, at) {
@@ -62,6 +75,14 @@ fn followed(core: &Core, holders: &Holders, terminal: Terminal) -> Terminal {
     at
 }
 
+/// Tells whether a terminal has something left, and does not wait.
+fn is_able(plan: &Plan, core: &Core, served: &Served, holders: &Holders, terminal: Terminal) -> bool
+    ensures { result ≡ is_able plan.now (world_of core.now) (counts_of served.now)
+        (holders_of holders.now) terminal }
+{
+    is_left(plan, core, served, terminal) && holder_of(core, holders, terminal).is_none()
+}
+
 /// Finds a terminal that has something left and does not wait, from a drawn one on, round.
 fn able(
     plan: &Plan,
@@ -71,11 +92,13 @@ fn able(
     drawn: u32,
 ) -> Option<Terminal>
     requires { (1 ≤ drawn) × (drawn ≤ 63) }
+    ensures { result ≡ first_behind plan.now (is_able plan.now (world_of core.now)
+        (counts_of served.now) (holders_of holders.now)) drawn 0 plan.now.numbers.terminals }
 {
     let count = plan.numbers.terminals.get();
     for before in 0..count {
         let terminal = terminal_after((drawn - 1 + before) % count);
-        if is_left(plan, core, served, terminal) && holder_of(core, holders, terminal).is_none() {
+        if is_able(plan, core, served, holders, terminal) {
             return Some(terminal);
         }
     }
@@ -83,7 +106,9 @@ fn able(
 }
 
 /// Finds the first terminal that has a transaction open.
-fn first_open(core: &Core) -> Option<Terminal> {
+fn first_open(core: &Core) -> Option<Terminal>
+    ensures { result ≡ first_open (world_of core.now) }
+{
     for before in 0..TERMINALS {
         let terminal = terminal_after(before);
         if core.is_open(terminal) {
@@ -94,7 +119,9 @@ fn first_open(core: &Core) -> Option<Terminal> {
 }
 
 /// Tells whether a terminal waits for itself, through others.
-fn is_in_cycle(core: &Core, holders: &Holders, terminal: Terminal) -> bool {
+fn is_in_cycle(core: &Core, holders: &Holders, terminal: Terminal) -> bool
+    ensures { result ≡ is_in_cycle (world_of core.now) (holders_of holders.now) terminal }
+{
     holder_of(core, holders, terminal).is_some() && followed(core, holders, terminal) == terminal
 }
 
@@ -106,7 +133,11 @@ pub(crate) fn picked(
     served: &Served,
     holders: &Holders,
     words: &mut Lcg64Xsh32,
-) -> Pick {
+) -> Pick
+    ensures pick { result ≡ pick_of plan.now (world_of core.now) (counts_of served.now)
+        (holders_of holders.now) (random 1 plan.now.numbers.terminals words.old).0 }
+    ensures words { words.new ≡ (random 1 plan.now.numbers.terminals words.old).1 }
+{
     let drawn = random(words, 1, plan.numbers.terminals.get());
     let terminal = terminal_after(drawn - 1);
     if is_in_cycle(core, holders, terminal) {
@@ -121,7 +152,10 @@ pub(crate) fn picked(
     }
 }
 
-/// Notes the number of the terminal that an answer `Busy` names, or 0.
-pub(crate) fn note(holders: &mut Holders, terminal: Terminal, holder: u32) {
+/// Notes whom a terminal's answer names, where that is `Busy`.
+#[tactic(auto, using(crate::proofs::PickFacts::noted))]
+pub(crate) fn note(holders: &mut Holders, terminal: Terminal, holder: Option<Terminal>)
+    ensures { holders_of holders.new ≡ set terminal holder (holders_of holders.old) }
+{
     holders[terminal.get() as usize] = holder;
 }

@@ -1,6 +1,6 @@
 //! Turns of a load. Each carries one step out in a core of its own, and tells the line that asks
 //! for it.
-ghost use Rattle.std.specs.Prelude.{◌≤◌, ◌<◌, ◌+◌, ℕ};
+ghost use Rattle.std.specs.Prelude.{◌≡◌, ◌≤◌, ◌<◌, ◌+◌, ℕ, option_map};
 ghost use Rattle.arrayvec.specs.ArrayVec.{array_vec_len};
 ghost use Rattle.oe_theory.specs.World.{World};
 ghost use Rattle.oe_theory.specs.Next.{Next, Aborted, Advance, Committed};
@@ -8,22 +8,28 @@ ghost use Rattle.oe_requests.specs.declared.refusals.Refusal.TheVariants.{Invali
 ghost use Rattle.oe_requests.specs.declared.replies.Reply.{Reply};
 ghost use Rattle.oe_requests.specs.declared.steps.Step.TheVariants as step;
 ghost use Rattle.oe_model.specs.System.{system};
+ghost use Rattle.oe_engine.specs.Programs.{hold_of};
+ghost use Rattle.oe_core.specs.Asks.{wanted_by};
 ghost use Rattle.oe_core.specs.Core.{world_of};
 ghost use Rattle.oe_core.specs.Steps.{refusal_in};
 ghost use Rattle.oe_lines.specs.Grammar.{IsQuery};
 ghost use Rattle.oe_plans.specs.declared.plans.Asked.TheVariants as asked;
+ghost use Rattle.oe_load.specs.Happens.{wanted_in_cycle, IsBreaking, IsPassing};
 ghost use Rattle.oe_load.specs.Loads.{IsNext};
 ghost use Rattle.oe_load.specs.Turns.{counts_of, AsksNext, Turned};
 
 use crate::ranges::asked_holds;
 use crate::served::{Served, serve, served_of};
 use oe_admission::ranges_hold;
+use oe_busy::Happening;
 use oe_core::{Advanced, Core};
+use oe_engine::Lock;
 use oe_numbers::Items;
 use oe_plans::{Asked, Plan};
 use oe_requests::{Answer, Query, Refusal, Request};
 use oe_texts::{LONGEST, Pending, SIZE};
 use oe_values::{Number, Terminal};
+use oe_waits::waits_for_itself;
 use oe_words::{begin_line, next_line, purge_line, read_line, rollback_line};
 use std::fmt;
 use std::fmt::{Debug, Display, Formatter, Write};
@@ -53,19 +59,8 @@ impl Debug for Shortage {
     }
 }
 
-/// What the line that was told is answered.
-#[derive(Clone, Copy)]
-pub(crate) enum Outcome {
-    /// A transaction has begun.
-    Begun,
-    /// No refusal.
-    Done,
-    /// `Busy`, which names that terminal.
-    Waits(Terminal),
-}
-
-/// What came of a turn. After an error no line was told.
-pub(crate) type Turn = Result<Outcome, Shortage>;
+/// What came of a turn: what happened at the line that was told. After an error none was told.
+pub(crate) type Turn = Result<Happening, Shortage>;
 
 /// Names what a refusal stops a load for.
 fn shortage_of(refusal: &Refusal) -> Shortage {
@@ -73,6 +68,36 @@ fn shortage_of(refusal: &Refusal) -> Shortage {
         Refusal::NoMemory => Shortage::NoMemory,
         Refusal::UndoFull => Shortage::UndoFull,
         other => Shortage::Refused(*other),
+    }
+}
+
+/// Gives the lock that a terminal asks for that waits for itself through others.
+fn wanted_in_cycle(core: &Core, terminal: Terminal) -> Option<Lock>
+    ensures { option_map hold_of result ≡ wanted_in_cycle (world_of core.now) terminal }
+{
+    if waits_for_itself(core, terminal) {
+        return core.wanted(terminal);
+    }
+    None
+}
+
+/// Tells what happens where a terminal's stage is carried out that asks for a lock, or for none.
+fn passed(terminal: Terminal, asked: &Option<Lock>) -> Happening
+    ensures { IsPassing terminal (option_map hold_of asked.now) result }
+{
+    match asked {
+        Some(lock) => Happening::Took(terminal, lock.name, lock.mode),
+        None => Happening::Went(terminal),
+    }
+}
+
+/// Tells what happens where a terminal is rolled back that waited for a lock in a cycle, or not.
+fn broken(terminal: Terminal, asked: &Option<Lock>) -> Happening
+    ensures { IsBreaking terminal (option_map hold_of asked.now) result }
+{
+    match asked {
+        Some(lock) => Happening::Broke(terminal, lock.name),
+        None => Happening::GaveWay(terminal),
     }
 }
 
@@ -96,7 +121,7 @@ fn begin(
         Ok(()) => {
             let _number = terminal.get();
             begin_line(out, terminal, request);
-            Ok(Outcome::Begun)
+            Ok(Happening::Begun)
         }
         Err(refusal) => Err(shortage_of(&refusal)),
     }
@@ -122,7 +147,7 @@ fn read(
         Answer::Replied(_) => {
             serve(served, terminal);
             read_line(out, query);
-            Ok(Outcome::Done)
+            Ok(Happening::Done)
         }
         Answer::Refused(refusal) => Err(shortage_of(&refusal)),
         _ => Err(Shortage::NoEnd),
@@ -141,11 +166,12 @@ pub(crate) fn give_way(
     ensures { Turned plan.now (world_of core.old) (counts_of served.now) out.old.items result
         (world_of core.new) (counts_of served.now) out.new.items }
 {
+    let asked = wanted_in_cycle(core, terminal);
     match core.rollback(terminal) {
         Answer::RolledBack => {
             let _number = terminal.get();
             rollback_line(out, terminal);
-            Ok(Outcome::Done)
+            Ok(broken(terminal, &asked))
         }
         Answer::Refused(refusal) => Err(shortage_of(&refusal)),
         _ => Err(Shortage::NoEnd),
@@ -161,7 +187,7 @@ fn purge(plan: &Plan, core: &mut Core, served: &Served, out: &mut Pending) -> Tu
     match core.purge(core.newest()) {
         Answer::Purged(_) => {
             purge_line(out);
-            Ok(Outcome::Done)
+            Ok(Happening::Done)
         }
         Answer::Refused(refusal) => Err(shortage_of(&refusal)),
         _ => Err(Shortage::NoEnd),
@@ -196,6 +222,7 @@ fn refused(
     core: &mut Core,
     served: &mut Served,
     terminal: Terminal,
+    asked: &Option<Lock>,
     refusal: &Refusal,
     out: &mut Pending,
 ) -> Turn
@@ -204,17 +231,18 @@ fn refused(
     ensures { (before : World system) →
         Next system before (Advance terminal) (refusal_in (step.Advance terminal) refusal.now)
         (world_of core.old) →
+        option_map hold_of asked.now ≡ wanted_by before terminal →
         Turned plan.now before (counts_of served.old) out.old.items result (world_of core.new)
         (counts_of served.new) out.new.items }
 {
     match refusal {
-        Refusal::Busy(_, holder) => {
+        Refusal::Busy(name, holder) => {
             let _number = terminal.get();
             next_line(out, terminal);
-            Ok(Outcome::Waits(*holder))
+            Ok(Happening::Waits(terminal, *name, *holder))
         }
         Refusal::UndoFull => make_way(plan, core, served, terminal, out),
-        Refusal::InvalidItem => rolled_back(plan, core, served, terminal, out),
+        Refusal::InvalidItem => rolled_back(plan, core, served, terminal, asked, out),
         other => Err(shortage_of(other)),
     }
 }
@@ -226,12 +254,14 @@ fn rolled_back(
     core: &Core,
     served: &mut Served,
     terminal: Terminal,
+    asked: &Option<Lock>,
     out: &mut Pending,
 ) -> Turn
     requires room { array_vec_len out.old + LONGEST ≤ SIZE }
     requires left { counts_of served.old terminal < 1_000_000_000 }
     ensures { (before : World system) →
         Next system before (Advance terminal) (Aborted InvalidItem) (world_of core.now) →
+        option_map hold_of asked.now ≡ wanted_by before terminal →
         Turned plan.now before (counts_of served.old) out.old.items result (world_of core.now)
         (counts_of served.new) out.new.items }
 {
@@ -241,7 +271,7 @@ fn rolled_back(
             let _number = terminal.get();
             serve(served, terminal);
             next_line(out, terminal);
-            Ok(Outcome::Done)
+            Ok(passed(terminal, asked))
         }
     }
 }
@@ -252,19 +282,21 @@ fn committed(
     core: &Core,
     served: &mut Served,
     terminal: Terminal,
+    asked: &Option<Lock>,
     out: &mut Pending,
 ) -> Turn
     requires room { array_vec_len out.old + LONGEST ≤ SIZE }
     requires left { counts_of served.old terminal < 1_000_000_000 }
     ensures { (before : World system) (m : ℕ) (y : Reply) →
         Next system before (Advance terminal) (Committed m y) (world_of core.now) →
+        option_map hold_of asked.now ≡ wanted_by before terminal →
         Turned plan.now before (counts_of served.old) out.old.items result (world_of core.now)
         (counts_of served.new) out.new.items }
 {
     let _number = terminal.get();
     serve(served, terminal);
     next_line(out, terminal);
-    Ok(Outcome::Done)
+    Ok(passed(terminal, asked))
 }
 
 /// Advances a terminal's transaction.
@@ -281,13 +313,16 @@ fn advance(
         (world_of core.new) (counts_of served.new) out.new.items }
 {
     let _number = terminal.get();
+    let asked = core.wanted(terminal);
     match core.advance(terminal) {
         Advanced::More => {
             next_line(out, terminal);
-            Ok(Outcome::Done)
+            Ok(passed(terminal, &asked))
         }
-        Advanced::Committed(_) => committed(plan, core, served, terminal, out),
-        Advanced::Refused(refusal) => refused(plan, core, served, terminal, &refusal, out),
+        Advanced::Committed(_) => committed(plan, core, served, terminal, &asked, out),
+        Advanced::Refused(refusal) => {
+            refused(plan, core, served, terminal, &asked, &refusal, out)
+        }
     }
 }
 

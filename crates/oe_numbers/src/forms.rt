@@ -17,4 +17,6 @@ pub enum Form {
     Script,
     /// The requests alone.
     Flat,
+    /// A table of what was in the way of a script.
+    Busy,
 }

@@ -1,6 +1,6 @@
 //! The requests of a plan. A request is drawn from a generator of its own, so that none has to be
 //! kept.
-ghost use Rattle.std.specs.Prelude.{◌≡◌, ◌≤◌, length, map, min};
+ghost use Rattle.std.specs.Prelude.{◌≡◌, ◌≤◌, length, map, min, true};
 ghost use Rattle.oe_plans.specs.Plans.{generator_of, used_line, used_order, order_of, delivery_of, asked_of_kind, asked_of};
 ghost use Rattle.oe_plans.specs.Plans.{IsKnown};
 ghost use Rattle.oe_plans.specs.declared.plans.Asked.TheVariants as spec;
@@ -69,10 +69,26 @@ fn used_lines(scale: &Scale, lines: &[RequestLine]) -> Lines<RequestLine, 0, 15>
     used
 }
 
-/// Gives an order whose items are all there, so that it isn't rolled back (clause 2.4.1.4).
-fn used_order(scale: &Scale, order: &NewOrderRequest) -> NewOrderRequest
-    ensures { result ≡ used_order scale.now order.now }
+/// Tells whether the items of lines are all there, so that these lines are the ones to use.
+fn are_used(scale: &Scale, lines: &[RequestLine]) -> bool
+    ensures { result ≡ true → map (used_line scale.now) lines.now ≡ lines.now }
 {
+    let last = scale.items.get();
+    for line in lines {
+        if last < line.item.get() {
+            return false;
+        }
+    }
+    true
+}
+
+/// Gives an order whose items are all there, so that it isn't rolled back (clause 2.4.1.4).
+fn used_order(scale: &Scale, order: NewOrderRequest) -> NewOrderRequest
+    ensures { result ≡ used_order scale.now order }
+{
+    if are_used(scale, order.lines.as_slice()) {
+        return order;
+    }
     let used = used_lines(scale, order.lines.as_slice());
     match RequestLines::read(used.as_slice()) {
         Some(lines) => NewOrderRequest {
@@ -91,7 +107,7 @@ fn order_of(items: Items, scale: &Scale, drawn: NewOrderRequest) -> NewOrderRequ
     ensures { result ≡ order_of items scale.now drawn }
 {
     match items {
-        Items::Used => used_order(scale, &drawn),
+        Items::Used => used_order(scale, drawn),
         Items::AsDrawn => drawn,
     }
 }

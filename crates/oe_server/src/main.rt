@@ -16,6 +16,7 @@ use oe_rows::Layout;
 use oe_tasks::{AuditOptions, LoadOptions, Separator, Task, job};
 use oe_values::ExtentCount;
 use std::env::Env;
+use std::fs::File;
 use std::io::{Input, IsTerminal, Stderr};
 use std::process::ExitCode;
 use std::rt::Files;
@@ -42,7 +43,17 @@ fn words<R: Env + AllocGlobal>(rt: &R) -> io::Result<Vec<String>> {
 
 /// Answers what a command line asks for.
 fn answer<
-    R: Threads + Wait + Files + Clock + Input + Print + Eprint + AllocGlobal + Clone + Drop + Sync,
+    R: Threads
+        + Wait
+        + Files<File = File>
+        + Clock
+        + Input
+        + Print
+        + Eprint
+        + AllocGlobal
+        + Clone
+        + Drop
+        + Sync,
 >(rt: &R, errors: &Stderr, task: &Task<'_>) -> io::Result<u8> {
     let out = &mut Printed::new(rt);
     let explainer = &mut Explainer::new(Printed::new(errors));
@@ -130,7 +141,18 @@ fn decide<R: Files + Clock + Print + Eprint + AllocGlobal>(
 }
 
 /// Opens what an audit reads, and the earlier directory where one is named, and audits.
-fn audit<R: Files + Input + Print + Eprint + AllocGlobal + Clock + Clone + Drop>(
+fn audit<
+    R: Threads
+        + Files<File = File>
+        + Input
+        + Print
+        + Eprint
+        + AllocGlobal
+        + Clock
+        + Clone
+        + Drop
+        + Sync,
+>(
     rt: &R,
     errors: &Stderr,
     name: &str,

@@ -13,7 +13,7 @@ use std::alloc::{AllocError, Global};
 
 /// What is asked of the two sums of a key.
 pub trait Check<A, B> {
-    /// What is told of a key with which something is wrong.
+    /// What a check says of a key with which something is wrong.
     type Wrong: Copy;
 
     ghost judged: { Self → Option A → Option B → Option Self.Wrong };

@@ -1,18 +1,19 @@
 //! Keys with the sum of what was added for each.
 //!
-//! What is added goes behind the other entries, or into the last one where that has the same key,
-//! so a table that comes in the order of its keys takes an entry a key. `settle` brings the entries
-//! of each key together and puts them in the keys' order. Where the entries fill their memory and
-//! there may be many to a key, `add` does so before it asks for more.
+//! What is added goes into its key's entry, where that is the last one, and else behind the other
+//! entries. So a table that comes in the order of its keys takes an entry a key. `settle` brings the
+//! entries of each key together and puts them in the keys' order. Where the entries fill their
+//! memory and there may be many to a key, `add` does so before it asks for more. Once settling has
+//! joined a fifth of them, `add` looks for its key's entry among the settled ones too.
 //!
 //! A contract speaks of `total`, the sum for a key, which no order of adding and no settling
 //! changes. `add` alone can fail, where memory is refused; no sum changes then.
-ghost use Rattle.std.specs.Prelude.{◌≡◌, ◌+◌, ◌<◌, ◌≤◌, List, [], IfOk, OnOk, OnErr, length};
+ghost use Rattle.std.specs.Prelude.{◌≡◌, ◌+◌, ◌<◌, ◌≤◌, List, [], IfOk, OnOk, OnErr, IfSome, length};
 ghost use Rattle.std.specs.List.Sorted.{IsPermutation, IsSortedByKey};
 ghost use Rattle.std.specs.Option.{option_copied};
 ghost use Rattle.std.specs.Bool.{OnTrue};
 ghost use Rattle.oe_tally.specs.Tallies.{total, Adds, SameTotals, EntriesAreTotals};
-ghost use Rattle.oe_tally.specs.Tallies.{IsSettled, settled, unsettled};
+ghost use Rattle.oe_tally.specs.Tallies.{IsAt, IsSettled, settled, unsettled};
 
 use crate::join::Join;
 use std::alloc::{AllocError, Global};
@@ -24,6 +25,8 @@ pub struct Tally<K, V> {
     entries: Vec<(K, V)>,
     // How many entries there were when the tally was last settled.
     apart: usize,
+    // The same where a fifth or more were joined then, so that further values may be of their keys.
+    front: usize,
 }
 
 impl<K, V> Model for Tally<K, V> {
@@ -40,6 +43,7 @@ impl<K: Ord + Copy, V: Join> Tally<K, V> {
         Tally {
             entries: Vec::new(alloc),
             apart: 0,
+            front: 0,
         }
     }
 
@@ -63,9 +67,8 @@ impl<K: Ord + Copy, V: Join> Tally<K, V> {
         ensures ok { OnOk result (Adds K.eq V.joined self.old self.new key value) }
         ensures err { OnErr result (SameTotals K.eq V.joined self.old self.new) }
     {
-        let count = self.entries.len();
-        if count > 0 && self.entries[count - 1].0 == key {
-            self.entries[count - 1].1 = self.entries[count - 1].1.join(value);
+        if let Some(at) = self.find(&key) {
+            self.entries[at].1 = self.entries[at].1.join(value);
             return Ok(());
         }
         if let Err(refused) = self.make_room() {
@@ -74,8 +77,19 @@ impl<K: Ord + Copy, V: Join> Tally<K, V> {
         self.push(key, value)
     }
 
-    // Makes room for an entry: settles the tally where there may be many to a key, and takes a
-    // quarter more memory where the entries fill it.
+    // Finds an entry of the key, where it is the last one or in the settled front.
+    fn find(&self, key: &K) -> Option<usize>
+        ensures { IfSome result (IsAt K.eq self.now key.now) }
+    {
+        let count = self.entries.len();
+        if count > 0 && self.entries[count - 1].0 == *key {
+            return Some(count - 1);
+        }
+        find_entry(&self.entries[..self.front.min(count)], key)
+    }
+
+    // Makes room for an entry: settles the tally where there may be many to a key, and takes an
+    // eighth more memory where the entries fill it.
     fn make_room(&mut self) -> Result<(), AllocError>
         ensures { SameTotals K.eq V.joined self.old self.new }
     {
@@ -89,7 +103,7 @@ impl<K: Ord + Copy, V: Join> Tally<K, V> {
         self.grow()
     }
 
-    // Takes a quarter more memory where the entries fill it.
+    // Takes an eighth more memory where the entries fill it.
     fn grow(&mut self) -> Result<(), AllocError>
         ensures { self.new ≡ self.old }
     {
@@ -97,7 +111,7 @@ impl<K: Ord + Copy, V: Join> Tally<K, V> {
         if count < self.entries.capacity() {
             return Ok(());
         }
-        self.entries.reserve_exact(count / 4 + 16)
+        self.entries.reserve_exact(count / 8 + 16)
     }
 
     // Puts an entry behind the others.
@@ -128,8 +142,14 @@ impl<K: Ord + Copy, V: Join> Tally<K, V> {
         ensures ordered { IsSettled K.cmp self.new }
         ensures fewer { length self.new ≤ length self.old }
     {
+        let before = self.entries.len();
         settle_entries(&mut self.entries);
         self.apart = self.entries.len();
+        self.front = if self.apart <= before - before / 5 && before >= 4096 {
+            self.apart
+        } else {
+            0
+        };
     }
 
     // Gives memory back.
@@ -176,6 +196,36 @@ fn settle_entries<K: Ord + Copy, V: Join>(entries: &mut Vec<(K, V)>)
     }
     sort(entries);
     join_runs(entries);
+}
+
+// Finds the key's entry, where keys ascend. A key behind the last is not looked for.
+fn find_entry<K: Ord, V>(entries: &[(K, V)], key: &K) -> Option<usize>
+    ensures { IfSome result (IsAt K.eq entries.now key.now) }
+{
+    if entries.is_empty() || entries[entries.len() - 1].0.cmp(key).is_lt() {
+        return None;
+    }
+    let at = place_of(entries, key);
+    if entries[at].0 == *key {
+        return Some(at);
+    }
+    None
+}
+
+// Gives where the key's entry is, if there is one and keys ascend.
+fn place_of<K: Ord, V>(entries: &[(K, V)], key: &K) -> usize
+    requires { 0 < length entries.now }
+    ensures { result < length entries.now }
+{
+    let mut low = 0usize;
+    let mut size = entries.len();
+    while size > 1 {
+        let half = size / 2;
+        let is_greater = entries[low + half].0.cmp(key).is_gt();
+        low = if is_greater { low } else { low + half };
+        size -= half;
+    }
+    low
 }
 
 // Whether the keys ascend.

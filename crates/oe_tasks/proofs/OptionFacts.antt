@@ -22,6 +22,7 @@ flag_at n =
     if n == 118 then flag.Csv
     else if n == 111 then flag.Json
     else if n == 97 then flag.Flat
+    else if n == 115 then flag.Busy
     else flag.Mix
 
 flag_found : (f : Flag) → flag_at (slice_index (flag_word f) 4) ≡ f
@@ -29,6 +30,7 @@ flag_found flag.Csv = refl
 flag_found flag.Json = refl
 flag_found flag.Flat = refl
 flag_found flag.Mix = refl
+flag_found flag.Busy = refl
 
 flag_same : (f g : Flag) → flag_word f ≡ flag_word g → f ≡ g
 flag_same f g e = sym (flag_found f) ∙ ap (λ (w : List ℕ). flag_at (slice_index w 4)) e ∙ flag_found g
@@ -46,13 +48,14 @@ mark_same m n e = sym (mark_found m) ∙ ap (λ (w : List ℕ). mark_at (slice_i
 
 -- whether the byte is one of a word alone; `--before` has 102 there
 abbrev is_alone : ℕ → Bool
-is_alone n = n == 118 || n == 111 || n == 97 || n == 120
+is_alone n = n == 118 || n == 111 || n == 97 || n == 115 || n == 120
 
 flag_alone : (f : Flag) → is_alone (slice_index (flag_word f) 4) ≡ true
 flag_alone flag.Csv = refl
 flag_alone flag.Json = refl
 flag_alone flag.Flat = refl
 flag_alone flag.Mix = refl
+flag_alone flag.Busy = refl
 
 mark_no_flag : (m : Mark) → is_alone (slice_index (mark_word m) 4) ≡ false
 mark_no_flag mark.First = refl

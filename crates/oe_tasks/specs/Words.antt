@@ -150,6 +150,7 @@ no_options = record {
   is_json = false;
   is_flat = false;
   is_mix = false;
+  is_busy = false;
 }
 
 -- the name of an option that is a word alone
@@ -158,6 +159,7 @@ flag_word flag.Csv = codes "--csv"
 flag_word flag.Json = codes "--json"
 flag_word flag.Flat = codes "--flat"
 flag_word flag.Mix = codes "--mix"
+flag_word flag.Busy = codes "--busy"
 
 -- whether it was said
 abbrev pub has_flag : Flag → Options → Bool
@@ -165,12 +167,14 @@ has_flag flag.Csv o = o.is_csv
 has_flag flag.Json o = o.is_json
 has_flag flag.Flat o = o.is_flat
 has_flag flag.Mix o = o.is_mix
+has_flag flag.Busy o = o.is_busy
 
 abbrev pub with_flag : Flag → Options → Options
 with_flag flag.Csv o = record o { is_csv = true }
 with_flag flag.Json o = record o { is_json = true }
 with_flag flag.Flat o = record o { is_flat = true }
 with_flag flag.Mix o = record o { is_mix = true }
+with_flag flag.Busy o = record o { is_busy = true }
 
 -- an option that is a word alone is added, which was not said yet
 abbrev pub AddsFlag : Options → List ℕ → Options → Type 0
@@ -208,10 +212,10 @@ abbrev pub separator_of : Bool → Separator
 separator_of true = separator.Commas
 separator_of false = separator.Tabs
 
--- the options of an audit, which has no `--kinds`, `--flat` or `--mix`
+-- the options of an audit, which has no `--kinds`, `--flat`, `--mix` or `--busy`
 abbrev pub AreForAudit : Options → AuditOptions → Type 0
 AreForAudit o a =
-    (o.kinds ≡ None) × (o.is_flat ≡ false) × (o.is_mix ≡ false)
+    (o.kinds ≡ None) × (o.is_flat ≡ false) × (o.is_mix ≡ false) × (o.is_busy ≡ false)
     × (a ≡ record { initial = o.initial; first = o.first; separator = separator_of o.is_csv; is_json = o.is_json })
 
 -- the words say the options of an audit
@@ -236,9 +240,11 @@ abbrev pub IsOfItems : Options → Items → Type 0
 IsOfItems o items.Used = o.is_mix ≡ false
 IsOfItems o items.AsDrawn = (o.is_mix ≡ true) × (o.kinds ≡ None)
 
--- what is written: a script, unless `--flat` is said
-abbrev pub form_of : Options → Form
-form_of o = if o.is_flat then form.Flat else form.Script
+-- What is written: a script, unless `--flat` or `--busy` is said; not both are.
+abbrev pub IsOfForm : Options → Form → Type 0
+IsOfForm o form.Busy = (o.is_busy ≡ true) × (o.is_flat ≡ false)
+IsOfForm o form.Flat = (o.is_busy ≡ false) × (o.is_flat ≡ true)
+IsOfForm o form.Script = (o.is_busy ≡ false) × (o.is_flat ≡ false)
 
 -- The options of a load, which has no option of an audit alone. Its first request is 1, where none is said; its last is
 -- at most 1,000,000,000.
@@ -246,7 +252,7 @@ abbrev pub AreForLoad : Options → ℕ → LoadOptions → Type 0
 AreForLoad o requests l =
     (o.initial ≡ None) × (o.is_csv ≡ false) × (o.is_json ≡ false)
     × (l.first ≡ unwrap_or o.first 1) × (l.first + requests ≤ 1_000_000_001)
-    × (l.kinds ≡ unwrap_or o.kinds none_named) × IsOfItems o l.items × (l.form ≡ form_of o)
+    × (l.kinds ≡ unwrap_or o.kinds none_named) × IsOfItems o l.items × IsOfForm o l.form
 
 -- the words say the options of a load of that number of requests a terminal
 abbrev pub AreLoaded : List (List ℕ) → ℕ → LoadOptions → Type 0

@@ -5,12 +5,13 @@ ghost use Rattle.std.specs.Prelude.{◌≡◌, ◌≢◌, ◌+◌, ◌≤◌, �
 ghost use Rattle.std.specs.Prelude.{unwrap_or};
 ghost use Rattle.std.specs.Int.{IsInRange};
 ghost use Rattle.oe_numbers.specs.Kinds.{Names as NamesKinds, none_named};
+ghost use Rattle.oe_numbers.specs.declared.forms.Form.{Form};
 ghost use Rattle.oe_numbers.specs.declared.forms.Items.{Items};
 ghost use Rattle.oe_numbers.specs.declared.kinds.Kinds.{Kinds};
 ghost use Rattle.oe_tasks.specs.Words.{Says, Adds, AddsFlag, AddsWord, no_options};
 ghost use Rattle.oe_tasks.specs.Words.{flag_word, mark_word};
-ghost use Rattle.oe_tasks.specs.Words.{has_flag, with_flag, form_of, separator_of};
-ghost use Rattle.oe_tasks.specs.Words.{IsOfItems, AreForAudit, AreForLoad};
+ghost use Rattle.oe_tasks.specs.Words.{has_flag, with_flag, separator_of};
+ghost use Rattle.oe_tasks.specs.Words.{IsOfForm, IsOfItems, AreForAudit, AreForLoad};
 ghost use Rattle.oe_tasks.specs.declared.options.AuditOptions.{AuditOptions};
 ghost use Rattle.oe_tasks.specs.declared.options.Flag.{Flag};
 ghost use Rattle.oe_tasks.specs.declared.options.LoadOptions.{LoadOptions};
@@ -64,6 +65,7 @@ enum Flag {
     Json,
     Flat,
     Mix,
+    Busy,
 }
 
 /// An option with a word behind it.
@@ -84,6 +86,7 @@ pub(crate) struct Options {
     is_json: bool,
     is_flat: bool,
     is_mix: bool,
+    is_busy: bool,
 }
 
 /// Finds the options that these words say.
@@ -100,6 +103,7 @@ pub(crate) fn options_of<S: AsStr>(words: &[S]) -> Option<Options>
         is_json: false,
         is_flat: false,
         is_mix: false,
+        is_busy: false,
     };
     options_from(none, words)
 }
@@ -143,6 +147,9 @@ fn flag_of(word: &str) -> Option<Flag>
     if word == "--mix" {
         return Some(Flag::Mix);
     }
+    if word == "--busy" {
+        return Some(Flag::Busy);
+    }
     None
 }
 
@@ -173,6 +180,7 @@ fn has_flag(o: &Options, flag: Flag) -> bool
         Flag::Json => o.is_json,
         Flag::Flat => o.is_flat,
         Flag::Mix => o.is_mix,
+        Flag::Busy => o.is_busy,
     }
 }
 
@@ -191,6 +199,10 @@ fn marked(o: &Options, flag: Flag) -> Options
             ..*o
         },
         Flag::Mix => Options { is_mix: true, ..*o },
+        Flag::Busy => Options {
+            is_busy: true,
+            ..*o
+        },
     }
 }
 
@@ -282,7 +294,7 @@ pub(crate) fn audit_options(o: &Options) -> Option<AuditOptions>
     ensures { MatchOption result ((a : AuditOptions) → AreForAudit o.now a → ⊥)
         (AreForAudit o.now) }
 {
-    if o.kinds.is_some() || o.is_flat || o.is_mix {
+    if o.kinds.is_some() || o.is_flat || o.is_mix || o.is_busy {
         return None;
     }
     Some(AuditOptions {
@@ -314,7 +326,7 @@ fn number_in<const LOW: u32>(said: Option<Number<LOW, 4_294_967_295>>) -> Option
 }
 
 /// Takes the options of a load of that number of requests a terminal; none where others are said,
-/// or where the number of the last request is past 1,000,000,000.
+/// two that exclude each other, or where the number of the last request is past 1,000,000,000.
 pub(crate) fn load_options(o: &Options, requests: Ordinal) -> Option<LoadOptions>
     ensures { MatchOption result
         ((l : LoadOptions) → AreForLoad o.now requests l → ⊥)
@@ -329,11 +341,14 @@ pub(crate) fn load_options(o: &Options, requests: Ordinal) -> Option<LoadOptions
     let Some(items) = items_of(o) else {
         return None;
     };
+    let Some(form) = form_of(o) else {
+        return None;
+    };
     Some(LoadOptions {
         first,
         kinds: kinds_of(o.kinds),
         items,
-        form: form_of(o),
+        form,
     })
 }
 
@@ -350,14 +365,20 @@ fn items_of(o: &Options) -> Option<Items>
     Some(Items::AsDrawn)
 }
 
-// Tells what is written.
-fn form_of(o: &Options) -> Form
-    ensures { result ≡ form_of o.now }
+// Tells what is written; none where `--busy` stands beside `--flat`.
+fn form_of(o: &Options) -> Option<Form>
+    ensures { MatchOption result ((f : Form) → IsOfForm o.now f → ⊥) (IsOfForm o.now) }
 {
-    if o.is_flat {
-        return Form::Flat;
+    if o.is_busy && o.is_flat {
+        return None;
     }
-    Form::Script
+    if o.is_busy {
+        return Some(Form::Busy);
+    }
+    if o.is_flat {
+        return Some(Form::Flat);
+    }
+    Some(Form::Script)
 }
 
 // Gives the number of the first request, 1 where none was said; none where the last's is past

@@ -33,18 +33,18 @@ IsBest f xs None = (q : Name) → stands xs q ≡ true → f q ≡ false
 IsBest f xs (Some b) =
     (f b ≡ true) × ((q : Name) → stands xs q ≡ true → f q ≡ true → is_before (place q) (place b) ≡ false)
 
-by_rest : (a b : Bool) → b ≡ true → (a || b) ≡ true
+pub by_rest : (a b : Bool) → b ≡ true → (a || b) ≡ true
 by_rest true b e = refl
 by_rest false b e = e
 
 -- what lies at a place of a list stands on it
-stands_at : (xs : List Name) (i : ℕ) (x : Name) → x ≡ get_or xs i x → i < length xs → stands xs x ≡ true
+pub stands_at : (xs : List Name) (i : ℕ) (x : Name) → x ≡ get_or xs i x → i < length xs → stands xs x ≡ true
 stands_at [] i x is within = absurd (omega (arith, within))
 stands_at (y ∷ ys) zero x is within = ap (λ b. b || stands ys x) (ap (is_name x) (sym is) ∙ name_refl x)
 stands_at (y ∷ ys) (suc i) x is within =
     by_rest (is_name x y) (stands ys x) (stands_at ys i x is (omega (arith, within)))
 
-stands_one_more : (xs : List Name) (x q : Name) → stands (xs ++ x ∷ []) q ≡ true → (stands xs q ≡ true) ⊎ (q ≡ x)
+pub stands_one_more : (xs : List Name) (x q : Name) → stands (xs ++ x ∷ []) q ≡ true → (stands xs q ≡ true) ⊎ (q ≡ x)
 stands_one_more [] x q e = elim (or_cases (is_name q x) false e) [
   | inl h ↦ inr (name_true q x h)
   | inr h ↦ absurd (true≢false (sym h))

@@ -26,7 +26,7 @@ use oe_texts::{LONGEST, Pending, SIZE, name as append_name, small, text};
 use oe_values::{ShortText, TERMINALS, Terminal};
 
 /// A place among all names; the empty one is before all.
-type Place = ArrayVec<u32, 20>;
+pub type Place = ArrayVec<u32, 20>;
 
 /// Gives these numbers as a place.
 fn place_of(numbers: &[u32]) -> Place
@@ -52,7 +52,7 @@ fn letters(place: &mut Place, last: &ShortText)
 /// Gives a name's place among all names: its kind, then the columns of its key from the left, then
 /// the letters of a last name.
 #[tactic(auto, unfolding(crate::specs::Names::last_warehouse, crate::specs::Names::last_district, crate::specs::Names::last_customer, crate::specs::Names::last_order, crate::specs::Names::last_item, crate::specs::Names::most_letters))]
-fn place(name: &Name) -> Place
+pub fn place(name: &Name) -> Place
     ensures value { result.items ≡ place name.now }
     ensures ranges { IsInRanges name.now }
 {
@@ -82,7 +82,7 @@ fn place(name: &Name) -> Place
 }
 
 /// Tells whether a place is before another.
-fn is_before(one: &Place, other: &Place) -> bool
+pub fn is_before(one: &Place, other: &Place) -> bool
     ensures { result ≡ is_before one.now.items other.now.items }
 {
     one.as_slice().cmp(other.as_slice()).is_lt()

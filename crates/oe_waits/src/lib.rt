@@ -8,6 +8,7 @@ mod reaching;
 pub mod shows;
 pub mod waiting;
 
-pub use holdings::show_locks;
+pub use holdings::{is_before, place, show_locks};
+pub use reaching::waits_for_itself;
 pub use shows::show_waits;
 pub use waiting::waits_for;

@@ -6,6 +6,7 @@ ghost use Rattle.std.specs.Prelude.{◌≡◌, ◌≤◌, ◌&&◌, ◌||◌, �
 ghost use Rattle.std.specs.Option.{MatchOption};
 ghost use Rattle.oe_core.specs.Core.{world_of};
 ghost use Rattle.oe_waits.specs.Reaching.{is_in, leads, leads_through};
+ghost use Rattle.oe_waits.specs.Waits.{waits_through};
 
 use crate::waiting::{terminal_after, waits_for};
 use oe_core::Core;
@@ -86,4 +87,20 @@ pub(crate) fn reached(core: &Core, way: Way, from: Terminal) -> [bool; 65]
         add_next(core, way, next, &mut found);
     }
     found
+}
+
+/// Tells whether a terminal is in a set.
+fn is_in(set: &[bool; 65], terminal: Terminal) -> bool
+    ensures { result ≡ is_in set.now terminal }
+{
+    set[terminal.get() as usize]
+}
+
+/// Tells whether a terminal waits for itself, through others.
+pub fn waits_for_itself(core: &Core, terminal: Terminal) -> bool
+    ensures { result ≡ waits_through (world_of core.now) terminal terminal }
+{
+    let _number = terminal.get();
+    let ahead = reached(core, Way::Ahead, terminal);
+    is_in(&ahead, terminal)
 }

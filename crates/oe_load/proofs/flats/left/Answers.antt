@@ -1,4 +1,5 @@
 use Rattle.std.proofs.Common.{◌≡◌, ◌+◌, ◌-◌, ◌<◌, ◌≤◌, ◌∙◌, subst, rules, arith}
+use Rattle.std.specs.Prelude.{nat_lt}
 use Rattle.std.proofs.lemmas.Bool.{le-ltb}
 use Rattle.oe_load.specs.Turns.{counts_of}
 use Rattle.oe_load.specs.Flats.{behind}
@@ -12,7 +13,8 @@ loop-before-preserved c =
     let place : c.unwrap-terminal.result ≡ behind p c.args.drawn c.loop-before.before = search rules in
     let below : c.loop-before.before < p.numbers.terminals = search rules in
     let full : p.numbers.requests ≤ served c.unwrap-terminal.result = search rules in
-    looks_on p served c.args.drawn c.loop-before.before (p.numbers.terminals - c.loop-before.before)
+    looks_on p (λ t. nat_lt (served t) p.numbers.requests) c.args.drawn c.loop-before.before
+    (p.numbers.terminals - c.loop-before.before)
     (p.numbers.terminals - (c.loop-before.before + 1)) (omega (arith, below))
     (le-ltb (served (behind p c.args.drawn c.loop-before.before)) p.numbers.requests
     (subst (λ t. p.numbers.requests ≤ served t) place full))

@@ -6,5 +6,5 @@ use Rattle.oe_load.proofs.loads.early.Goals as goal
 pub returns-in-Ok : goal.returns-in-Ok
 returns-in-Ok c = steps_of c.args.plan.now c.args.drawing.now.begun c.terminal_after-terminal.result
     c.begun_after-drawing.result (world_of c.args.core.now) (counts_of c.args.served.now) c.args.out.now.items
-    c.in-Ok.outcome (world_of c.ask.new.core) (counts_of c.ask.new.served) c.ask.new.out.items c.requires.few
+    c.in-Ok.happening (world_of c.ask.new.core) (counts_of c.ask.new.served) c.ask.new.out.items c.requires.few
     c.terminal_after-terminal.ensures c.in-Ok.ensures c.begun_after-drawing.ensures

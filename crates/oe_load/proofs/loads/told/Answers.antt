@@ -1,14 +1,18 @@
+use Rattle.std.proofs.Common.{sym, subst}
 use Rattle.oe_core.specs.Core.{world_of}
 use Rattle.oe_load.specs.Turns.{counts_of}
 use Rattle.oe_load.specs.declared.turns.Shortage.TheVariants.{NoEnd}
-use Rattle.oe_load.proofs.EndFacts.{at_first, line_more, ends_served, ends_short, ends_there, ends_cut}
+use Rattle.oe_load.proofs.EndFacts.{Standing, at_first, line_more, ends_served, ends_short, ends_there, ends_cut}
 use Rattle.oe_load.proofs.loads.told.Goals as goal
 
 pub loop-init : goal.loop-init
 loop-init g c = λ o fresh opening.
-    at_first c.args.plan.now o (g.W.Outlet.sink c.args.to.now) c.args.out.now.items
+    subst (Standing c.args.plan.now o (g.W.Outlet.sink c.args.to.now) (g.W.Outlet.sink c.args.to.now)
+    c.args.out.now.items (world_of c.args.core.now) (counts_of c.none_served-served.result))
+    (sym c.first_drawing-drawing.ensures)
+    (at_first c.args.plan.now o (g.W.Outlet.sink c.args.to.now) c.args.out.now.items
     (world_of c.args.core.now) (counts_of c.none_served-served.result) opening c.none_served-served.ensures
-    fresh
+    fresh)
 
 pub returns-then-is_done : goal.returns-then-is_done
 returns-then-is_done g c = λ o fresh opening.
@@ -33,7 +37,7 @@ pub loop-preserved : goal.loop-preserved
 loop-preserved g c = λ o fresh opening.
     line_more c.args.plan.now o (g.W.Outlet.sink c.args.to.now) (g.W.Outlet.sink c.loop.to)
     (g.W.Outlet.sink c.make_room.new.to) c.loop.out.items c.make_room.new.out.items c.taken.new.out.items
-    (world_of c.loop.core) (counts_of c.loop.served) c.loop.drawing.begun (world_of c.taken.new.core)
+    (world_of c.loop.core) (counts_of c.loop.served) c.loop.drawing.begun _ (world_of c.taken.new.core)
     (counts_of c.taken.new.served) c.taken.new.drawing.begun (c.loop.invariant o fresh opening)
     c.in_default.ensures.stream c.in_default-taken.ensures
 

@@ -1,5 +1,6 @@
-use Rattle.std.proofs.Common.{arith}
+use Rattle.std.proofs.Common.{arith, subst}
 use Rattle.oe_core.specs.Core.{world_of}
+use Rattle.oe_load.specs.Happens.{IsPassing}
 use Rattle.oe_load.specs.Turns.{counts_of}
 use Rattle.oe_load.proofs.LoadFacts.{tells_more}
 use Rattle.oe_load.proofs.turns.advance.Goals as goal
@@ -7,15 +8,18 @@ use Rattle.oe_load.proofs.turns.advance.Goals as goal
 pub returns-in-More : goal.returns-in-More
 returns-in-More c =
     tells_more c.args.plan.now (world_of c.args.core.now) (counts_of c.args.served.now) (world_of c.advance.new.self)
-    c.args.out.now.items c.next_line.new.out.items c.args.terminal (
+    c.args.out.now.items c.next_line.new.out.items c.args.terminal c.passed.result (
       omega (arith, c.get-number.ensures.low, c.get-number.ensures.value),
       omega (arith, c.get-number.ensures.high, c.get-number.ensures.value),
     )
-    c.in-More.ensures.0 c.next_line.ensures.items c.next_line.ensures.len
+    c.in-More.ensures.0
+    (subst (λ l. IsPassing c.args.terminal l c.passed.result) c.wanted-asked.ensures c.passed.ensures)
+    c.next_line.ensures.items c.next_line.ensures.len
 
 pub returns-in-Committed : goal.returns-in-Committed
 returns-in-Committed c =
     c.committed.ensures (world_of c.args.core.now) _ c.in-Committed.ensures.0 c.in-Committed.ensures.2.0
+    c.wanted-asked.ensures
 
 pub returns-in-Refused : goal.returns-in-Refused
-returns-in-Refused c = c.refused.ensures (world_of c.args.core.now) c.in-Refused.ensures.0
+returns-in-Refused c = c.refused.ensures (world_of c.args.core.now) c.in-Refused.ensures.0 c.wanted-asked.ensures

@@ -11,7 +11,7 @@ use Rattle.oe_load.proofs.LoadFacts.{tells_busy, full_stays}
 use Rattle.oe_load.proofs.turns.refused.Goals as goal
 
 pub returns-in-Busy : goal.returns-in-Busy
-returns-in-Busy c = λ before n.
+returns-in-Busy c = λ before n asked.
     tells_busy c.args.plan.now before (counts_of c.args.served.now) (world_of c.args.core.now) c.args.out.now.items
     c.next_line.new.out.items c.args.terminal _ _ (
       omega (arith, c.get-number.ensures.low, c.get-number.ensures.value),
@@ -22,7 +22,7 @@ returns-in-Busy c = λ before n.
     c.next_line.ensures.items c.next_line.ensures.len
 
 pub returns-in-UndoFull : goal.returns-in-UndoFull
-returns-in-UndoFull c = λ before n.
+returns-in-UndoFull c = λ before n asked.
     subst (λ (z : World system). Turned c.args.plan.now z (counts_of c.args.served.now) c.args.out.now.items
     c.make_way.result (world_of c.make_way.new.core) (counts_of c.args.served.now) c.make_way.new.out.items)
     (full_stays system before (world_of c.args.core.now) c.args.terminal
@@ -31,7 +31,7 @@ returns-in-UndoFull c = λ before n.
     c.make_way.ensures
 
 pub returns-in-InvalidItem : goal.returns-in-InvalidItem
-returns-in-InvalidItem c = λ before n.
+returns-in-InvalidItem c = λ before n asked.
     c.rolled_back.ensures before
     (subst (λ (e : Refusal). Next system before (Advance c.args.terminal) (refusal_in (step.Advance c.args.terminal) e)
-    (world_of c.args.core.now)) c.in-InvalidItem.is n)
+    (world_of c.args.core.now)) c.in-InvalidItem.is n) asked

@@ -1,7 +1,8 @@
 use Rattle.std.proofs.Common.{length, ◌+◌, ◌<◌, ◌≤◌, ℕ, List, Option, Some, None, arith}
 use Rattle.std.specs.Borrow.{Bor}
 use Rattle.std.specs.Option.{option_copied, IfSome}
-use Rattle.oe_fields.proofs.FrontFacts.{taken_number}
+use Rattle.oe_fields.specs.Spelling.{number_of}
+use Rattle.oe_fields.proofs.FrontFacts.{taken_value}
 use Rattle.oe_fields.proofs.fields.Fields.take_digits.Goals as goal
 
 left_short : (place n most : ℕ) (left : Option (Bor (List ℕ))) → place + n ≤ most
@@ -13,7 +14,7 @@ pub invariant_of-self : goal.invariant_of-self
 invariant_of-self c =
     let i = c.self.invariant in
     record {
-      from = (taken_number c.self.inside.format c.self.inside.line.now c.self.inside.place c.in_ok-n.n
+      from = (taken_value number_of c.self.inside.format c.self.inside.line.now c.self.inside.place c.in_ok-n.n
           c.in_ok-rest.rest.now (option_copied c.in_ok-n.left) (rw c.in_ok-rest.was at i.from) c.in_ok-n.ensures).1;
       short = left_short c.self.inside.place (length c.in_ok-rest.rest.now) (length c.self.inside.line.now)
           c.in_ok-n.left (rw c.in_ok-rest.was at i.short) c.in_ok-n.ensures.short;
@@ -22,6 +23,6 @@ invariant_of-self c =
 pub returns-clause-value : goal.returns-clause-value
 returns-clause-value c =
     rw (← c.self.view_is)
-    ((taken_number c.self.inside.format c.self.inside.line.now c.self.inside.place c.in_ok-n.n
+    ((taken_value number_of c.self.inside.format c.self.inside.line.now c.self.inside.place c.in_ok-n.n
     c.in_ok-rest.rest.now (option_copied c.in_ok-n.left) (rw c.in_ok-rest.was at c.self.invariant.from)
     c.in_ok-n.ensures).0)

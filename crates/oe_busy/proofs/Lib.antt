@@ -1,0 +1,6 @@
+pub mod CountFacts
+pub mod MetFacts
+pub mod OrderFacts
+pub mod FirstFacts
+pub mod WaitFacts
+pub mod TableFacts
