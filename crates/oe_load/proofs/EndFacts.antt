@@ -11,7 +11,8 @@ use Rattle.oe_words.specs.Texts.{line_text}
 use Rattle.oe_numbers.specs.declared.forms.Form.{Form}
 use Rattle.oe_numbers.specs.declared.forms.Form.TheVariants as load_form
 use Rattle.oe_plans.specs.declared.plans.Plan.{Plan}
-use Rattle.oe_load.specs.Loads.{IsScript, IsDone, none_served, opening_text, script_text}
+use Rattle.oe_load.specs.Loads.{IsDone, none_served, opening_text, script_text}
+use Rattle.oe_load.specs.Scripts.{State, IsScript, first_state}
 use Rattle.oe_load.specs.declared.origins.Origin.{Origin}
 use Rattle.oe_busy.specs.declared.happenings.Happening.{Happening}
 use Rattle.oe_load.specs.Turns.{Steps}
@@ -33,69 +34,67 @@ cut_off a b c i text s k = cut_as a c [] (text ++ []) text (append-nil text) (se
 
 -- A SCRIPT SO FAR
 
--- the load told lines that led to this world, and to `begun` terminals that have begun; it wrote them, or they wait
-abbrev pub Standing : Plan → Origin → Option Sink → Option Sink → List ℕ → World system → (ℕ → ℕ) → ℕ → Type 0
-Standing p o a b i w s begun =
-    (cs : List Command) × IsScript p o cs w s × Phase p begun cs s × Sent a [] b i (script_text p o cs)
+-- the load told lines that led to this state; it wrote them, or they wait
+abbrev pub Standing : Plan → Origin → Option Sink → Option Sink → List ℕ → State → Type 0
+Standing p o a b i s =
+    (cs : List Command) × IsScript p o cs s × Phase p s.begun cs s.served × Sent a [] b i (script_text p o cs)
 
 module _ (p : Plan) (o : Origin) (a : Option Sink) where
-  pub at_first : (i : List ℕ) (w : World system) (s : ℕ → ℕ) → i ≡ opening_text p o load_form.Script → s ≡ none_served
-      → IsScript p o [] w none_served → Standing p o a a i w s 0
+  pub at_first : (i : List ℕ) (w : World system) (s : State) → i ≡ opening_text p o load_form.Script
+      → s ≡ first_state p w → IsScript p o [] (first_state p w) → Standing p o a a i s
   at_first i w s e same h = (
     [],
-    subst (λ (f : ℕ → ℕ). IsScript p o [] w f) (sym same) h,
-    phase_at_first p s same,
+    subst (λ (z : State). IsScript p o [] z) (sym same) h,
+    subst (λ (z : State). Phase p z.begun [] z.served) (sym same) (phase_at_first p none_served refl),
     sent_waits a [] i (script_text p o []) (e ∙ sym (append-nil (opening_text p o load_form.Script))),
   )
 
-  pub line_more : (b c : Option Sink) (i j k : List ℕ) (w : World system) (s : ℕ → ℕ) (n : ℕ) (h : Happening)
-      (v : World system) (u : ℕ → ℕ) (m : ℕ) → Standing p o a b i w s n → Sent b i c j [] → Steps p n w s j h m v u k
-      → Standing p o a c k v u m
-  line_more b c i j k w s n h v u m (cs, script, phase, sent) more (x, told, happened, opens, e) = (
+  pub line_more : (b c : Option Sink) (i j k : List ℕ) (s : State) (h : Happening) (t : State)
+      → Standing p o a b i s → Sent b i c j [] → Steps p s j h t k → Standing p o a c k t
+  line_more b c i j k s h t (cs, script, phase, sent) more (x, turn, e) = (
     cs ++ x ∷ [],
-    script_more p o cs w s x v u script told,
-    phase_more p n m cs x s u phase opens,
+    script_more p o cs s x h t script turn,
+    phase_more p s t cs x h phase turn.in_turn,
     sent_as a c [] k (script_text p o cs ++ line_text x) (script_text p o (cs ++ x ∷ [])) (text_more p o cs x)
         (sent_then a c c [] j k (script_text p o cs) (line_text x)
         (flushed a b c i j (script_text p o cs) sent more) (sent_waits c j k (line_text x) e)),
   )
 
-  is_begun : (cs : List Command) (w : World system) (s : ℕ → ℕ) → IsScript p o cs w s → IsBegun p o (script_text p o cs)
-  is_begun cs w s h = record { lines = cs; world = w; served = s; script = h; text_is = refl }
+  is_begun : (cs : List Command) (s : State) → IsScript p o cs s → IsBegun p o (script_text p o cs)
+  is_begun cs s h = record { lines = cs; state = s; script = h; text_is = refl }
 
-  pub ends_served : (b : Option Sink) (i : List ℕ) (w : World system) (s : ℕ → ℕ) (n : ℕ) → Standing p o a b i w s n
-      → IsDone p w s → Wrote p o load_form.Script a b i (Ok ending.Served)
-  ends_served b i w s n (cs, script, phase, sent) done = (
+  pub ends_served : (b : Option Sink) (i : List ℕ) (s : State) → Standing p o a b i s → IsDone p s.world s.served
+      → Wrote p o load_form.Script a b i (Ok ending.Served)
+  ends_served b i s (cs, script, phase, sent) done = (
     script_text p o cs,
     record {
       lines = cs;
-      world = w;
-      served = s;
+      state = s;
       script = script;
       done = done;
-      together = phase_done p n cs s phase done.all;
+      together = phase_done p s.begun cs s.served phase done.all;
       text_is = refl;
     },
     sent,
   )
 
-  pub ends_short : (b c : Option Sink) (i j k : List ℕ) (w : World system) (s : ℕ → ℕ) (n : ℕ) (e : Shortage)
-      → Standing p o a b i w s n → Sent b i c j [] → k ≡ j → Wrote p o load_form.Script a c k (Ok (ending.Short e))
-  ends_short b c i j k w s n e (cs, script, phase, sent) more same = (
+  pub ends_short : (b c : Option Sink) (i j k : List ℕ) (s : State) (e : Shortage) → Standing p o a b i s
+      → Sent b i c j [] → k ≡ j → Wrote p o load_form.Script a c k (Ok (ending.Short e))
+  ends_short b c i j k s e (cs, script, phase, sent) more same = (
     script_text p o cs,
-    inr (is_begun cs w s script),
+    inr (is_begun cs s script),
     subst (λ (z : List ℕ). Sent a [] c z (script_text p o cs)) (sym same)
         (flushed a b c i j (script_text p o cs) sent more),
   )
 
-  pub ends_there : (b : Option Sink) (i : List ℕ) (w : World system) (s : ℕ → ℕ) (n : ℕ) (e : Shortage)
-      → Standing p o a b i w s n → Wrote p o load_form.Script a b i (Ok (ending.Short e))
-  ends_there b i w s n e (cs, script, phase, sent) = (script_text p o cs, inr (is_begun cs w s script), sent)
+  pub ends_there : (b : Option Sink) (i : List ℕ) (s : State) (e : Shortage) → Standing p o a b i s
+      → Wrote p o load_form.Script a b i (Ok (ending.Short e))
+  ends_there b i s e (cs, script, phase, sent) = (script_text p o cs, inr (is_begun cs s script), sent)
 
-  pub ends_cut : (b c : Option Sink) (i k : List ℕ) (w : World system) (s : ℕ → ℕ) (n : ℕ) (e : Failed)
-      → Standing p o a b i w s n → Cut b i c [] → Wrote p o load_form.Script a c k (Err e)
-  ends_cut b c i k w s n e (cs, script, phase, sent) cut =
-      (script_text p o cs, inr (is_begun cs w s script), cut_off a b c i (script_text p o cs) sent cut)
+  pub ends_cut : (b c : Option Sink) (i k : List ℕ) (s : State) (e : Failed) → Standing p o a b i s → Cut b i c []
+      → Wrote p o load_form.Script a c k (Err e)
+  ends_cut b c i k s e (cs, script, phase, sent) cut =
+      (script_text p o cs, inr (is_begun cs s script), cut_off a b c i (script_text p o cs) sent cut)
 
   -- nothing was opened
   pub ends_unopened : (k : List ℕ) (e : Shortage) → k ≡ [] → Wrote p o load_form.Script a a k (Ok (ending.Short e))
@@ -114,15 +113,13 @@ whole_begun p o load_form.Flat text h = record {
 }
 whole_begun p o load_form.Script text h = record {
   lines = h.lines;
-  world = h.world;
-  served = h.served;
+  state = h.state;
   script = h.script;
   text_is = h.text_is;
 }
 whole_begun p o load_form.Busy text h = record {
   happenings = h.happenings;
-  world = h.world;
-  served = h.served;
+  state = h.state;
   watched = h.watched;
   table = h.table;
 }

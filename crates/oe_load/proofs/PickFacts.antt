@@ -1,6 +1,6 @@
 -- Whose turn it is.
 use Rattle.std.proofs.Common.{◌≡◌, ℕ, zero, suc, ◌+◌, ◌-◌, ◌<◌, List, [], ◌∷◌, length, slice_set, get_or, refl, sym, ap}
-use Rattle.std.proofs.Common.{◌∙◌, inl, inr, arith, Option, None, Some}
+use Rattle.std.proofs.Common.{◌∙◌, inl, inr, arith, replicate, Option, None, Some}
 use Rattle.std.specs.Prelude.{◌⊎◌, ◌≢◌, ◌==◌, if◌then◌else◌, Bool, true, false, option_map, unwrap_or}
 use Rattle.std.proofs.lemmas.Bool.{cases_eq, cond-false, cond-true}
 use mathlib.Core.Path.{fun_ext}
@@ -10,7 +10,7 @@ use Rattle.oe_model.specs.System.{system}
 use Rattle.oe_waits.specs.Waits.{last_terminal}
 use Rattle.oe_plans.specs.declared.plans.Plan.{Plan}
 use Rattle.oe_load.specs.Flats.{behind, first_behind}
-use Rattle.oe_load.specs.Picks.{holders_of, holder_of, followed, first_after}
+use Rattle.oe_load.specs.Picks.{holders_of, holder_of, followed, first_after, none_named}
 
 -- ---- whom answers have named
 
@@ -34,6 +34,14 @@ noted l t o h = fun_ext (λ u. each u (cases_eq u t))
     each u (inl same) = ap (λ z. holders_of (slice_set l t o) z) same
         ∙ (put l t o h ∙ sym (set_same t o (holders_of l) u same))
     each u (inr other) = still l t u o other ∙ sym (set_other t o (holders_of l) u other)
+
+nobody : (k t : ℕ) → ◌≡◌ {A = Option ℕ} (get_or (replicate {A = Option ℕ} k None) t None) None
+nobody zero t = refl
+nobody (suc k) zero = refl
+nobody (suc k) (suc t) = nobody k t
+
+pub nobody_is : (k : ℕ) → holders_of (replicate {A = Option ℕ} k None) ≡ none_named
+nobody_is k = fun_ext (λ t. nobody k t)
 
 -- ---- where waits lead
 

@@ -10,13 +10,15 @@ use Rattle.oe_requests.specs.declared.requests.Query.{Query}
 use Rattle.oe_lines.specs.declared.commands.Command.{Command}
 use Rattle.oe_lines.specs.declared.commands.Command.TheVariants as command
 use Rattle.oe_lines.specs.declared.commands.MomentChoice.TheVariants as moment
+use Rattle.oe_busy.specs.declared.happenings.Happening.{Happening}
 use Rattle.oe_plans.specs.declared.plans.Plan.{Plan}
 use Rattle.oe_plans.specs.declared.plans.Asked.{Asked}
 use Rattle.oe_plans.specs.declared.plans.Asked.TheVariants as asked
 use Rattle.oe_plans.specs.Plans.{asked_of}
 use Rattle.oe_load.specs.Loads.{AreServed, none_served}
 use Rattle.oe_load.specs.Together.{IsTransaction, HasTransactions, first_begun, numbers_to, BeginTogether, Opens}
-use Rattle.oe_load.specs.Together.{begins, reads, reads_last, goes_on}
+use Rattle.oe_load.specs.Together.{begins, reads, reads_last}
+use Rattle.oe_load.specs.Scripts.{State, IsEarlyTurn, IsDrawnTurn}
 
 -- ---- lines that begin or read
 
@@ -159,17 +161,20 @@ module _ (p : Plan) (begun : ℕ) (cs : List Command) (served : ℕ → ℕ) whe
           (omega (arith, below, all, count)) one
 
 -- one line more
-pub phase_more : (p : Plan) (begun now : ℕ) (cs : List Command) (c : Command) (served after : ℕ → ℕ)
+phase_early : (p : Plan) (begun now : ℕ) (cs : List Command) (c : Command) (served after : ℕ → ℕ)
     → Phase p begun cs served → Opens p begun served c after now → Phase p now (cs ++ c ∷ []) after
-phase_more p begun _ cs _ served _ (inl e) (begins q few) =
+phase_early p begun _ cs _ served _ (inl e) (begins q few) =
     begin_more p begun cs served (command.Begin (suc begun) q) e tt refl
-phase_more p begun _ cs _ served _ (inl e) (reads q few is) = read_more p begun cs served q e is
-phase_more p begun _ cs _ served _ (inl e) (reads_last q few is all) = last_more p begun cs served q e is all
-phase_more p begun _ cs _ served _ (inl e) (goes_on c after all) = absurd (omega (arith, all, e.few))
-phase_more p begun _ cs _ served _ (inr h) (begins q few) = absurd (omega (arith, few, h.0))
-phase_more p begun _ cs _ served _ (inr h) (reads q few is) = absurd (omega (arith, few, h.0))
-phase_more p begun _ cs _ served _ (inr h) (reads_last q few is all) = absurd (omega (arith, few, h.0))
-phase_more p begun _ cs _ served _ (inr h) (goes_on c after all) = (inr (h.0, λ k. more (h.1 k)))
+phase_early p begun _ cs _ served _ (inl e) (reads q few is more) = read_more p begun cs served q e is
+phase_early p begun _ cs _ served _ (inl e) (reads_last q few is all) = last_more p begun cs served q e is all
+phase_early p begun _ cs _ served _ (inr h) (begins q few) = absurd (omega (arith, few, h.0))
+phase_early p begun _ cs _ served _ (inr h) (reads q few is more) = absurd (omega (arith, few, h.0))
+phase_early p begun _ cs _ served _ (inr h) (reads_last q few is all) = absurd (omega (arith, few, h.0))
+
+phase_late : (p : Plan) (begun : ℕ) (cs : List Command) (c : Command) (served after : ℕ → ℕ)
+    → Phase p begun cs served → p.numbers.terminals ≤ begun → Phase p begun (cs ++ c ∷ []) after
+phase_late p begun cs c served after (inl e) all = absurd (omega (arith, all, e.few))
+phase_late p begun cs c served after (inr h) all = inr (h.0, λ k. more (h.1 k))
   where
     more : BeginTogether p cs → BeginTogether p (cs ++ c ∷ [])
     more (rest, e) =
@@ -177,6 +182,14 @@ phase_more p begun _ cs _ served _ (inr h) (goes_on c after all) = (inr (h.0, λ
           rest ++ next.0,
           next.1 ∙ (ap (λ z. z ++ next.0) e ∙ append_assoc (numbers_to p.numbers.terminals) rest next.0),
         )
+
+pub phase_more : (p : Plan) (s t : State) (cs : List Command) (c : Command) (h : Happening)
+    → Phase p s.begun cs s.served → IsEarlyTurn p s c t ⊎ IsDrawnTurn p s c h t
+    → Phase p t.begun (cs ++ c ∷ []) t.served
+phase_more p s t cs c h phase (inl e) = phase_early p s.begun t.begun cs c s.served t.served phase e.opens
+phase_more p s t cs c h phase (inr d) =
+    subst (λ (n : ℕ). Phase p n (cs ++ c ∷ []) t.served) (sym d.begun_stay)
+    (phase_late p s.begun cs c s.served t.served phase d.all)
 
 -- at the end all have begun
 pub phase_done : (p : Plan) (begun : ℕ) (cs : List Command) (served : ℕ → ℕ) → Phase p begun cs served

@@ -1,14 +1,12 @@
 -- What is written of a load.
 use Rattle.std.specs.Prelude.{◌≡◌, ℕ, List, [], ◌⊎◌, Option, Result, Ok, Err}
-use Rattle.oe_theory.specs.World.{World}
-use Rattle.oe_model.specs.System.{system}
 use Rattle.oe_lines.specs.declared.commands.Command.{Command}
 use Rattle.oe_ports.specs.declared.ports.Failed.{Failed}
 use Rattle.oe_ports.specs.Ports.{Sink, Sent, Cut}
 use Rattle.oe_numbers.specs.declared.forms.Form.{Form}
 use Rattle.oe_numbers.specs.declared.forms.Form.TheVariants as load_form
 use Rattle.oe_plans.specs.declared.plans.Plan.{Plan}
-use Rattle.oe_load.specs.Loads.{IsScript, IsDone, AreServed, none_served, script_text}
+use Rattle.oe_load.specs.Loads.{IsDone, AreServed, none_served, script_text}
 use Rattle.rand_pcg.specs.Lcg.{Lcg}
 use Rattle.oe_terms.specs.Draws.{words_of}
 use Rattle.oe_load.specs.declared.origins.Origin.{Origin}
@@ -17,7 +15,7 @@ use Rattle.oe_busy.specs.declared.happenings.Happening.{Happening}
 use Rattle.oe_busy.specs.Tables.{AreCounted, IsTable}
 use Rattle.oe_busy.specs.declared.tables.Busyness.{Busyness}
 use Rattle.oe_load.specs.declared.turns.Shortage.{Shortage}
-use Rattle.oe_load.specs.Happens.{IsWatched}
+use Rattle.oe_load.specs.Scripts.{State, IsScript, IsWatched}
 use Rattle.oe_load.specs.Flats as flats
 use Rattle.oe_load.specs.Flats.{InTurn, requests_text}
 use Rattle.oe_load.specs.declared.loads.Ending.{Ending}
@@ -29,17 +27,15 @@ use Rattle.oe_load.specs.declared.loads.LoadFault.TheVariants as fault
 -- terminals' first transactions, where each has one.
 pub record IsBegun (p : Plan) (o : Origin) (text : List ℕ) : Type 0 where
   pub lines : List Command
-  pub world : World system
-  pub served : ℕ → ℕ
-  pub script : IsScript p o lines world served
+  pub state : State
+  pub script : IsScript p o lines state
   pub text_is : text ≡ script_text p o lines
 
 pub record IsWhole (p : Plan) (o : Origin) (text : List ℕ) : Type 0 where
   pub lines : List Command
-  pub world : World system
-  pub served : ℕ → ℕ
-  pub script : IsScript p o lines world served
-  pub done : IsDone p world served
+  pub state : State
+  pub script : IsScript p o lines state
+  pub done : IsDone p state.world state.served
   pub together : HasTransactions p → BeginTogether p lines
   pub text_is : text ≡ script_text p o lines
 
@@ -63,17 +59,15 @@ pub record IsFlatWhole (p : Plan) (o : Origin) (text : List ℕ) : Type 0 where
 -- served.
 pub record IsBusyBegun (p : Plan) (o : Origin) (text : List ℕ) : Type 0 where
   pub happenings : List Happening
-  pub world : World system
-  pub served : ℕ → ℕ
-  pub watched : IsWatched p o happenings world served
+  pub state : State
+  pub watched : IsWatched p o happenings state
   pub table : IsTable happenings text
 
 pub record IsBusyWhole (p : Plan) (o : Origin) (text : List ℕ) : Type 0 where
   pub happenings : List Happening
-  pub world : World system
-  pub served : ℕ → ℕ
-  pub watched : IsWatched p o happenings world served
-  pub done : IsDone p world served
+  pub state : State
+  pub watched : IsWatched p o happenings state
+  pub done : IsDone p state.world state.served
   pub table : IsTable happenings text
 
 -- the requests alone, a script, or a table
@@ -108,8 +102,7 @@ Wrote p o form old new waits (Err e) =
 -- no longer known
 abbrev pub Watches : Plan → Origin → Busyness → Result Ending Shortage → Type 0
 Watches p o b (Ok ending.Served) =
-    (hs : List Happening) × (w : World system) × (served : ℕ → ℕ) × IsWatched p o hs w served × IsDone p w served
-    × AreCounted b hs
+    (hs : List Happening) × (t : State) × IsWatched p o hs t × IsDone p t.world t.served × AreCounted b hs
 Watches p o b (Ok (ending.Short e)) =
-    (hs : List Happening) × (w : World system) × (served : ℕ → ℕ) × IsWatched p o hs w served × AreCounted b hs
+    (hs : List Happening) × (t : State) × IsWatched p o hs t × AreCounted b hs
 Watches p o b (Err e) = Unit {0}

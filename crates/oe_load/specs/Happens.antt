@@ -1,16 +1,13 @@
 -- What happens at the lines of a load.
-use Rattle.std.specs.Prelude.{◌≡◌, ℕ, cond, List, [], ◌∷◌, Option, None, Some}
+use Rattle.std.specs.Prelude.{◌≡◌, ℕ, cond, Option, None, Some}
 use Rattle.oe_theory.specs.Machine.{Hold}
 use Rattle.oe_theory.specs.World.{World}
 use Rattle.oe_theory.specs.Next.{Next, Answer, Advance, Aborted, More, Committed, Busy}
-use Rattle.oe_theory.specs.Theorems.{opened}
-use Rattle.oe_rows.specs.declared.layouts.Layout.TheVariants.{WholeRows}
 use Rattle.oe_rows.specs.declared.locks.Name.{Name}
 use Rattle.oe_rows.specs.declared.locks.Mode.{Mode}
 use Rattle.oe_requests.specs.declared.requests.Request.{Request}
 use Rattle.oe_requests.specs.declared.requests.Query.{Query}
 use Rattle.oe_model.specs.Locks.{mode_of}
-use Rattle.oe_model.specs.Rows.{Rows}
 use Rattle.oe_model.specs.System.{system}
 use Rattle.oe_core.specs.Asks.{wanted_by}
 use Rattle.oe_waits.specs.Waits.{waits_through}
@@ -19,9 +16,6 @@ use Rattle.oe_lines.specs.declared.commands.Command.TheVariants as command
 use Rattle.oe_lines.specs.declared.commands.MomentChoice.TheVariants as moment
 use Rattle.oe_busy.specs.declared.happenings.Happening.{Happening}
 use Rattle.oe_busy.specs.declared.happenings.Happening.TheVariants as happening
-use Rattle.oe_plans.specs.declared.plans.Plan.{Plan}
-use Rattle.oe_load.specs.declared.origins.Origin.{Origin}
-use Rattle.oe_load.specs.Loads.{Begins, Told, none_served}
 
 -- an advance that is answered so was carried out, with the lock that it asks for
 abbrev pub IsPassed : Answer system → Type 0
@@ -55,16 +49,3 @@ pub data Happens (w : World system) : Command → World system → Happening →
       → Happens w (command.Next t) v (happening.Waits t n u)
   breaks : (t : ℕ) (v : World system) (h : Happening) → IsBreaking t (wanted_in_cycle w t) h
       → Happens w (command.Rollback t) v h
-
--- Lines that a load tells one after another, by what happened at each, the newest first.
-abbrev pub Course : Plan → World system → (ℕ → ℕ) → List Happening → World system → (ℕ → ℕ) → Type 0
-Course p w served [] v after = (v ≡ w) × (after ≡ served)
-Course p w served (h ∷ hs) v after =
-    (c : Command) × (mid : World system) × (between : ℕ → ℕ) × Course p w served hs mid between
-    × Told p mid between c v after × Happens mid c v h
-
--- this happened at the lines of a script behind its opening, which leave this world
-pub record IsWatched (p : Plan) (o : Origin) (hs : List Happening) (w : World system) (served : ℕ → ℕ) : Type 0 where
-  pub base : Rows
-  pub begun_on : Begins p o base
-  pub course : Course p (opened system base p.numbers.extents WholeRows) none_served hs w served

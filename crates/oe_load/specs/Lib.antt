@@ -4,5 +4,6 @@ pub mod Together
 pub mod Flats
 pub mod Happens
 pub mod Picks
+pub mod Scripts
 pub mod Turns
 pub mod Ends

@@ -1,12 +1,10 @@
--- The script of a load: a run of the machine in which each line is answered, and by no refusal but `Busy`, and but an
--- unused item's where orders have some.
+-- The lines of a load: each is answered, and by no refusal but `Busy`, and but an unused item's where orders have some.
 use Rattle.std.specs.Prelude.{◌≡◌, ℕ, ◌+◌, ◌≤◌, ◌<◌, List, [], ◌∷◌, ◌++◌, length, None}
 use Rattle.std.specs.Prelude.{codes, decimal}
 use Rattle.std.specs.List.{flat_map}
 use Rattle.oe_theory.specs.World.{World, newest, bump}
 use Rattle.oe_theory.specs.Next.{Next, IsQuiet, Begin, Advance, Rollback, Read, Purge}
 use Rattle.oe_theory.specs.Next.{Aborted, Begun, More, Committed, Busy, Rolled_back, Replied, Purged}
-use Rattle.oe_theory.specs.Theorems.{opened}
 use Rattle.oe_rows.specs.declared.locks.Name.{Name}
 use Rattle.oe_requests.specs.declared.requests.Request.{Request}
 use Rattle.oe_requests.specs.declared.requests.Query.{Query}
@@ -14,7 +12,6 @@ use Rattle.oe_requests.specs.declared.refusals.Refusal.TheVariants.{InvalidItem}
 use Rattle.oe_requests.specs.declared.replies.Reply.{Reply}
 use Rattle.oe_requests.specs.declared.replies.QueryReply.{QueryReply}
 use Rattle.oe_model.specs.Rows.{Rows}
-use Rattle.oe_rows.specs.declared.layouts.Layout.TheVariants.{WholeRows}
 use Rattle.oe_model.specs.Conditions.{IsPopulation}
 use Rattle.oe_model.specs.Population.{IsPopulated}
 use Rattle.oe_store.specs.Places.{rows}
@@ -76,12 +73,6 @@ pub record Told (p : Plan) (w : World system) (served : ℕ → ℕ) (c : Comman
   pub short : length (line_text c) ≤ 1_025
   pub line : Line p w served c v after
 
--- lines in order
-abbrev pub Lines : Plan → World system → (ℕ → ℕ) → List Command → World system → (ℕ → ℕ) → Type 0
-Lines p w served [] v after = (v ≡ w) × (after ≡ served)
-Lines p w served (c ∷ cs) v after =
-    (mid : World system) × (between : ℕ → ℕ) × Told p w served c mid between × Lines p mid between cs v after
-
 -- nothing was served yet
 abbrev pub none_served : ℕ → ℕ
 none_served t = 0
@@ -94,12 +85,6 @@ IsOrigin (origin.Tables t) = IsPopulation (rows t)
 abbrev pub Begins : Plan → Origin → Rows → Type 0
 Begins p origin.Population r = IsPopulated p.numbers.scale r
 Begins p (origin.Tables t) r = r ≡ rows t
-
--- the lines behind the opening run on these tables, and leave this world
-pub record IsScript (p : Plan) (o : Origin) (cs : List Command) (w : World system) (served : ℕ → ℕ) : Type 0 where
-  pub base : Rows
-  pub begun_on : Begins p o base
-  pub lines : Lines p (opened system base p.numbers.extents WholeRows) none_served cs w served
 
 -- each terminal has had all of its requests served
 abbrev pub AreServed : Plan → (ℕ → ℕ) → Type 0

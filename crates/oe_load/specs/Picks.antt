@@ -1,11 +1,13 @@
 -- Whose turn it is in a script: a function of what is open, of what was served, of whom the answers `Busy` have named,
 -- and of a number that is drawn.
 use Rattle.std.specs.Prelude.{ℕ, zero, suc, ◌||◌, ◌&&◌, ◌==◌, Bool, if◌then◌else◌, nat_lt, is_some, is_none}
-use Rattle.std.specs.Prelude.{List, get_or}
+use Rattle.std.specs.Prelude.{List, get_or, Result, Ok, Err}
 use Rattle.std.specs.Prelude.{Option, None, Some, option_map, option_and_then, unwrap_or}
 use Rattle.oe_theory.specs.World.{World}
 use Rattle.oe_model.specs.System.{system}
 use Rattle.oe_waits.specs.Waits.{waits_for, last_terminal}
+use Rattle.oe_busy.specs.declared.happenings.Happening.{Happening}
+use Rattle.oe_busy.specs.declared.happenings.Happening.TheVariants as happening
 use Rattle.oe_plans.specs.declared.plans.Plan.{Plan}
 use Rattle.oe_load.specs.Flats.{first_behind}
 use Rattle.oe_load.specs.declared.picks.Pick.{Pick}
@@ -14,6 +16,25 @@ use Rattle.oe_load.specs.declared.picks.Pick.TheVariants as pick
 -- whom each terminal's last answer named, where that was `Busy`, in a list with a place for each number
 abbrev pub holders_of : List (Option ℕ) → ℕ → Option ℕ
 holders_of list t = get_or list t None
+
+-- nobody was named yet
+abbrev pub none_named : ℕ → Option ℕ
+none_named t = None
+
+-- whom an answer names, where it is `Busy`
+abbrev pub named_by : Happening → Option ℕ
+named_by happening.Begun = None
+named_by happening.Done = None
+named_by (happening.Went t) = None
+named_by (happening.Took t n m) = None
+named_by (happening.Waits t n u) = Some u
+named_by (happening.Broke t n) = None
+named_by (happening.GaveWay t) = None
+
+-- the same, where a line was told
+abbrev pub named_in : {E : Type 0} → Result Happening E → Option ℕ
+named_in (Ok h) = named_by h
+named_in (Err e) = None
 
 -- the terminal that t was answered `Busy` for, where it still holds what t asks for
 abbrev pub holder_of : World system → (ℕ → Option ℕ) → ℕ → Option ℕ
@@ -62,3 +83,8 @@ abbrev pub pick_of : Plan → World system → (ℕ → ℕ) → (ℕ → Option
 pick_of p w served named drawn =
     if is_in_cycle w named drawn then pick.GiveWay drawn
     else pick_among w named drawn (first_behind p (is_able p w served named) drawn 0 p.numbers.terminals) (first_open w)
+
+-- the terminal whose turn that is
+abbrev pub terminal_of : Pick → ℕ
+terminal_of (pick.Turn t) = t
+terminal_of (pick.GiveWay t) = t

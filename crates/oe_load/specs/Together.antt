@@ -1,5 +1,5 @@
 -- How a script begins: each terminal's first transaction begins before any of them goes on.
-use Rattle.std.specs.Prelude.{◌≡◌, ℕ, zero, suc, ◌+◌, ◌≤◌, ◌<◌, List, [], ◌∷◌, ◌++◌}
+use Rattle.std.specs.Prelude.{◌≡◌, ◌≢◌, ℕ, zero, suc, ◌+◌, ◌≤◌, ◌<◌, List, [], ◌∷◌, ◌++◌}
 use Rattle.oe_theory.specs.World.{bump}
 use Rattle.oe_requests.specs.declared.requests.Request.{Request}
 use Rattle.oe_requests.specs.declared.requests.Query.{Query}
@@ -38,15 +38,15 @@ abbrev pub BeginTogether : Plan → List Command → Type 0
 BeginTogether p cs = (rest : List ℕ) × (first_begun cs ≡ numbers_to p.numbers.terminals ++ rest)
 
 -- A line where the first `begun` terminals have begun, or have no transaction; it leaves the last number. The next one
--- begins or reads; where it has read its last, it has no transaction. Once all have begun a line may be any.
+-- begins or reads; where it has read its last, it has no transaction.
 pub data Opens (p : Plan) (begun : ℕ) (served : ℕ → ℕ) : Command → (ℕ → ℕ) → ℕ → Type 0 where
   begins : (q : Request) → begun < p.numbers.terminals
       → Opens p begun served (command.Begin (suc begun) q) served (suc begun)
   reads : (q : Query) → begun < p.numbers.terminals
       → asked_of p (suc begun) (p.first + served (suc begun)) ≡ asked.Query q
+      → suc (served (suc begun)) ≢ p.numbers.requests
       → Opens p begun served (command.Read moment.Now q) (bump (suc begun) served) begun
   reads_last : (q : Query) → begun < p.numbers.terminals
       → asked_of p (suc begun) (p.first + served (suc begun)) ≡ asked.Query q
       → suc (served (suc begun)) ≡ p.numbers.requests
       → Opens p begun served (command.Read moment.Now q) (bump (suc begun) served) (suc begun)
-  goes_on : (c : Command) (after : ℕ → ℕ) → p.numbers.terminals ≤ begun → Opens p begun served c after begun

@@ -19,23 +19,32 @@ use Rattle.oe_busy.specs.declared.happenings.Happening.TheVariants as happening
 use Rattle.oe_load.specs.declared.turns.Shortage.{Shortage}
 use Rattle.oe_load.specs.Loads.{Told, IsNext, HasWords}
 use Rattle.oe_load.specs.Happens.{Happens}
-use Rattle.oe_load.specs.Together.{Opens}
+use Rattle.oe_load.specs.declared.loads.Drawing.{Drawing}
+use Rattle.oe_load.specs.declared.picks.Pick.{Pick}
+use Rattle.oe_load.specs.Picks.{holders_of}
+use Rattle.oe_load.specs.Scripts.{State, Does, IsTurn}
 use Rattle.oe_load.specs.Flats.{flat_text, turn_of}
 
 -- how many requests of a terminal were served, in a list with a place for each number
 abbrev pub counts_of : List ℕ → ℕ → ℕ
 counts_of list t = get_or list t 0
 
--- a line was told at which this happened, and stands behind the text
-abbrev pub Tells : Plan → World system → (ℕ → ℕ) → List ℕ → Happening → World system → (ℕ → ℕ) → List ℕ → Type 0
-Tells p w served text h v after more =
-    (c : Command) × Told p w served c v after × Happens w c v h × (more ≡ text ++ line_text c)
+-- where a load stands, by its arrays
+abbrev pub state_of : World system → (ℕ → ℕ) → Drawing → State
+state_of w f d = record { world = w; served = f; begun = d.begun; named = holders_of d.holders; words = d.words }
+
+-- a line was told by which this pick takes its turn, and at which this happened; it stands behind the text
+abbrev pub Tells : Plan → World system → (ℕ → ℕ) → Pick → List ℕ → Happening → World system → (ℕ → ℕ) → List ℕ
+    → Type 0
+Tells p w served k text h v after more =
+    (c : Command) × Told p w served c v after × Happens w c v h × Does p w served k c after
+    × (more ≡ text ++ line_text c)
 
 -- that, or nothing was written
-abbrev pub Turned : {E : Type 0} → Plan → World system → (ℕ → ℕ) → List ℕ → Result Happening E → World system
+abbrev pub Turned : {E : Type 0} → Plan → World system → (ℕ → ℕ) → Pick → List ℕ → Result Happening E → World system
     → (ℕ → ℕ) → List ℕ → Type 0
-Turned p w served text (Ok h) v after more = Tells p w served text h v after more
-Turned p w served text (Err e) v after more = more ≡ text
+Turned p w served k text (Ok h) v after more = Tells p w served k text h v after more
+Turned p w served k text (Err e) v after more = more ≡ text
 
 -- A terminal's next request was asked for: its transaction begins, or its query is answered; or nothing was written.
 abbrev pub AsksNext : Plan → World system → (ℕ → ℕ) → ℕ → List ℕ → Result Happening Shortage → World system → (ℕ → ℕ)
@@ -65,17 +74,13 @@ begun_after p begun after (happening.Waits x n u) = begun
 begun_after p begun after (happening.Broke x n) = begun
 begun_after p begun after (happening.GaveWay x) = begun
 
--- The load told a line at which this happened, and `now` terminals have begun behind it; or it wrote nothing.
-abbrev pub Steps : Plan → ℕ → World system → (ℕ → ℕ) → List ℕ → Happening → ℕ → World system → (ℕ → ℕ) → List ℕ
-    → Type 0
-Steps p begun w served text h now v after more =
-    (c : Command) × Told p w served c v after × Happens w c v h × Opens p begun served c after now
-    × (more ≡ text ++ line_text c)
+-- the load told the line of whose turn it is, at which this happened; or it wrote nothing
+abbrev pub Steps : Plan → State → List ℕ → Happening → State → List ℕ → Type 0
+Steps p s text h t more = (c : Command) × IsTurn p s c h t × (more ≡ text ++ line_text c)
 
-abbrev pub Took : {E : Type 0} → Plan → ℕ → World system → (ℕ → ℕ) → List ℕ → Result Happening E → ℕ → World system
-    → (ℕ → ℕ) → List ℕ → Type 0
-Took p begun w served text (Ok h) now v after more = Steps p begun w served text h now v after more
-Took p begun w served text (Err e) now v after more = more ≡ text
+abbrev pub Took : {E : Type 0} → Plan → State → List ℕ → Result Happening E → State → List ℕ → Type 0
+Took p s text (Ok h) t more = Steps p s text h t more
+Took p s text (Err e) t more = more ≡ text
 
 -- a terminal's next request was told
 abbrev pub SendsOne : Plan → (ℕ → ℕ) → ℕ → List ℕ → (ℕ → ℕ) → List ℕ → Type 0

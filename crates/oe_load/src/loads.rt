@@ -5,21 +5,24 @@ ghost use Rattle.oe_core.specs.Core.{world_of};
 ghost use Rattle.oe_numbers.specs.declared.forms.Form.{Form};
 ghost use Rattle.oe_numbers.specs.declared.forms.Form.TheVariants.{Script};
 ghost use Rattle.oe_model.specs.Population.{IsScale};
-ghost use Rattle.oe_load.specs.Loads.{none_served, opening_text, IsOrigin, IsScript, IsDone};
+ghost use Rattle.oe_load.specs.Loads.{opening_text, IsOrigin, IsDone};
 ghost use Rattle.oe_load.specs.declared.origins.Origin.{Origin};
 ghost use Rattle.oe_load.specs.declared.origins.Origin.TheVariants as origin;
 ghost use Rattle.oe_model.specs.Conditions.{IsPopulation};
 ghost use Rattle.oe_store.specs.Places.{rows};
-ghost use Rattle.oe_load.specs.Turns.{begun_after, counts_of, Turned, Took};
+ghost use Rattle.oe_load.specs.Picks.{holders_of, none_named};
+ghost use Rattle.oe_load.specs.Scripts.{first_state, IsScript};
+ghost use Rattle.oe_load.specs.Turns.{begun_after, counts_of, state_of, Took};
+ghost use Rattle.oe_terms.specs.Draws.{words_of};
 ghost use Rattle.oe_ports.specs.Ports.{Sink};
 ghost use Rattle.oe_plans.specs.declared.plans.Plan.{Plan};
 ghost use Rattle.oe_load.specs.Ends.{Wrote, LoadRan};
 
 use crate::flats::flat;
 use crate::origins::{Origin, open};
-use crate::picks::{Holders, Pick, note, picked, terminal_after};
+use crate::picks::{Holders, named_in, none_named, note, picked, terminal_after, terminal_of};
 use crate::served::{Served, are_served, none_served, served_of};
-use crate::turns::{Shortage, Turn, ask, give_way, take_turn};
+use crate::turns::{Shortage, Turn, ask, carried_out};
 use crate::watches::busy;
 use oe_busy::Happening;
 use oe_core::Core;
@@ -78,28 +81,15 @@ pub(crate) fn requests_in(plan: &Plan) -> u64
 
 /// Begins to draw: no terminal has begun.
 pub(crate) fn first_drawing(plan: &Plan) -> Drawing
-    ensures { result.begun ≡ 0 }
+    ensures begun { result.begun ≡ 0 }
+    ensures words { result.words ≡ words_of plan.now.numbers.seed 64 }
+    ensures holders { holders_of result.holders ≡ none_named }
 {
+    let words = words(plan.numbers.seed, Terminal::new(64).unwrap());
     Drawing {
         begun: 0,
-        words: words(plan.numbers.seed, Terminal::new(64).unwrap()),
-        holders: [None; 65],
-    }
-}
-
-/// Gives the terminal that an answer `Busy` names.
-fn holder_of(happening: &Happening) -> Option<Terminal> {
-    match happening {
-        Happening::Waits(_, _, holder) => Some(*holder),
-        _ => None,
-    }
-}
-
-/// Gives the same of a turn.
-fn holder_in(turn: &Turn) -> Option<Terminal> {
-    match turn {
-        Ok(happening) => holder_of(happening),
-        Err(_) => None,
+        words,
+        holders: none_named(),
     }
 }
 
@@ -132,9 +122,9 @@ fn early(
 ) -> Turn
     requires room { array_vec_len out.old + LONGEST ≤ SIZE }
     requires few { drawing.old.begun < plan.now.numbers.terminals }
-    ensures { Took plan.now drawing.old.begun (world_of core.old) (counts_of served.old)
-        out.old.items result drawing.new.begun (world_of core.new) (counts_of served.new)
-        out.new.items }
+    ensures { Took plan.now (state_of (world_of core.old) (counts_of served.old) drawing.old)
+        out.old.items result
+        (state_of (world_of core.new) (counts_of served.new) drawing.new) out.new.items }
 {
     let _terminals = plan.numbers.terminals.get();
     let requests = plan.numbers.requests.get();
@@ -159,22 +149,16 @@ fn late(
     drawing: &mut Drawing,
     out: &mut Pending,
 ) -> Turn
-    requires { array_vec_len out.old + LONGEST ≤ SIZE }
-    ensures turned { Turned plan.now (world_of core.old) (counts_of served.old) out.old.items result
-        (world_of core.new) (counts_of served.new) out.new.items }
-    ensures still { drawing.new.begun ≡ drawing.old.begun }
+    requires room { array_vec_len out.old + LONGEST ≤ SIZE }
+    requires all { plan.now.numbers.terminals ≤ drawing.old.begun }
+    ensures { Took plan.now (state_of (world_of core.old) (counts_of served.old) drawing.old)
+        out.old.items result
+        (state_of (world_of core.new) (counts_of served.new) drawing.new) out.new.items }
 {
-    match picked(plan, core, served, &drawing.holders, &mut drawing.words) {
-        Pick::GiveWay(terminal) => {
-            note(&mut drawing.holders, terminal, None);
-            give_way(plan, core, served, terminal, out)
-        }
-        Pick::Turn(terminal) => {
-            let turn = take_turn(plan, core, served, terminal, out);
-            note(&mut drawing.holders, terminal, holder_in(&turn));
-            turn
-        }
-    }
+    let pick = picked(plan, core, served, &drawing.holders, &mut drawing.words);
+    let turn = carried_out(plan, core, served, &pick, out);
+    note(&mut drawing.holders, terminal_of(&pick), named_in(&turn));
+    turn
 }
 
 /// Takes a turn: the terminals begin, one after another; then turns are drawn.
@@ -186,9 +170,9 @@ pub(crate) fn taken(
     out: &mut Pending,
 ) -> Turn
     requires { array_vec_len out.old + LONGEST ≤ SIZE }
-    ensures { Took plan.now drawing.old.begun (world_of core.old) (counts_of served.old)
-        out.old.items result drawing.new.begun (world_of core.new) (counts_of served.new)
-        out.new.items }
+    ensures { Took plan.now (state_of (world_of core.old) (counts_of served.old) drawing.old)
+        out.old.items result
+        (state_of (world_of core.new) (counts_of served.new) drawing.new) out.new.items }
 {
     if drawing.begun < plan.numbers.terminals.get() {
         return early(plan, core, served, drawing, out);
@@ -210,7 +194,7 @@ fn told<W: Outlet>(
     out: &mut Pending,
     to: &mut W,
 ) -> Result<Ending, Failed>
-    ensures { (o : Origin) → IsScript plan.now o [] (world_of core.old) none_served →
+    ensures { (o : Origin) → IsScript plan.now o [] (first_state plan.now (world_of core.old)) →
         out.old.items ≡ opening_text plan.now o Script →
         Wrote plan.now o Script (W.sink to.old) (W.sink to.new) out.new.items result }
 {
@@ -242,7 +226,7 @@ fn scale_holds(scale: &Scale)
 /// Opens a core on what a load begins on.
 pub(crate) fn opened(alloc: Global, plan: &Plan, origin: Origin) -> Result<Core, NoMemory>
     requires { IsOrigin origin }
-    ensures { IfOk result (λ c. IsScript plan.now origin [] (world_of c) none_served) }
+    ensures { IfOk result (λ c. IsScript plan.now origin [] (first_state plan.now (world_of c))) }
 {
     match origin {
         Origin::Population => populated(alloc, plan),
@@ -252,7 +236,8 @@ pub(crate) fn opened(alloc: Global, plan: &Plan, origin: Origin) -> Result<Core,
 
 /// Opens a core on the population of a plan.
 fn populated(alloc: Global, plan: &Plan) -> Result<Core, NoMemory>
-    ensures { IfOk result (λ c. IsScript plan.now origin.Population [] (world_of c) none_served) }
+    ensures { IfOk result (λ c. IsScript plan.now origin.Population []
+        (first_state plan.now (world_of c))) }
 {
     scale_holds(&plan.numbers.scale);
     match populate(alloc, plan.numbers.scale) {
@@ -264,8 +249,8 @@ fn populated(alloc: Global, plan: &Plan) -> Result<Core, NoMemory>
 /// Opens a core on tables.
 fn opened_on(alloc: Global, plan: &Plan, tables: Tables) -> Result<Core, NoMemory>
     requires { IsPopulation (rows tables) }
-    ensures { IfOk result (λ c. IsScript plan.now (origin.Tables tables) [] (world_of c)
-        none_served) }
+    ensures { IfOk result (λ c. IsScript plan.now (origin.Tables tables) []
+        (first_state plan.now (world_of c))) }
 {
     Core::open(alloc, tables, plan.numbers.extents, Layout::WholeRows)
 }
@@ -344,7 +329,8 @@ fn closed<W: Outlet>(
 /// At its end nothing is open, and each terminal has had its requests answered, in their order. It
 /// begins with the first transaction of each terminal, before any of them goes on. A
 /// terminal that is answered `Busy` goes on once its lock is free, or is rolled back and begins
-/// again where terminals wait for one another. Where extents run out, commits are purged.
+/// again where terminals wait for one another. Where extents run out, commits are purged. Whose
+/// turn each line is, is a function of the seed.
 ///
 /// On tables that are there the script has no opening, since a script begins opened on them.
 ///

@@ -5,10 +5,12 @@ ghost use Rattle.oe_theory.specs.World.{set};
 ghost use Rattle.oe_core.specs.Core.{world_of};
 ghost use Rattle.oe_terms.specs.Draws.{random};
 ghost use Rattle.oe_load.specs.Flats.{first_behind};
-ghost use Rattle.oe_load.specs.Picks.{holders_of, holder_of, end_of_waits, is_in_cycle, is_left, is_able, first_open, pick_of};
+ghost use Rattle.oe_load.specs.Picks.{holders_of, holder_of, end_of_waits, is_in_cycle, is_left, is_able, first_open, named_by, named_in, none_named, pick_of, terminal_of};
 ghost use Rattle.oe_load.specs.Turns.{counts_of};
 
 use crate::served::{Served, served_of};
+use crate::turns::Turn;
+use oe_busy::Happening;
 use oe_core::Core;
 use oe_plans::Plan;
 use oe_terms::draws::random;
@@ -27,6 +29,44 @@ pub(crate) enum Pick {
     Turn(Terminal),
     /// The terminal's transaction is in a cycle of waits, and is rolled back.
     GiveWay(Terminal),
+}
+
+/// Gives the terminal whose turn that is.
+pub(crate) fn terminal_of(pick: &Pick) -> Terminal
+    ensures { result ≡ terminal_of pick.now }
+{
+    match pick {
+        Pick::Turn(terminal) => *terminal,
+        Pick::GiveWay(terminal) => *terminal,
+    }
+}
+
+/// Gives the terminal that an answer names, where that is `Busy`.
+fn named_by(happening: &Happening) -> Option<Terminal>
+    ensures { result ≡ named_by happening.now }
+{
+    match happening {
+        Happening::Waits(_, _, holder) => Some(*holder),
+        _ => None,
+    }
+}
+
+/// Gives the same of a turn.
+pub(crate) fn named_in(turn: &Turn) -> Option<Terminal>
+    ensures { result ≡ named_in turn.now }
+{
+    match turn {
+        Ok(happening) => named_by(happening),
+        Err(_) => None,
+    }
+}
+
+/// Names nobody yet.
+#[tactic(auto, using(crate::proofs::PickFacts::nobody_is))]
+pub(crate) fn none_named() -> Holders
+    ensures { holders_of result ≡ none_named }
+{
+    [None; 65]
 }
 
 /// Gives the terminal behind those that came before.

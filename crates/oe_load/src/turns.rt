@@ -3,7 +3,7 @@
 ghost use Rattle.std.specs.Prelude.{◌≡◌, ◌≤◌, ◌<◌, ◌+◌, ℕ, option_map};
 ghost use Rattle.arrayvec.specs.ArrayVec.{array_vec_len};
 ghost use Rattle.oe_theory.specs.World.{World};
-ghost use Rattle.oe_theory.specs.Next.{Next, Aborted, Advance, Committed};
+ghost use Rattle.oe_theory.specs.Next.{Next, Aborted, Advance, Committed, Undo_full};
 ghost use Rattle.oe_requests.specs.declared.refusals.Refusal.TheVariants.{InvalidItem};
 ghost use Rattle.oe_requests.specs.declared.replies.Reply.{Reply};
 ghost use Rattle.oe_requests.specs.declared.steps.Step.TheVariants as step;
@@ -12,12 +12,18 @@ ghost use Rattle.oe_engine.specs.Programs.{hold_of};
 ghost use Rattle.oe_core.specs.Asks.{wanted_by};
 ghost use Rattle.oe_core.specs.Core.{world_of};
 ghost use Rattle.oe_core.specs.Steps.{refusal_in};
+ghost use Rattle.oe_lines.specs.declared.commands.Command.TheVariants as command;
+ghost use Rattle.oe_lines.specs.declared.commands.MomentChoice.TheVariants as moment;
 ghost use Rattle.oe_lines.specs.Grammar.{IsQuery};
 ghost use Rattle.oe_plans.specs.declared.plans.Asked.TheVariants as asked;
 ghost use Rattle.oe_load.specs.Happens.{wanted_in_cycle, IsBreaking, IsPassing};
+ghost use Rattle.oe_load.specs.declared.picks.Pick.{Pick};
+ghost use Rattle.oe_load.specs.declared.picks.Pick.TheVariants as pick;
 ghost use Rattle.oe_load.specs.Loads.{IsNext};
+ghost use Rattle.oe_load.specs.Scripts.{Does};
 ghost use Rattle.oe_load.specs.Turns.{counts_of, AsksNext, Turned};
 
+use crate::picks::Pick;
 use crate::ranges::asked_holds;
 use crate::served::{Served, serve, served_of};
 use oe_admission::ranges_hold;
@@ -154,8 +160,8 @@ fn read(
     }
 }
 
-/// Rolls a terminal's transaction back.
-pub(crate) fn give_way(
+/// Rolls a terminal's transaction back, in a turn that does so.
+fn give_way(
     plan: &Plan,
     core: &mut Core,
     served: &Served,
@@ -163,7 +169,9 @@ pub(crate) fn give_way(
     out: &mut Pending,
 ) -> Turn
     requires { array_vec_len out.old + LONGEST ≤ SIZE }
-    ensures { Turned plan.now (world_of core.old) (counts_of served.now) out.old.items result
+    ensures { (k : Pick) → Does plan.now (world_of core.old) (counts_of served.now) k
+        (command.Rollback terminal) (counts_of served.now) →
+        Turned plan.now (world_of core.old) (counts_of served.now) k out.old.items result
         (world_of core.new) (counts_of served.now) out.new.items }
 {
     let asked = wanted_in_cycle(core, terminal);
@@ -178,10 +186,12 @@ pub(crate) fn give_way(
     }
 }
 
-/// Lets go of the commits so far.
+/// Lets go of the commits so far, in a turn that does so.
 fn purge(plan: &Plan, core: &mut Core, served: &Served, out: &mut Pending) -> Turn
     requires { array_vec_len out.old + LONGEST ≤ SIZE }
-    ensures { Turned plan.now (world_of core.old) (counts_of served.now) out.old.items result
+    ensures { (k : Pick) → Does plan.now (world_of core.old) (counts_of served.now) k
+        (command.Purge moment.Now) (counts_of served.now) →
+        Turned plan.now (world_of core.old) (counts_of served.now) k out.old.items result
         (world_of core.new) (counts_of served.now) out.new.items }
 {
     match core.purge(core.newest()) {
@@ -204,8 +214,9 @@ fn make_way(
     out: &mut Pending,
 ) -> Turn
     requires { array_vec_len out.old + LONGEST ≤ SIZE }
-    ensures { Turned plan.now (world_of core.old) (counts_of served.now) out.old.items result
-        (world_of core.new) (counts_of served.now) out.new.items }
+    ensures { Next system (world_of core.old) (Advance terminal) Undo_full (world_of core.old) →
+        Turned plan.now (world_of core.old) (counts_of served.now) (pick.Turn terminal)
+        out.old.items result (world_of core.new) (counts_of served.now) out.new.items }
 {
     if core.horizon() < core.newest() {
         return purge(plan, core, served, out);
@@ -232,8 +243,8 @@ fn refused(
         Next system before (Advance terminal) (refusal_in (step.Advance terminal) refusal.now)
         (world_of core.old) →
         option_map hold_of asked.now ≡ wanted_by before terminal →
-        Turned plan.now before (counts_of served.old) out.old.items result (world_of core.new)
-        (counts_of served.new) out.new.items }
+        Turned plan.now before (counts_of served.old) (pick.Turn terminal) out.old.items result
+        (world_of core.new) (counts_of served.new) out.new.items }
 {
     match refusal {
         Refusal::Busy(name, holder) => {
@@ -262,8 +273,8 @@ fn rolled_back(
     ensures { (before : World system) →
         Next system before (Advance terminal) (Aborted InvalidItem) (world_of core.now) →
         option_map hold_of asked.now ≡ wanted_by before terminal →
-        Turned plan.now before (counts_of served.old) out.old.items result (world_of core.now)
-        (counts_of served.new) out.new.items }
+        Turned plan.now before (counts_of served.old) (pick.Turn terminal) out.old.items result
+        (world_of core.now) (counts_of served.new) out.new.items }
 {
     match plan.items {
         Items::Used => Err(Shortage::Refused(Refusal::InvalidItem)),
@@ -290,8 +301,8 @@ fn committed(
     ensures { (before : World system) (m : ℕ) (y : Reply) →
         Next system before (Advance terminal) (Committed m y) (world_of core.now) →
         option_map hold_of asked.now ≡ wanted_by before terminal →
-        Turned plan.now before (counts_of served.old) out.old.items result (world_of core.now)
-        (counts_of served.new) out.new.items }
+        Turned plan.now before (counts_of served.old) (pick.Turn terminal) out.old.items result
+        (world_of core.now) (counts_of served.new) out.new.items }
 {
     let _number = terminal.get();
     serve(served, terminal);
@@ -309,8 +320,8 @@ fn advance(
 ) -> Turn
     requires room { array_vec_len out.old + LONGEST ≤ SIZE }
     requires left { counts_of served.old terminal < 1_000_000_000 }
-    ensures { Turned plan.now (world_of core.old) (counts_of served.old) out.old.items result
-        (world_of core.new) (counts_of served.new) out.new.items }
+    ensures { Turned plan.now (world_of core.old) (counts_of served.old) (pick.Turn terminal)
+        out.old.items result (world_of core.new) (counts_of served.new) out.new.items }
 {
     let _number = terminal.get();
     let asked = core.wanted(terminal);
@@ -352,7 +363,7 @@ pub(crate) fn ask(
 }
 
 /// Takes a terminal's turn: its transaction advances, or its next request is asked for.
-pub(crate) fn take_turn(
+fn take_turn(
     plan: &Plan,
     core: &mut Core,
     served: &mut Served,
@@ -360,8 +371,8 @@ pub(crate) fn take_turn(
     out: &mut Pending,
 ) -> Turn
     requires { array_vec_len out.old + LONGEST ≤ SIZE }
-    ensures { Turned plan.now (world_of core.old) (counts_of served.old) out.old.items result
-        (world_of core.new) (counts_of served.new) out.new.items }
+    ensures { Turned plan.now (world_of core.old) (counts_of served.old) (pick.Turn terminal)
+        out.old.items result (world_of core.new) (counts_of served.new) out.new.items }
 {
     let is_left = served_of(served, terminal) < plan.numbers.requests.get();
     if terminal.get() > plan.numbers.terminals.get() || !is_left {
@@ -371,4 +382,22 @@ pub(crate) fn take_turn(
         return advance(plan, core, served, terminal, out);
     }
     ask(plan, core, served, terminal, out)
+}
+
+/// Carries out what was picked.
+pub(crate) fn carried_out(
+    plan: &Plan,
+    core: &mut Core,
+    served: &mut Served,
+    pick: &Pick,
+    out: &mut Pending,
+) -> Turn
+    requires { array_vec_len out.old + LONGEST ≤ SIZE }
+    ensures { Turned plan.now (world_of core.old) (counts_of served.old) pick.now out.old.items
+        result (world_of core.new) (counts_of served.new) out.new.items }
+{
+    match pick {
+        Pick::GiveWay(terminal) => give_way(plan, core, served, *terminal, out),
+        Pick::Turn(terminal) => take_turn(plan, core, served, *terminal, out),
+    }
 }

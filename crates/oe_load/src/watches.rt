@@ -5,8 +5,8 @@ ghost use Rattle.oe_numbers.specs.declared.forms.Form.TheVariants as load_form;
 ghost use Rattle.oe_ports.specs.Ports.{Sink};
 ghost use Rattle.oe_busy.specs.Tables.{AreCounted};
 ghost use Rattle.oe_load.specs.Ends.{Watches, Wrote};
-ghost use Rattle.oe_load.specs.Happens.{IsWatched};
-ghost use Rattle.oe_load.specs.Loads.{none_served, IsOrigin};
+ghost use Rattle.oe_load.specs.Loads.{IsOrigin};
+ghost use Rattle.oe_load.specs.Scripts.{first_state, IsWatched};
 ghost use Rattle.oe_load.specs.declared.origins.Origin.{Origin};
 
 use crate::loads::{Ending, TURNS, first_drawing, is_done, opened, requests_in, taken};
@@ -35,7 +35,7 @@ fn watched(
     busyness: &mut Busyness,
     out: &mut Pending,
 ) -> Result<Ending, Shortage>
-    ensures { (o : Origin) → IsWatched plan.now o [] (world_of core.old) none_served →
+    ensures { (o : Origin) → IsWatched plan.now o [] (first_state plan.now (world_of core.old)) →
         AreCounted busyness.old [] → Watches plan.now o busyness.new result }
 {
     let mut served = none_served();

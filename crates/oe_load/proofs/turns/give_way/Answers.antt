@@ -6,9 +6,9 @@ use Rattle.oe_load.proofs.LoadFacts.{tells_way}
 use Rattle.oe_load.proofs.turns.give_way.Goals as goal
 
 pub returns-in-RolledBack : goal.returns-in-RolledBack
-returns-in-RolledBack c =
+returns-in-RolledBack c = λ k does.
     tells_way c.args.plan.now (world_of c.args.core.now) (counts_of c.args.served.now) (world_of c.rollback.new.self)
-    c.args.out.now.items c.rollback_line.new.out.items c.args.terminal c.broken.result (
+    c.args.out.now.items c.rollback_line.new.out.items k c.args.terminal c.broken.result does (
       omega (arith, c.get-number.ensures.low, c.get-number.ensures.value),
       omega (arith, c.get-number.ensures.high, c.get-number.ensures.value),
     )

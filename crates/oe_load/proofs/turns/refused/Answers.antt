@@ -1,13 +1,12 @@
 use Rattle.std.proofs.Common.{arith, subst}
-use Rattle.oe_theory.specs.World.{World}
 use Rattle.oe_theory.specs.Next.{Next, Advance}
 use Rattle.oe_requests.specs.declared.steps.Step.TheVariants as step
 use Rattle.oe_requests.specs.declared.refusals.Refusal.{Refusal}
 use Rattle.oe_model.specs.System.{system}
 use Rattle.oe_core.specs.Core.{world_of}
 use Rattle.oe_core.specs.Steps.{refusal_in}
-use Rattle.oe_load.specs.Turns.{counts_of, Turned}
-use Rattle.oe_load.proofs.LoadFacts.{tells_busy, full_stays}
+use Rattle.oe_load.specs.Turns.{counts_of}
+use Rattle.oe_load.proofs.LoadFacts.{tells_busy, full_turned}
 use Rattle.oe_load.proofs.turns.refused.Goals as goal
 
 pub returns-in-Busy : goal.returns-in-Busy
@@ -23,11 +22,10 @@ returns-in-Busy c = λ before n asked.
 
 pub returns-in-UndoFull : goal.returns-in-UndoFull
 returns-in-UndoFull c = λ before n asked.
-    subst (λ (z : World system). Turned c.args.plan.now z (counts_of c.args.served.now) c.args.out.now.items
-    c.make_way.result (world_of c.make_way.new.core) (counts_of c.args.served.now) c.make_way.new.out.items)
-    (full_stays system before (world_of c.args.core.now) c.args.terminal
+    full_turned c.args.plan.now before (world_of c.args.core.now) (counts_of c.args.served.now) c.args.terminal
+    c.args.out.now.items c.make_way.result (world_of c.make_way.new.core) c.make_way.new.out.items
     (subst (λ (e : Refusal). Next system before (Advance c.args.terminal) (refusal_in (step.Advance c.args.terminal) e)
-    (world_of c.args.core.now)) c.in-UndoFull.is n))
+    (world_of c.args.core.now)) c.in-UndoFull.is n)
     c.make_way.ensures
 
 pub returns-in-InvalidItem : goal.returns-in-InvalidItem

@@ -1,4 +1,5 @@
 use Rattle.oe_core.specs.Core.{world_of}
+use Rattle.oe_load.specs.Scripts.{first_state}
 use Rattle.oe_load.proofs.BusyFacts.{tabled, untold, watched_opened}
 use Rattle.oe_load.proofs.watches.busy.Goals as goal
 
@@ -7,7 +8,8 @@ returns-in-Ok-answer c = λ start.
     tabled c.args.plan.now c.args.origin start c.watched-answer.new.busyness _ _ c.watched-answer.result
     c.in-Ok-answer.ending c.in-Ok-answer.is
     (c.watched-answer.ensures c.args.origin
-    (watched_opened c.args.plan.now c.args.origin (world_of c.in-Ok.core) c.in-Ok.ensures) c.new-busyness.ensures)
+    (watched_opened c.args.plan.now c.args.origin (first_state c.args.plan.now (world_of c.in-Ok.core))
+    c.in-Ok.ensures) c.new-busyness.ensures)
     c.clear.ensures c.tell.ensures
 
 pub returns : goal.returns

@@ -1,14 +1,14 @@
 use Rattle.std.proofs.Common.{[]}
 use Rattle.oe_core.specs.Core.{world_of}
 use Rattle.oe_busy.specs.Tables.{AreCounted}
-use Rattle.oe_load.specs.Happens.{IsWatched}
-use Rattle.oe_load.specs.Loads.{none_served}
+use Rattle.oe_load.specs.Scripts.{first_state, IsWatched}
 use Rattle.oe_load.specs.declared.origins.Origin.{Origin}
-use Rattle.oe_load.specs.Turns.{counts_of}
+use Rattle.oe_load.specs.Turns.{counts_of, state_of}
 use Rattle.oe_load.proofs.BusyFacts.{Watching}
 use Rattle.oe_load.proofs.watches.watched.Given as goal
 
 -- what happened so far is counted
 abbrev pub invariant-loop : goal.invariant-loop
-invariant-loop l = (o : Origin) → IsWatched l.plan o [] (world_of l.initial.core) none_served
-    → AreCounted l.initial.busyness [] → Watching l.plan o (world_of l.core) (counts_of l.served) l.busyness
+invariant-loop l = (o : Origin) → IsWatched l.plan o [] (first_state l.plan (world_of l.initial.core))
+    → AreCounted l.initial.busyness [] → Watching l.plan o
+    (state_of (world_of l.core) (counts_of l.served) l.drawing) l.busyness
