@@ -4,7 +4,7 @@ mod NumberFacts
 pub mod DistrictFacts
 mod PopulationFacts
 mod StoodFacts
-mod PassedFacts
+pub mod PassedFacts
 mod WalkFacts
 mod QuietFacts
 mod PaidFacts

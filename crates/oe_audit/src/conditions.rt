@@ -5,7 +5,7 @@ ghost use Rattle.oe_model.specs.Audits.{First};
 ghost use Rattle.oe_store.specs.Places.{rows};
 ghost use Rattle.oe_log.specs.Log.{open_total};
 ghost use Rattle.oe_log.specs.Moments.{newest, IsKeptMoment, IsUnkept};
-ghost use Rattle.oe_versions.specs.Versions.{version, Stand};
+ghost use Rattle.oe_versions.specs.Versions.{version};
 ghost use Rattle.oe_audit.specs.AsOf.{rows_then, model_condition, passes, ArePassed};
 ghost use Rattle.oe_audit.specs.Verdict.{IsVerdict, IsAudited};
 
@@ -128,7 +128,8 @@ fn is_settled(undo: &Undo, moment: Moment) -> bool
 
 /// Gives the verdict of a consistency condition at a moment, as `condition` would have given it
 /// when that moment was the newest, whatever has been open or committed since: that it held, or the
-/// first row, in key order, at which it failed.
+/// first row, in key order, at which it failed. Nothing is asked of the rows but that a walk of
+/// today's passes each of the moment's, so that only a look at them tells the verdict.
 ///
 /// `TooOld` with the horizon and `Future` with the newest moment, exactly where the moment is not
 /// between the two. It takes no memory. It walks the rows that it concerns once, and goes for each
@@ -140,7 +141,7 @@ pub fn condition_at(
     undo: &Undo,
     moment: Moment,
 ) -> Result<Verdict, Refusal>
-    requires { Stand tables.now undo.now.log }
+    requires { ArePassed (version tables.now undo.now.log moment) (rows tables.now) }
     ensures verdict { IfOk result (IsAudited number (version tables.now undo.now.log moment)) }
     ensures readable { OnOk result (IsKeptMoment undo.now.log moment) }
     ensures refusal { IfErr result (IsUnkept undo.now.log moment) }

@@ -6,7 +6,8 @@ use Rattle.std.specs.FinMap.{get}
 use Rattle.std.proofs.lemmas.Bool.{cases_lt}
 use Rattle.oe_theory.specs.Machine.{Mode, Shared, Ask, Stop, Plain, Take, Fail, Go, Tx}
 use Rattle.oe_theory.specs.World.{Open, World, total, go_together, latest, overlay}
-use Rattle.oe_theory.specs.Next.{Advance, More, Committed, Aborted, IsNew, GivesWay, held_after, filled, record_on}
+use Rattle.oe_theory.specs.Next.{Next, Advance, More, Committed, Aborted, IsNew, GivesWay, held_after, filled}
+use Rattle.oe_theory.specs.Next.{record_on}
 use Rattle.oe_theory.specs.Undo.{lengths_of, used_of}
 use Rattle.oe_theory.specs.Store.{Slot, Store, tx_in, opened_by, slot_after, dropped, IsGrantedIn, IsInTheWayIn}
 use Rattle.oe_theory.specs.Store.{HasRoomIn, MayLackMemoryIn}
@@ -54,6 +55,7 @@ use Rattle.oe_core.specs.Core.{store_of, world_of, IsOrderly, Moves, keeps_open}
 use Rattle.oe_core.specs.Steps.{refusal_in, Carries}
 use Rattle.oe_core.specs.Works.{WorkState, HoldsTaken, Recalls, gone_on}
 use Rattle.oe_model.specs.Positions.{Position}
+use Rattle.oe_core.proofs.KeepFacts.{unchanged}
 use Rattle.oe_core.proofs.WantFacts.{wants_in, allocates}
 use Rattle.oe_core.proofs.SlotFacts.{get_slot, get_set_same}
 use Rattle.oe_core.proofs.MoveFacts.{within, works_within, standing, carries, the_steps, has_work, HasOpen, slot_here}
@@ -438,6 +440,49 @@ ended_lead s t y w o (Future m) kp h = let it = may_end s t y w o (Future m) h.1
 ended_lead s t y w o (NotQuiet n) kp h = let it = may_end s t y w o (NotQuiet n) h.1 in
     absurd (never_NotQuiet n it.0 it.1)
 ended_lead s t y w o (NotPinned n) kp h = leads_end s t y w o (NotPinned n) h.1
+
+-- such a refusal is the machine's end of a transaction
+pub is_abort : (s : CoreState) (t : ℕ) (y : Handle) (w : WorkState) → HasOpen s t y w → (x : Refusal)
+    → keeps_open x ≡ false → IsRefused s.engine y w.request w.position x
+    → refusal_in (step.Advance t) x ≡ Aborted x
+is_abort s t y w o (NoSuchRow k) kp h = refl
+is_abort s t y w o (RowExists k) kp h = refl
+is_abort s t y w o (Overflow c) kp h = refl
+is_abort s t y w o (Reference k) kp h = refl
+is_abort s t y w o KeyColumn kp h = refl
+is_abort s t y w o (Busy n u) kp h = let no : ⊥ = cc in absurd no
+is_abort s t y w o UndoFull kp h = let no : ⊥ = cc in absurd no
+is_abort s t y w o NoMemory kp h = let no : ⊥ = cc in absurd no
+is_abort s t y w o NotOpen kp h = absurd (h (own_work o).is_open)
+is_abort s t y w o AlreadyOpen kp h = let it = may_end s t y w o AlreadyOpen h.1 in
+    absurd (never_AlreadyOpen it.0 it.1)
+is_abort s t y w o InvalidItem kp h = refl
+is_abort s t y w o NoCustomer kp h = refl
+is_abort s t y w o (TooOld m) kp h = let it = may_end s t y w o (TooOld m) h.1 in absurd (never_TooOld m it.0 it.1)
+is_abort s t y w o (Future m) kp h = let it = may_end s t y w o (Future m) h.1 in absurd (never_Future m it.0 it.1)
+is_abort s t y w o (NotQuiet n) kp h = let it = may_end s t y w o (NotQuiet n) h.1 in
+    absurd (never_NotQuiet n it.0 it.1)
+is_abort s t y w o (NotPinned n) kp h = refl
+
+-- and after the others the world is as it was
+pub kept_world : (w v : World system) (t : ℕ) (x : Refusal) → keeps_open x ≡ true
+    → Next system w (Advance t) (refusal_in (step.Advance t) x) v → v ≡ w
+kept_world w v t (NoSuchRow k) kp n = let no : ⊥ = cc in absurd no
+kept_world w v t (RowExists k) kp n = let no : ⊥ = cc in absurd no
+kept_world w v t (Overflow c) kp n = let no : ⊥ = cc in absurd no
+kept_world w v t (Reference k) kp n = let no : ⊥ = cc in absurd no
+kept_world w v t KeyColumn kp n = let no : ⊥ = cc in absurd no
+kept_world w v t (Busy n u) kp next = unchanged w v _ _ next tt
+kept_world w v t UndoFull kp next = unchanged w v _ _ next tt
+kept_world w v t NoMemory kp next = unchanged w v _ _ next tt
+kept_world w v t NotOpen kp n = let no : ⊥ = cc in absurd no
+kept_world w v t AlreadyOpen kp n = let no : ⊥ = cc in absurd no
+kept_world w v t InvalidItem kp n = let no : ⊥ = cc in absurd no
+kept_world w v t NoCustomer kp n = let no : ⊥ = cc in absurd no
+kept_world w v t (TooOld m) kp n = let no : ⊥ = cc in absurd no
+kept_world w v t (Future m) kp n = let no : ⊥ = cc in absurd no
+kept_world w v t (NotQuiet n) kp next = let no : ⊥ = cc in absurd no
+kept_world w v t (NotPinned n) kp next = let no : ⊥ = cc in absurd no
 
 -- it was refused, and stays open where it stands
 pub kept_here : {s : CoreState} {t : ℕ} {y : Handle} {w : WorkState} → HasOpen s t y w

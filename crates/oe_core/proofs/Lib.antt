@@ -1,7 +1,9 @@
 pub mod SlotFacts
+mod LastFacts
 pub mod MoveFacts
 pub mod BeginFacts
 mod WantFacts
+pub mod KeepFacts
 pub mod AdvanceFacts
 pub mod CloseFacts
 pub mod OpenFacts

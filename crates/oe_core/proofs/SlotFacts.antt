@@ -67,3 +67,9 @@ pub all_same : {X : Type 0} (n t : ℕ) (x : X) → get_or (replicate n x) t x �
 all_same zero t x = refl
 all_same (suc n) zero x = refl
 all_same (suc n) (suc t) x = all_same n t x
+
+-- of two values that are set in a slot the second stays
+pub set_twice : {X : Type 0} (xs : List X) (t : ℕ) (x y : X) → slice_set (slice_set xs t x) t y ≡ slice_set xs t y
+set_twice [] t x y = refl
+set_twice (z ∷ zs) zero x y = refl
+set_twice (z ∷ zs) (suc t) x y = ap (λ us. z ∷ us) (set_twice zs t x y)

@@ -66,9 +66,12 @@ abbrev pub begin_answer : Result (Unit {0}) Refusal → Answer
 begin_answer (Ok x) = answer.Begun
 begin_answer (Err e) = answer.Refused e
 
--- an Advance that ended so, and left its terminal this last reply, which is a commit's own
+-- An Advance that ended so, and left its terminal this last reply, which is a commit's own. A refusal has changed
+-- nothing, or it has ended the transaction.
 abbrev pub Advances : World system → ℕ → Advanced → World system → Option Reply → Type 0
 Advances w t advanced.More w' last = Carries w (step.Advance t) answer.More w'
 Advances w t (advanced.Committed m) w' last = (y : Reply) × (last ≡ Some y)
     × Carries w (step.Advance t) (answer.Committed m y) w'
-Advances w t (advanced.Refused e) w' last = Carries w (step.Advance t) (answer.Refused e) w'
+Advances w t (advanced.Kept e) w' last = Carries w (step.Advance t) (answer.Refused e) w' × (w' ≡ w)
+Advances w t (advanced.RolledBack e) w' last = Carries w (step.Advance t) (answer.Refused e) w'
+    × (refusal_in (step.Advance t) e ≡ theory.Aborted e)

@@ -8,10 +8,12 @@ use oe_values::Moment;
 /// again.
 #[derive(Drop)]
 pub enum Advanced {
-    /// A row is done, and there is a further one.
+    /// A stage is done, and the transaction is open.
     More,
     /// The transaction committed and made that moment.
     Committed(Moment),
-    /// As an answer that refuses.
-    Refused(Refusal),
+    /// Nothing has changed: the transaction is open where it was, or the terminal has none.
+    Kept(Refusal),
+    /// The transaction is rolled back.
+    RolledBack(Refusal),
 }

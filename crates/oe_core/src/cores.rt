@@ -19,7 +19,7 @@ ghost use Rattle.oe_engine.specs.Calls.{committed, rolled_back};
 ghost use Rattle.oe_engine.specs.Programs.{hold_of, reply_at};
 ghost use Rattle.oe_core.specs.Steps.{step_in, answer_in, Carries, begin_answer, Advances};
 ghost use Rattle.oe_core.specs.Asks.{held_by, wanted_by};
-ghost use Rattle.oe_core.specs.Core.{world_of, last_reply, keeps_open, IsEndable, IsEnded};
+ghost use Rattle.oe_core.specs.Core.{world_of, last_reply, keeps_open, RepliesAfter, RepliesWithout, IsEndable, IsEnded};
 
 use crate::advances::Advanced;
 use crate::slots::{begin_work, empty_places, open_tx, put_tx, take_tx};
@@ -291,7 +291,8 @@ impl Core {
                 Some(reply) => Answer::Committed(moment, reply.copied()),
                 None => unreachable!(),
             },
-            Advanced::Refused(refusal) => Answer::Refused(refusal),
+            Advanced::Kept(refusal) => Answer::Refused(refusal),
+            Advanced::RolledBack(refusal) => Answer::Refused(refusal),
         }
     }
 
@@ -309,6 +310,7 @@ impl Core {
             return Err(refusal);
         }
         ranges_hold(request);
+        self.engine.touch(request);
         match self.engine.begin(terminal) {
             Ok(tx) => {
                 put_tx(&mut self.txs, terminal, tx);
@@ -355,7 +357,10 @@ impl Core {
     /// `NotOpen`: it has none. Nothing has changed then.
     #[inline(never)]
     pub fn rollback(&mut self, terminal: Terminal) -> Answer
-        ensures { Carries (world_of self.old) (Step.Rollback terminal) result (world_of self.new) }
+        ensures carries { Carries (world_of self.old) (Step.Rollback terminal) result
+            (world_of self.new) }
+        ensures replies { RepliesWithout terminal result (last_reply self.old)
+            (last_reply self.new) }
     {
         let Some(tx) = take_tx(&mut self.txs, terminal) else {
             return Answer::Refused(Refusal::NotOpen);
@@ -372,11 +377,13 @@ impl Core {
     /// transaction is rolled back. The reply of a commit is the terminal's `last_reply`.
     #[inline(always)]
     pub fn advance(&mut self, terminal: Terminal) -> Advanced
-        ensures { Advances (world_of self.old) terminal result (world_of self.new)
+        ensures advances { Advances (world_of self.old) terminal result (world_of self.new)
             (last_reply self.new terminal) }
+        ensures replies { RepliesAfter terminal result (last_reply self.old)
+            (last_reply self.new) }
     {
         let Some(tx) = self.txs.at(terminal) else {
-            return Advanced::Refused(Refusal::NotOpen);
+            return Advanced::Kept(Refusal::NotOpen);
         };
         let Some(work) = self.works.at_mut(terminal) else {
             unreachable!()
@@ -389,11 +396,12 @@ impl Core {
             }
             Progress::Refused(refusal) => {
                 if keeps_open(&refusal) {
-                    return Advanced::Refused(refusal);
+                    return Advanced::Kept(refusal);
                 }
                 let open = open_tx(&mut self.txs, terminal);
                 roll_back(&mut self.engine, open);
-                Advanced::Refused(refusal)
+                *self.works.at_mut(terminal) = None;
+                Advanced::RolledBack(refusal)
             }
         }
     }
@@ -405,7 +413,9 @@ impl Core {
     /// two.
     #[inline(never)]
     pub fn purge(&mut self, moment: Moment) -> Answer
-        ensures { Carries (world_of self.old) (Step.Purge moment) result (world_of self.new) }
+        ensures carries { Carries (world_of self.old) (Step.Purge moment) result
+            (world_of self.new) }
+        ensures replies { last_reply self.new ≡ last_reply self.old }
     {
         if let Err(cause) = self.engine.purge(moment) {
             return Answer::Refused(cause);

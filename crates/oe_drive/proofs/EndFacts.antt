@@ -1,45 +1,40 @@
 -- Which condition fails at the end of a drive, what a rewind leaves, and what was written of what waited.
-use Rattle.std.proofs.Common.{◌≡◌, ℕ, List, [], ◌++◌, Option, Some, None, Bool, true, false, true≢false, sym, ap, subst}
-use Rattle.std.proofs.Common.{◌∙◌, refl}
+use Rattle.std.proofs.Common.{◌≡◌, ℕ, List, [], ◌++◌, Option, Some, None, false, true≢false, sym, ap, subst}
+use Rattle.std.proofs.Common.{◌∙◌, refl, arith}
 use Rattle.std.proofs.lemmas.List.{append-nil}
 use Rattle.oe_theory.specs.World.{World, latest}
 use Rattle.oe_theory.specs.Next as theory
 use Rattle.oe_theory.specs.Next.{Next}
 use Rattle.oe_model.specs.Rows.{Rows}
 use Rattle.oe_model.specs.System.{system}
-use Rattle.std.specs.Prelude.{if◌then◌else◌}
+use Rattle.std.specs.Prelude.{◌≤◌}
+use Rattle.oe_requests.specs.Condition.{condition_number}
 use Rattle.oe_requests.specs.declared.audits.Condition.{Condition}
 use Rattle.oe_requests.specs.declared.audits.Condition.TheVariants as condition
 use Rattle.oe_model.specs.Audits as model
 use Rattle.oe_model.specs.Headline.{Conditions}
 use Rattle.oe_model.proofs.VerdictFacts.{verdicts_are_exact}
 use Rattle.oe_ports.specs.Ports.{Sink, Sent, Cut}
-use Rattle.oe_report.specs.Verdicts.{fails, first_failing, names_a_row}
+use Rattle.oe_report.specs.Verdicts.{fails, IsFirstFailing, names_a_row}
 use Rattle.oe_drive.specs.Runs.{IsRewound}
 
-abbrev pick : Bool → Bool → Bool → Bool → Option Condition
-pick a b c d =
-    if a then Some condition.First
-    else if b then Some condition.Second
-    else if c then Some condition.Third
-    else if d then Some condition.Fourth
-    else None
-
-none_of : (a b c d : Bool) → a ≡ false → b ≡ false → c ≡ false → d ≡ false → pick a b c d ≡ None
-none_of false false false false p q r s = refl
-none_of true b c d p q r s = absurd (true≢false p)
-none_of false true c d p q r s = absurd (true≢false q)
-none_of false false true d p q r s = absurd (true≢false r)
-none_of false false false true p q r s = absurd (true≢false s)
-
 -- none of conditions 1 to 4 fails where they hold
-pub none_fails : (r : Rows) → Conditions r → first_failing r ≡ None
-none_fails r h = none_of (fails condition.First r) (fails condition.Second r) (fails condition.Third r)
-    (fails condition.Fourth r)
-    (ap names_a_row ((verdicts_are_exact.holds model.First r).1 h.condition_1))
-    (ap names_a_row ((verdicts_are_exact.holds model.Second r).1 h.condition_2))
-    (ap names_a_row ((verdicts_are_exact.holds model.Third r).1 h.condition_3))
-    (ap names_a_row ((verdicts_are_exact.holds model.Fourth r).1 h.condition_4))
+holds_of : (r : Rows) → Conditions r → (c : Condition) → condition_number c ≤ 4 → fails c r ≡ false
+holds_of r h condition.First l = ap names_a_row ((verdicts_are_exact.holds model.First r).1 h.condition_1)
+holds_of r h condition.Second l = ap names_a_row ((verdicts_are_exact.holds model.Second r).1 h.condition_2)
+holds_of r h condition.Third l = ap names_a_row ((verdicts_are_exact.holds model.Third r).1 h.condition_3)
+holds_of r h condition.Fourth l = ap names_a_row ((verdicts_are_exact.holds model.Fourth r).1 h.condition_4)
+holds_of r h condition.Fifth l = absurd (omega (arith, l))
+holds_of r h condition.Sixth l = absurd (omega (arith, l))
+holds_of r h condition.Seventh l = absurd (omega (arith, l))
+holds_of r h condition.Eighth l = absurd (omega (arith, l))
+holds_of r h condition.Ninth l = absurd (omega (arith, l))
+holds_of r h condition.Tenth l = absurd (omega (arith, l))
+holds_of r h condition.Twelfth l = absurd (omega (arith, l))
+
+pub none_fails : (r : Rows) (v : Option Condition) → Conditions r → IsFirstFailing r v → v ≡ None
+none_fails r None h first = refl
+none_fails r (Some c) h first = absurd (true≢false (sym first.1 ∙ holds_of r h c first.0))
 
 pub goes_to_start : (w w' : World system) (m : ℕ) (a : theory.Answer system) (r : Rows) → m ≡ 0
     → Next system w (theory.Rewind m) a w' → r ≡ latest system w' → IsRewound w r

@@ -2,3 +2,4 @@
 mod EndFacts
 mod PlanFacts
 pub mod SlotFacts
+mod LeftFacts

@@ -1,24 +1,25 @@
 -- Slots of seats from which the last is taken, and lists that were lent whole.
 use Rattle.std.proofs.Common.{◌≡◌, ◌≢◌, ℕ, ◌+◌, ◌-◌, ◌<◌, ◌≤◌, Option, Some, None, List, ◌++◌, length, length-append}
-use Rattle.std.proofs.Common.{take, drop, slice_get, slice_set, sym, ap, ◌∙◌, arith}
+use Rattle.std.proofs.Common.{take, drop, slice_get, slice_set, sym, ap, ◌∙◌, arith, IfOk}
+use Rattle.std.specs.Prelude.{Result, Ok, Err}
 use Rattle.std.proofs.lemmas.List.{length-take-le}
-use Rattle.oe_moments.specs.Pins.{TheSeat}
+use Rattle.oe_hall.specs.Seats.{ThePlace}
 use Rattle.oe_hall.proofs.SeatFacts.{get_other}
 use Rattle.oe_drive.specs.Ends.{AreFree}
 
-pub still_free : (seats : List (Option TheSeat)) (n : ℕ) → AreFree seats (n + 1) → AreFree (slice_set seats n None) n
+pub still_free : (seats : List (Option ThePlace)) (n : ℕ) → AreFree seats (n + 1) → AreFree (slice_set seats n None) n
 still_free seats n free k lt is =
     let le : k < n + 1 = omega (arith, lt) in
     free k le (sym (get_other seats n k None (λ e. omega (arith, lt, e))) ∙ is)
 
 -- the first slots are free behind the one that is taken
-pub free_before : (seats taken : List (Option TheSeat)) (n slot : ℕ) → ((t : ℕ) → slice_get seats (t - 1) ≢ Some None)
+pub free_before : (seats taken : List (Option ThePlace)) (n slot : ℕ) → ((t : ℕ) → slice_get seats (t - 1) ≢ Some None)
     → n ≤ slot → taken ≡ slice_set seats slot None → AreFree taken n
 free_before seats taken n slot free le is k lt there =
     let same : k + 1 - 1 ≡ k = omega arith in
     free (k + 1) (ap (slice_get seats) same
     ∙ (sym (get_other seats slot k None (λ e. omega (arith, lt, le, e)))
-    ∙ (ap (λ (s : List (Option TheSeat)). slice_get s k) (sym is) ∙ there)))
+    ∙ (ap (λ (s : List (Option ThePlace)). slice_get s k) (sym is) ∙ there)))
 
 -- a list that was lent whole, and came back as long, is as long
 pub as_long : {A : Type 0} (n : ℕ) (old new : List A) → n ≡ length old → length new ≡ length old
@@ -26,3 +27,8 @@ pub as_long : {A : Type 0} (n : ℕ) (old new : List A) → n ≡ length old →
 as_long n old new whole same =
     let all = length-append new (drop (length new) old) in
     length-take-le n (new ++ drop (length new) old) (omega (arith, all, same, whole)) ∙ whole
+
+-- what follows of an answer follows where there is one
+pub if_ok : {A E : Type 0} {P Q : A → Type 0} (r : Result A E) → IfOk r P → ((x : A) → P x → Q x) → IfOk r Q
+if_ok (Ok x) h f = f x h
+if_ok (Err e) h f = tt

@@ -3,14 +3,18 @@ use Rattle.std.specs.Prelude.{◌≡◌, ◌↔◌, ℕ, List, [], Option, None,
 use Rattle.oe_theory.specs.World.{World, newest, latest, tables}
 use Rattle.oe_theory.specs.Next as theory
 use Rattle.oe_theory.specs.Next.{Next}
+use Rattle.oe_theory.specs.Theorems.{opened}
 use Rattle.oe_rows.specs.declared.scales.Scale.{Scale}
 use Rattle.oe_rows.specs.declared.layouts.Layout.TheVariants as layout
 use Rattle.oe_model.specs.Rows.{Rows}
 use Rattle.oe_model.specs.Population.{IsPopulated}
 use Rattle.oe_model.specs.System.{system}
+use Rattle.oe_history.specs.declared.views.Entry.{Entry}
+use Rattle.oe_history.specs.Views.{calls_by}
+use Rattle.oe_hall.specs.Histories.{IsHistory}
 use Rattle.oe_hall.specs.Turns.{open_count}
 use Rattle.oe_ports.specs.Ports.{Sink, Sent, Cut}
-use Rattle.oe_report.specs.Verdicts.{first_failing}
+use Rattle.oe_report.specs.Verdicts.{IsFirstFailing}
 use Rattle.oe_report.specs.Reports.{report_of, status_of}
 use Rattle.oe_drive.specs.declared.endings.Ending.{Ending}
 use Rattle.oe_drive.specs.declared.runs.Ran.{Ran}
@@ -27,21 +31,30 @@ IsRewound w r = (w' : World system) × (a : theory.Answer system) × Next system
 abbrev pub IsEnding : Scale → World system → Ending → Type 0
 IsEnding s w e =
     (left : Rows) × (fresh : Rows) × IsRewound w left × IsPopulated s fresh
-    × (e.failing ≡ first_failing (tables system w)) × (e.failing ≡ None)
+    × IsFirstFailing (tables system w) e.failing × (e.failing ≡ None)
     × (IsTrue e.is_restored ↔ (left ≡ fresh))
 
--- nothing is open in the world, `committed` commits have led there, and undo records keep changed columns
-abbrev pub IsLeft : World system → ℕ → Type 0
-IsLeft w committed = (open_count w ≡ 0) × (newest system w ≡ committed) × (w.layout ≡ layout.ChangedColumns)
+-- one history, in which nobody purges, leads to the world from a population of the scale
+abbrev pub IsDriven : Scale → World system → Type 0
+IsDriven s w =
+    (base : Rows) × (extents : ℕ) × (log : List Entry) × IsPopulated s base
+    × IsHistory (opened system base extents layout.ChangedColumns) log w × (calls_by 0 log ≡ [])
+
+-- so it is; nothing is open, `committed` commits have led there, and undo records keep changed columns
+pub record IsLeft (s : Scale) (w : World system) (committed : ℕ) : Type 0 where
+  pub driven : IsDriven s w
+  pub quiet : open_count w ≡ 0
+  pub newest : newest system w ≡ committed
+  pub layout : w.layout ≡ layout.ChangedColumns
 
 -- All terminals ended in some world, and the two lines say what it is like: they were written, with their status;
 -- nothing was, for want of memory; or a beginning of them was.
 abbrev pub DriveRan : Scale → Option Sink → Option Sink → Result Ran DriveFault → Type 0
 DriveRan s old new (Ok ran) =
-    (w : World system) × (e : Ending) × IsLeft w ran.counted.committed × IsEnding s w e
+    (w : World system) × (e : Ending) × IsLeft s w ran.counted.committed × IsEnding s w e
     × Sent old [] new [] (report_of e.failing e.is_restored)
     × (ran.status ≡ status_of e.failing e.is_restored)
 DriveRan s old new (Err fault.NoMemory) = new ≡ old
 DriveRan s old new (Err fault.Write) =
-    (w : World system) × (e : Ending) × (n : ℕ) × IsLeft w n × IsEnding s w e
+    (w : World system) × (e : Ending) × (k : ℕ) × IsLeft s w k × IsEnding s w e
     × Cut old [] new (report_of e.failing e.is_restored)

@@ -3,6 +3,8 @@ ghost use Rattle.std.specs.Prelude.{◌≡◌, ◌≢◌, ◌+◌, ◌-◌, ◌�
 ghost use Rattle.oe_theory.specs.World.{newest};
 ghost use Rattle.oe_model.specs.System.{system};
 ghost use Rattle.oe_core.specs.Core.{world_of};
+ghost use Rattle.oe_history.specs.Views.{calls_by};
+ghost use Rattle.oe_hall.specs.Histories.{IsHistory};
 ghost use Rattle.oe_hall.specs.Turns.{open_count};
 ghost use Rattle.oe_hall.specs.Counts.{untold};
 ghost use Rattle.oe_hall.specs.Desks.{TheDesk, seat_for};
@@ -14,7 +16,8 @@ use crate::gates::Gate;
 use crate::stations::{Bench, Plan, Station};
 use oe_core::Core;
 use oe_hall::crossing::front_crosses;
-use oe_hall::{Counted, Desk, Front, Naming, Shop};
+use oe_hall::{Closed, Counted, Desk, Front, Naming, Purger, Shop};
+use oe_history::History;
 use oe_queue::{Sender, Taker};
 use oe_values::{NoMemory, Number, Terminal};
 use std::alloc::Global;
@@ -23,10 +26,11 @@ use std::sync::atomic::{AtomicBool, Ordering};
 use std::thread;
 use std::thread::Threads;
 
-/// What a drive leaves: the core of the closed shop, how much its desks were told, and what its
-/// terminals did.
+/// What a drive leaves: the core of the closed shop with its history, how much its desks were told,
+/// and what its terminals did.
 pub struct Driven {
     pub core: Core,
+    pub history: History,
     pub counted: Counted,
     pub deeds: Deeds,
 }
@@ -43,48 +47,70 @@ pub fn drive<J: Naming + Send + Sync, H: Threads + Wait + Sync, G: Gate + Sync>(
     alloc: Global,
     gate: &G,
     shop: Shop<J>,
+    purger: Purger<J>,
     plans: Vec<Plan>,
 ) -> Result<Driven, NoMemory>
     requires plans { (1 ≤ vec_len plans) × (vec_len plans ≤ 63) }
     requires new { shop.given ≡ 0 }
     requires free { (t : ℕ) → seat_for shop t ≢ Some None }
+    requires silent { purger.mine ≡ [] }
     ensures ended { IfOk result (λ d.
         d.counted.begun ≡ d.counted.committed + d.counted.rolled_back) }
     ensures quiet { IfOk result (λ d. open_count (world_of d.core) ≡ 0) }
     ensures newest { IfOk result (λ d. newest system (world_of d.core) ≡ d.counted.committed) }
     ensures layout { IfOk result (λ d. (world_of d.core).layout ≡ J.names.layout) }
+    ensures run { IfOk result (λ d. IsHistory J.names.opened d.history.log (world_of d.core)) }
+    ensures unpurged { IfOk result (λ d. calls_by 0 d.history.log ≡ []) }
 {
     let count = plans.len();
     let terminals = Number::new(count as u32).unwrap();
     let Ok((senders, taker)) = oe_queue::open(alloc, terminals) else {
-        return give_up(alloc, shop);
+        return give_up(alloc, shop, purger);
     };
     let Ok(desks) = Vec::with_capacity(alloc, count + 1) else {
-        return give_up(alloc, shop);
+        return give_up(alloc, shop, purger);
     };
     let Ok(stations) = Vec::with_capacity(alloc, count) else {
-        return give_up(alloc, shop);
+        return give_up(alloc, shop, purger);
     };
-    drive_all(rt, gate, shop, plans, (senders, taker), desks, stations)
+    drive_all(
+        rt,
+        gate,
+        (shop, purger),
+        plans,
+        (senders, taker),
+        desks,
+        stations,
+    )
 }
 
 // Closes a shop that gave no desk.
-fn give_up<J: Naming>(alloc: Global, shop: Shop<J>) -> Result<Driven, NoMemory>
+fn give_up<J: Naming>(alloc: Global, shop: Shop<J>, purger: Purger<J>) -> Result<Driven, NoMemory>
     requires new { shop.given ≡ 0 }
     ensures { OnOk result ⊥ }
 {
-    match shop.close(Vec::new(alloc)) {
-        Ok((core, _)) => core.discard(),
+    match shop.close(Vec::new(alloc), purger) {
+        Ok(closed) => let_go(closed),
         Err(_) => unreachable!(),
     }
     Err(NoMemory)
+}
+
+// Lets go of what a shop left.
+fn let_go(closed: Closed) {
+    let Closed {
+        core,
+        counted: _,
+        history: _,
+    } = closed;
+    core.discard();
 }
 
 // Drives, once all memory is there.
 fn drive_all<J: Naming + Send + Sync, H: Threads + Wait + Sync, G: Gate + Sync>(
     rt: &H,
     gate: &G,
-    mut shop: Shop<J>,
+    shop: (Shop<J>, Purger<J>),
     plans: Vec<Plan>,
     ends: (Vec<Sender>, Taker),
     desks: Vec<Desk<J>>,
@@ -92,8 +118,9 @@ fn drive_all<J: Naming + Send + Sync, H: Threads + Wait + Sync, G: Gate + Sync>(
 ) -> Result<Driven, NoMemory>
     requires plans { (1 ≤ vec_len plans) × (vec_len plans ≤ 63) }
     requires senders { vec_len ends.0 ≡ vec_len plans }
-    requires new { shop.given ≡ 0 }
-    requires free { (t : ℕ) → seat_for shop t ≢ Some None }
+    requires new { shop.0.given ≡ 0 }
+    requires free { (t : ℕ) → seat_for shop.0 t ≢ Some None }
+    requires silent { shop.1.mine ≡ [] }
     requires stations { (stations.items ≡ []) × (vec_len plans ≤ vec_capacity stations) }
     requires desks { (desks.items ≡ []) × (vec_len plans + 1 ≤ vec_capacity desks) }
     ensures ended { IfOk result (λ d.
@@ -101,33 +128,43 @@ fn drive_all<J: Naming + Send + Sync, H: Threads + Wait + Sync, G: Gate + Sync>(
     ensures quiet { IfOk result (λ d. open_count (world_of d.core) ≡ 0) }
     ensures newest { IfOk result (λ d. newest system (world_of d.core) ≡ d.counted.committed) }
     ensures layout { IfOk result (λ d. (world_of d.core).layout ≡ J.names.layout) }
+    ensures run { IfOk result (λ d. IsHistory J.names.opened d.history.log (world_of d.core)) }
+    ensures unpurged { IfOk result (λ d. calls_by 0 d.history.log ≡ []) }
 {
     let count = plans.len();
+    let (mut shop, purger) = shop;
     let (senders, taker) = ends;
     let desk = take_desk(&mut shop, Number::new(count as u32 + 1).unwrap());
     let mut bench = Bench::new(desk, taker, count as u32);
     sit_down(&mut shop, senders, &mut stations, plans);
     let is_whole = run_all(rt, shop.front(), gate, &mut bench, stations.as_mut_slice());
     let (desks, deeds) = rise(bench, stations, desks);
-    match shop.close(desks) {
-        Ok((core, counted)) => left(core, counted, deeds, is_whole),
+    match shop.close(desks, purger) {
+        Ok(closed) => left(closed, deeds, is_whole),
         Err(_) => unreachable!(),
     }
 }
 
 // Gives what a drive left, where each terminal had a thread, and lets it go otherwise.
-fn left(core: Core, counted: Counted, deeds: Deeds, is_whole: bool) -> Result<Driven, NoMemory>
-    ensures { IfOk result (λ d. (d.core ≡ core) × (d.counted ≡ counted)) }
+fn left(closed: Closed, deeds: Deeds, is_whole: bool) -> Result<Driven, NoMemory>
+    ensures { IfOk result (λ d. (d.core ≡ closed.core) × (d.counted ≡ closed.counted)
+        × (d.history ≡ closed.history)) }
 {
-    if is_whole {
-        return Ok(Driven {
-            core,
-            counted,
-            deeds,
-        });
+    if !is_whole {
+        let_go(closed);
+        return Err(NoMemory);
     }
-    core.discard();
-    Err(NoMemory)
+    let Closed {
+        core,
+        counted,
+        history,
+    } = closed;
+    Ok(Driven {
+        core,
+        history,
+        counted,
+        deeds,
+    })
 }
 
 // Takes the desk of a terminal that has none.

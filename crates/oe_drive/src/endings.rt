@@ -3,7 +3,7 @@ ghost use Rattle.std.specs.Prelude.{◌≡◌, IfOk, None};
 ghost use Rattle.oe_theory.specs.World.{tables};
 ghost use Rattle.oe_model.specs.System.{system};
 ghost use Rattle.oe_hall.specs.Turns.{open_count};
-ghost use Rattle.oe_report.specs.Verdicts.{first_failing};
+ghost use Rattle.oe_report.specs.Verdicts.{IsFirstFailing};
 ghost use Rattle.oe_core.specs.Core.{world_of};
 ghost use Rattle.oe_store.specs.Places.{rows};
 ghost use Rattle.oe_drive.specs.Runs.{IsRewound, IsEnding};
@@ -38,7 +38,7 @@ fn rewound(core: Core) -> Tables
 // Finds the first of conditions 1 to 4 that fails in a core in which nothing is open: none does.
 fn failing_in(core: &Core) -> Option<Condition>
     requires { open_count (world_of core.now) ≡ 0 }
-    ensures first { result ≡ first_failing (tables system (world_of core.now)) }
+    ensures first { IsFirstFailing (tables system (world_of core.now)) result }
     ensures none { result ≡ None }
 {
     core.is_reached();

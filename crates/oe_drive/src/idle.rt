@@ -3,10 +3,11 @@
 //! By its invariant all that an idle desk was told to begin has ended, and it has no pin out. So a
 //! thread hands its desk back with that fact, and a shop whose desks are idle can be closed. A call
 //! may wait for the hall's lock; none takes memory.
-ghost use Rattle.std.specs.Prelude.{◌≡◌, ◌+◌, false};
+ghost use Rattle.std.specs.Prelude.{◌≡◌, ◌+◌, true, false};
 ghost use Rattle.oe_moments.specs.Pins.{is_pinned};
 ghost use Rattle.oe_hall.specs.Counts.{untold, told_rolled_back};
-ghost use Rattle.oe_hall.specs.Desks.{TheDesk, with_told};
+ghost use Rattle.oe_hall.specs.Histories.{is_open};
+ghost use Rattle.oe_hall.specs.Desks.{TheDesk, IsOwn, with_told, with_calls};
 
 use crate::deeds::{Cause, Deeds};
 use crate::gates::{Calls, Gate};
@@ -147,8 +148,10 @@ fn advance_to_end<J: Naming, W: Wait, G: Gate>(
     calls: &mut Calls<'_, G>,
     deeds: &mut Deeds,
 ) -> Option<Moment>
-    requires { desk.old.told.begun
+    requires told { desk.old.told.begun
         ≡ desk.old.told.committed + desk.old.told.rolled_back + 1 }
+    requires open { is_open desk.old.calls.mine ≡ true }
+    requires own { IsOwn desk.old.seat work }
     ensures ended { desk.new.told.begun ≡ desk.new.told.committed + desk.new.told.rolled_back }
     ensures seat { desk.new.seat ≡ desk.old.seat }
 {
@@ -179,8 +182,7 @@ fn advance_to_end<J: Naming, W: Wait, G: Gate>(
     unreachable!()
 }
 
-// Ends a transaction. It asks until the transaction has ended, which is for ever where it is none
-// of this desk's: no clause ties what lies under the lock to it.
+// Ends a transaction of this desk's, which is open by what the desk called.
 fn give_up<J: Naming, W: Wait, G: Gate>(
     rt: &W,
     front: &Front<J>,
@@ -188,17 +190,16 @@ fn give_up<J: Naming, W: Wait, G: Gate>(
     work: Open,
     calls: &mut Calls<'_, G>,
 )
-    ensures { desk.new ≡ with_told (told_rolled_back desk.old.told) desk.old }
+    requires open { is_open desk.old.calls.mine ≡ true }
+    requires own { IsOwn desk.old.seat work }
+    ensures { desk.new ≡ with_calls desk.new.calls
+        (with_told (told_rolled_back desk.old.told) desk.old) }
 {
-    let mut left = work;
-    for _ in rt.forever() {
-        calls.before();
-        let ended = desk.end(rt, front, left);
-        calls.after();
-        match ended {
-            Ok(()) => return,
-            Err((_, back)) => left = back,
-        }
+    calls.before();
+    let ended = desk.end(rt, front, work);
+    calls.after();
+    match ended {
+        Ok(()) => {}
+        Err(_) => unreachable!(),
     }
-    unreachable!()
 }

@@ -1,9 +1,15 @@
 //! A new shop, and a drive in it.
-ghost use Rattle.std.specs.Prelude.{◌≡◌, ◌≢◌, ◌+◌, ◌≤◌, ℕ, None, Some, IfOk, vec_len};
+ghost use Rattle.std.specs.Prelude.{◌≡◌, ◌+◌, ◌≤◌, [], IfOk, vec_len};
 ghost use Rattle.oe_core.specs.Core.{world_of};
 ghost use Rattle.oe_theory.specs.World.{newest};
+ghost use Rattle.oe_theory.specs.Theorems.{opened};
+ghost use Rattle.oe_model.specs.Conditions.{IsPopulation};
+ghost use Rattle.oe_model.specs.Population.{IsPopulated};
 ghost use Rattle.oe_model.specs.System.{system};
-ghost use Rattle.oe_hall.specs.Desks.{seat_for};
+ghost use Rattle.oe_store.specs.Places.{rows};
+ghost use Rattle.oe_history.specs.Views.{calls_by};
+ghost use Rattle.oe_hall.specs.Histories.{IsHistory};
+ghost use Rattle.oe_hall.specs.Naming.{named};
 ghost use Rattle.oe_hall.specs.Turns.{open_count};
 
 use crate::driving::{Driven, drive};
@@ -13,20 +19,15 @@ use oe_hall::{Naming, Seats, Shop};
 use oe_model::populations::population_is_one;
 use oe_numbers::DriveNumbers;
 use oe_population::populate;
+use oe_store::Tables;
 use oe_values::NoMemory;
 use std::alloc::Global;
 use std::sync::Wait;
 use std::thread::Threads;
 
-// Opens a shop on a new population.
-fn opened<J: Naming>(
-    alloc: Global,
-    numbers: &DriveNumbers,
-    seats: Seats,
-) -> Result<Shop<J>, NoMemory>
-    requires names { seats.names ≡ J.names }
-    ensures new { IfOk result (λ s. s.given ≡ 0) }
-    ensures free { IfOk result (λ s. (t : ℕ) → seat_for s t ≢ Some None) }
+/// Makes the population of a drive.
+pub(crate) fn populated(alloc: Global, numbers: &DriveNumbers) -> Result<Tables, NoMemory>
+    ensures { IfOk result (λ t. IsPopulated numbers.now.scale (rows t) × IsPopulation (rows t)) }
 {
     population_is_one();
     let _warehouses = numbers.scale.warehouses.get();
@@ -35,26 +36,33 @@ fn opened<J: Naming>(
     let Ok(tables) = populate(alloc, numbers.scale) else {
         return Err(NoMemory);
     };
-    Shop::open(alloc, tables, numbers.extents, seats)
+    Ok(tables)
 }
 
-/// Runs the plans in a shop on a new population. `NoMemory` where memory or a thread is refused.
+/// Runs the plans in a shop on a population. `NoMemory` where memory or a thread is refused.
 pub(crate) fn driven<J: Naming + Send + Sync, H: Threads + Wait + Sync, G: Gate + Sync>(
     rt: &H,
     alloc: Global,
     gate: &G,
     numbers: &DriveNumbers,
     plans: Vec<Plan>,
+    tables: Tables,
     seats: Seats,
 ) -> Result<Driven, NoMemory>
     requires plans { (1 ≤ vec_len plans) × (vec_len plans ≤ 63) }
-    requires names { seats.names ≡ J.names }
+    requires population { IsPopulation (rows tables) }
+    requires names { named seats.names
+        (opened system (rows tables) numbers.now.extents seats.names.layout) ≡ J.names }
     ensures ended { IfOk result (λ d.
         d.counted.begun ≡ d.counted.committed + d.counted.rolled_back) }
     ensures quiet { IfOk result (λ d. open_count (world_of d.core) ≡ 0) }
     ensures newest { IfOk result (λ d. newest system (world_of d.core) ≡ d.counted.committed) }
     ensures layout { IfOk result (λ d. (world_of d.core).layout ≡ seats.names.layout) }
+    ensures run { IfOk result (λ d. IsHistory
+        (opened system (rows tables) numbers.now.extents seats.names.layout)
+        d.history.log (world_of d.core)) }
+    ensures unpurged { IfOk result (λ d. calls_by 0 d.history.log ≡ []) }
 {
-    let shop = opened::<J>(alloc, numbers, seats)?;
-    drive(rt, alloc, gate, shop, plans)
+    let (shop, purger) = Shop::open(alloc, tables, numbers.extents, seats)?;
+    drive::<J, H, G>(rt, alloc, gate, shop, purger, plans)
 }

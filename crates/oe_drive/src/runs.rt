@@ -7,7 +7,7 @@ use crate::deeds::Deeds;
 use crate::driving::Driven;
 use crate::endings::ended;
 use crate::gates::Gate;
-use crate::openings::driven;
+use crate::openings::{driven, populated};
 use crate::planning::plans;
 use crate::stations::Plan;
 use oe_hall::{Counted, Seats};
@@ -46,8 +46,8 @@ pub struct Ran {
 /// The name of the one shop of a drive.
 const SHOP: u32 = 0;
 
-// Runs the plans in a shop of its own, which is named here. Its undo records keep changed columns:
-// so more transactions have room.
+// Runs the plans in a shop of its own on a new population, which is named here. Its undo records
+// keep changed columns: so more transactions have room.
 fn driven_here<H: Threads + Wait + Sync, G: Gate + Sync>(
     rt: &H,
     alloc: Global,
@@ -58,12 +58,15 @@ fn driven_here<H: Threads + Wait + Sync, G: Gate + Sync>(
     requires plans { (1 ≤ vec_len plans) × (vec_len plans ≤ 63) }
     ensures ended { IfOk result (λ d.
         d.counted.begun ≡ d.counted.committed + d.counted.rolled_back) }
-    ensures left { IfOk result (λ d. IsLeft (world_of d.core) d.counted.committed) }
+    ensures left { IfOk result (λ d. IsLeft numbers.now.scale (world_of d.core) d.counted.committed) }
 {
     let Ok(seats) = Seats::new(alloc, SHOP, Layout::ChangedColumns) else {
         return Err(NoMemory);
     };
-    driven::<Brand, H, G>(rt, alloc, gate, numbers, plans, seats)
+    let Ok(tables) = populated(alloc, numbers) else {
+        return Err(NoMemory);
+    };
+    driven::<Brand, H, G>(rt, alloc, gate, numbers, plans, tables, seats)
 }
 
 /// Opens a shop on a new population, runs all terminals and the worker, audits conditions 1 to 4,
@@ -92,6 +95,7 @@ pub fn run_drive<H: Threads + Wait + Sync, G: Gate + Sync, W: Outlet>(
     };
     let Driven {
         core,
+        history: _,
         counted,
         deeds,
     } = driven;

@@ -54,12 +54,12 @@ is_other a b ne = go (is_key a b) refl
 at_other_changed : (c : Change) (r : Rows) (k : Key) → k ≢ key_of c → row_at (changed c r) k ≡ row_at r k
 at_other_changed c r k ne = at_changed c r k ∙ ap (λ z. cond z (row_of c) (row_at r k)) (is_other k (key_of c) ne)
 
-at_other_put_back : (b : Record) (r : Rows) (k : Key) → k ≢ record_key b → row_at (put_back b r) k ≡ row_at r k
+pub at_other_put_back : (b : Record) (r : Rows) (k : Key) → k ≢ record_key b → row_at (put_back b r) k ≡ row_at r k
 at_other_put_back b r k ne = at_put_back b r k ∙ ap (λ z. cond z (restore b (row_at r k)) (row_at r k))
     (is_other k (record_key b) ne)
 
 -- a change and the undo of another row's change come in any order
-commutes : (b : Record) (c : Change) (r : Rows) → record_key b ≢ key_of c
+pub commutes : (b : Record) (c : Change) (r : Rows) → record_key b ≢ key_of c
     → put_back b (changed c r) ≡ changed c (put_back b r)
 commutes b c r ne = same_rows _ _ (λ k.
     at_put_back b (changed c r) k

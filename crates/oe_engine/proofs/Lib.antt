@@ -7,6 +7,8 @@ pub mod LinkedFacts
 mod ChainedFacts
 pub mod MoreFacts
 pub mod RecordedFacts
+mod OfLayoutFacts
+mod ForgettingFacts
 mod UnplacedFacts
 pub mod LedFacts
 pub mod PurgeFacts
@@ -14,6 +16,7 @@ pub mod LeftFacts
 pub mod NamedFacts
 pub mod ExactFacts
 pub mod CoveredFacts
+mod FacetFacts
 pub mod StageFacts
 pub mod EndFacts
 pub mod LinkFacts
@@ -23,6 +26,7 @@ mod NeededFacts
 pub mod LockFacts
 pub mod LogFacts
 pub mod MakeFacts
+mod HeldFacts
 mod PutFacts
 mod FullFacts
 pub mod PastFacts

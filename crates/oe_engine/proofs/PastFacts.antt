@@ -32,7 +32,7 @@ use Rattle.oe_engine.proofs.RewindFacts.{none_open, quiet_still, rewinds}
 use Rattle.oe_undo.specs.Undo.{UndoState}
 use Rattle.oe_locks.specs.Held.{Holdings}
 use Rattle.oe_engine.specs.View.{View, view_from}
-use Rattle.oe_engine.specs.Covered.{AreOwned, Unwinds, IsSafe}
+use Rattle.oe_engine.specs.Covered.{AreOwned, OwnAllParts, Unwinds, IsSafe}
 use Rattle.oe_engine.specs.Kept.{IsKept, IsSound}
 use Rattle.oe_engine.specs.Renames.{AreNamed}
 use Rattle.oe_engine.specs.declared.renames.Renames.{Renames}
@@ -117,6 +117,7 @@ purged_view ts ts' u ls m same =
 safe_purged : (m : ℕ) (v : View) → IsSafe v → IsSafe (purged_to m v)
 safe_purged m v s = record {
   owned = s.owned;
+  parts = s.parts;
   alone = s.alone;
   unwinds = λ ts. purged_unwinds (calls.newest v - m) v.undo.history ts v.undo.active v.rows (s.unwinds ts);
 }
@@ -215,6 +216,7 @@ safe_rewound m v empty meets s =
     let none : ◌≡◌ {A = ℕ → List Record} (λ t. []) v.undo.active = fun_ext (λ t. sym (empty t)) in
     record {
       owned = λ t. subst (AreOwned (v.held t) t (suc (w.counts t))) (sym (empty t)) tt;
+      parts = λ t. subst (λ bs. OwnAllParts (v.held t) bs w.rows) (sym (empty t)) tt;
       alone = s.alone;
       unwinds = λ ts. subst (λ (z : ℕ → List Record). Unwinds w.undo.history z w.rows ts) none
           (none_unwinds w.undo.history ts w.rows meets

@@ -3,7 +3,7 @@ use Rattle.std.proofs.Common.{◌≡◌, ℕ, suc, sym, subst, Some}
 use Rattle.std.specs.Prelude.{Result, Ok, Err, OnOk, OnErr}
 use Rattle.std.specs.Option.{IsSomeAnd}
 use Rattle.oe_theory.specs.Next.{record_on}
-use Rattle.oe_model.specs.Changes.{Change}
+use Rattle.oe_model.specs.Changes.{Change, changed}
 use Rattle.oe_model.specs.Lengths.{record_length}
 use Rattle.oe_model.specs.Meets.{Accepts}
 use Rattle.oe_model.specs.System.{system}
@@ -18,7 +18,7 @@ use Rattle.oe_engine.specs.Recorded.{IsRecorded, HasRecorded, HasRoomFor}
 use Rattle.oe_engine.proofs.RecordFacts.{write_records}
 use Rattle.oe_locks.specs.Held.{Holdings}
 use Rattle.oe_engine.specs.View.{view_from}
-use Rattle.oe_engine.specs.Covered.{MayMake, IsSafe}
+use Rattle.oe_engine.specs.Covered.{OwnsParts, MayMake, IsSafe}
 use Rattle.oe_engine.specs.Kept.{IsKept, IsSound, IsOrderly}
 use Rattle.oe_engine.specs.Renames.{AreNamed, Notes}
 use Rattle.oe_engine.specs.declared.renames.Renames.{Renames}
@@ -27,6 +27,7 @@ use Rattle.oe_engine.specs.Writes.{MayWrite}
 use Rattle.oe_engine.proofs.MakeFacts.{change_view, change_kept}
 use Rattle.oe_engine.proofs.SafeFacts.{safe_made}
 use Rattle.oe_engine.proofs.RenameFacts.{named_made, named_noted}
+use Rattle.oe_engine.proofs.HeldFacts.{parts_held}
 use Rattle.oe_engine.proofs.WriteFacts.{at_change, of_change, may_make}
 
 module _ (ts ts' : tables.Places) (u x : UndoState) (ls : Holdings) (t : ℕ) where
@@ -40,13 +41,19 @@ module _ (ts ts' : tables.Places) (u x : UndoState) (ls : Holdings) (t : ℕ) wh
       MayWrite (view_from ts u.log ls).rows ((view_from ts u.log ls).held t) t
       (suc ((view_from ts u.log ls).counts t)) w
 
-  change_sound : (c : Change) → MayHere c → IsRecorded c ts ts' u x t → AreLinked ts' x.links → IsSound ts u ls
-      → IsSound ts' x ls
+  -- and each facet that it changes lies under a name that it holds
+  abbrev HoldsHere : Change → Type 0
+  HoldsHere c =
+      OwnsParts ((view_from ts u.log ls).held t) (view_from ts u.log ls).rows
+      (changed c (view_from ts u.log ls).rows)
+
+  change_sound : (c : Change) → MayHere c → HoldsHere c → IsRecorded c ts ts' u x t → AreLinked ts' x.links
+      → IsSound ts u ls → IsSound ts' x ls
   unfolding view_from
-  change_sound c may h linked s = record {
+  change_sound c may holds h linked s = record {
     kept = change_kept ts ts' u x ls t c h s.kept;
     safe = subst IsSafe (sym (change_view ts ts' u x ls t c h))
-        (safe_made t c (view_from ts u.log ls) h.applies.accepted may s.safe);
+        (safe_made t c (view_from ts u.log ls) h.applies.accepted may holds s.safe);
     linked = linked;
   }
 
@@ -81,7 +88,7 @@ module _ (ts ts' : tables.Places) (u x : UndoState) (ls : Holdings) (t : ℕ) wh
     put_sound (Ok v) may h tables log linked s =
         let (c, found, is) = at_change _ _ h in
         change_sound c (may_make ((view_from ts u.log ls).held t) t (suc ((view_from ts u.log ls).counts t)) w (rows ts)
-        c found may) is linked s
+        c found may) (parts_held w (rows ts) ((view_from ts u.log ls).held t) c found may.1) is linked s
     put_sound (Err e) may h tables log linked s = same_sound tables log linked s
 
     pub put_named : {T E : Type 0} (r : Result T E) (a b : Renames) → MayWriteHere w

@@ -126,16 +126,16 @@ module _ (names : Names) where
   sealed_keep n since bs ss own h = fewer_keep (suc n - since) (suc (n - since)) (bs ∷ ss) (omega arith) (own, h)
 
 -- A write other than a rename leaves its customer's names, and its record brings back the same
-abbrev SameName : Change → Rows → Type 0
+abbrev pub SameName : Change → Rows → Type 0
 SameName (UpdateCustomer k x) r = (y : Customer) × (get r.customers k ≡ Some y) × (x.name ≡ y.name)
 SameName _ r = Unit {0}
 
-of_row : {X : Type 0} (P : Change → Type 0) (f : X → Change) (v : Option X) (c : Change)
+pub of_row : {X : Type 0} (P : Change → Type 0) (f : X → Change) (v : Option X) (c : Change)
     → ((x : X) → v ≡ Some x → P (f x)) → option_map f v ≡ Some c → P c
 of_row P f None c h e = let no : ⊥ = cc in absurd no
 of_row P f (Some x) c h e = subst P (some_inj _ _ e) (h x refl)
 
-same_name : (w : Write) (r : Rows) (c : Change) → is_rename w ≡ false → written w r ≡ Some c → SameName c r
+pub same_name : (w : Write) (r : Rows) (c : Change) → is_rename w ≡ false → written w r ≡ Some c → SameName c r
 same_name (writes.WarehouseYtd k y) r c n e = of_row (λ d. SameName d r) _ (get r.warehouses k) c (λ x at. tt) e
 same_name (writes.DistrictYtd k y) r c n e = of_row (λ d. SameName d r) _ (get r.districts k) c (λ x at. tt) e
 same_name (writes.NextOrder k o) r c n e = of_row (λ d. SameName d r) _ (get r.districts k) c (λ x at. tt) e
@@ -153,7 +153,7 @@ same_name (writes.InsertOrder k x) r c n e = subst (λ d. SameName d r) (some_in
 same_name (writes.InsertOrderLine k x) r c n e = subst (λ d. SameName d r) (some_inj _ _ e) tt
 same_name (writes.DeleteNewOrder k) r c n e = subst (λ d. SameName d r) (some_inj _ _ e) tt
 
-changed_named : (c : Change) (r : Rows) → SameName c r → (k : CustomerKey) → name_at (changed c r) k ≡ name_at r k
+pub changed_named : (c : Change) (r : Rows) → SameName c r → (k : CustomerKey) → name_at (changed c r) k ≡ name_at r k
 changed_named (UpdateCustomer a x) r same k =
     ap name_in (at_changed (UpdateCustomer a x) r (key.Customer k)) ∙ go (is_key (key.Customer k) (key.Customer a)) refl
   where

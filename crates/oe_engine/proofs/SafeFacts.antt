@@ -14,11 +14,12 @@ use Rattle.oe_theory.specs.Machine.{Guard, Free, Under, Own, Take}
 use Rattle.oe_theory.specs.Machine as theory
 use Rattle.oe_theory.specs.World.{set, risen, go_together}
 use Rattle.oe_theory.specs.Next.{held_after, record_on}
+use Rattle.oe_theory.specs.Undo.{unwind}
 use Rattle.oe_theory.proofs.Sets.{set_same, set_other}
 use Rattle.oe_model.specs.Rows.{Rows, row_at}
 use Rattle.oe_model.specs.Changes.{Change, InsertHistory, InsertNewOrder, InsertOrder, InsertOrderLine, UpdateWarehouse}
 use Rattle.oe_model.specs.Changes.{UpdateDistrict, UpdateCustomer, UpdateOrder, UpdateOrderLine, UpdateStock}
-use Rattle.oe_model.specs.Changes.{DeleteNewOrder, key_of, Record, record_key}
+use Rattle.oe_model.specs.Changes.{DeleteNewOrder, key_of, changed, Record, record_key, put_back}
 use Rattle.oe_rows.specs.declared.layouts.Layout.{Layout}
 use Rattle.oe_model.specs.Locks.{governs, is_name, mode_of}
 use Rattle.oe_model.specs.Meets.{Meets, Accepts}
@@ -33,12 +34,14 @@ use Rattle.oe_undo.specs.Chains.{HaveNone, IsAlone}
 use Rattle.oe_locks.specs.Held as locks
 use Rattle.oe_locks.specs.Held.{Holdings}
 use Rattle.oe_engine.specs.View.{View, view_from, opened_view}
-use Rattle.oe_engine.specs.Covered.{Owns, AreOwned, IsUnused, MayMake, IsOwn, IsSafe}
+use Rattle.oe_engine.specs.Covered.{Owns, AreOwned, OwnsParts, OwnAllParts, IsUnused, MayMake, IsOwn, IsSafe}
 use Rattle.oe_engine.specs.GoesBack.{CanUnwind}
 use Rattle.oe_engine.specs.Calls.{ask_to_write, IsFree, IsBelow, begun, locked, made, put_mode, count_since, back_at}
 use Rattle.oe_engine.specs.Calls.{committed, rolled_back}
 use Rattle.oe_engine.proofs.PartFacts.{free_is, locked_is}
 use Rattle.oe_engine.proofs.CoveredFacts.{RefersTo, AreApart, whole_made, made_unwinds, back_unwinds, can_go_back}
+use Rattle.oe_engine.proofs.FacetFacts.{more_parts, less_parts, left_if_lower, made_parts, parts_under, AreOthers}
+use Rattle.oe_engine.proofs.FacetFacts.{parts_unwound, parts_below}
 use Rattle.oe_engine.proofs.CoveredFacts.{all_go_back, all_back, sealed_unwinds, none_unwinds}
 
 -- what holds at a terminal that was replaced, and at each other
@@ -132,17 +135,18 @@ is_alone ts u ls t k s own x ne = has_none (view_from ts u ls) s t k own x ne (m
 pub safe_first : (r : Rows) (n : ℕ) (l : Layout) → Meets r → IsSafe (opened_view r n l)
 safe_first r n l m = record {
   owned = λ t. tt;
+  parts = λ t. tt;
   alone = λ t u q ne e. refl;
   unwinds = λ ts. none_unwinds [] ts r m tt;
 }
 
 pub safe_begun : (t : ℕ) (v : View) → IsSafe v → IsSafe (begun t v)
-safe_begun t v s = record { owned = s.owned; alone = s.alone; unwinds = s.unwinds }
+safe_begun t v s = record { owned = s.owned; parts = s.parts; alone = s.alone; unwinds = s.unwinds }
 
 -- a change was made and recorded
 pub safe_made : (t : ℕ) (c : Change) (v : View) → Accepts c v.rows → MayMake (v.held t) t (suc (v.counts t)) c
-    → IsSafe v → IsSafe (made t c v)
-safe_made t c v a m s =
+    → OwnsParts (v.held t) v.rows (changed c v.rows) → IsSafe v → IsSafe (made t c v)
+safe_made t c v a m holds s =
     let key = in_layout_key v.layout c (row_at v.rows (key_of c)) in
     let own : Owns (v.held t) t (suc (v.counts t)) (governs (record_key (record_on system v.layout c v.rows))) =
     subst (λ k. Owns (v.held t) t (suc (v.counts t)) (governs k)) (sym key) m.0 in
@@ -150,6 +154,11 @@ safe_made t c v a m s =
       owned = at_each (λ u bs. AreOwned (v.held u) u (suc (v.counts u)) bs) t
           (record_on system v.layout c v.rows ∷ v.undo.active t) v.undo.active
           (own, whole_made v.layout c v.rows a, s.owned t) (λ u ne. s.owned u);
+      parts = at_each (λ u bs. OwnAllParts (v.held u) bs (changed c v.rows)) t
+          (record_on system v.layout c v.rows ∷ v.undo.active t) v.undo.active
+          (made_parts (v.held t) v.layout c (v.undo.active t) v.rows holds (s.parts t))
+          (λ u ne. parts_under (v.held u) c (v.undo.active u) v.rows
+          (apart_all v s t c m u ne (v.undo.active u) (s.owned u)) (s.parts u));
       alone = s.alone;
       unwinds = λ ts. made_unwinds v.undo.history v.layout c t ts v.undo.active v.rows a
           (λ u ne. apart_all v s t c m u ne (v.undo.active u) (s.owned u)) s.unwinds;
@@ -209,6 +218,11 @@ safe_locked t n m v free s = record {
       (more_owned (v.held t) (held_after system (Take n m) (v.held t)) t (suc (v.counts t))
       (still_exclusive (v.held t) n m) (v.undo.active t) (s.owned t))
       (λ u ne. s.owned u);
+  parts = at_each (λ u held. OwnAllParts held (v.undo.active u) v.rows) t
+      (held_after system (Take n m) (v.held t)) v.held
+      (more_parts (v.held t) (held_after system (Take n m) (v.held t)) (still_exclusive (v.held t) n m)
+      (v.undo.active t) v.rows (s.parts t))
+      (λ u ne. s.parts u);
   alone = λ x y q. at_pair (λ a b f g. f q ≡ Some theory.Exclusive → g q ≡ None) t
       (held_after system (Take n m) (v.held t)) v.held
       (λ u ne e. mine u ne q (is_name q n) refl e)
@@ -249,10 +263,11 @@ asked_safe (Err x) ts u ls ls' t n m free own others same s = subst (λ l. IsSaf
 
 -- records of none of which the row lies under a name stay owned where that is let go of
 less_owned : (held : Name → Option theory.Mode) (n : Name) (o : Option theory.Mode) (t k : ℕ) (bs : List Record)
-    → IsUnused n bs → AreOwned held t k bs
+    (r : Rows) → IsUnused n bs r → AreOwned held t k bs
     → AreOwned (λ q. cond (is_name q n) o (held q)) t k bs
-less_owned held n o t k [] u h = tt
-less_owned held n o t k (b ∷ bs) u h = (go (governs (record_key b)) u.0 h.0, h.1, less_owned held n o t k bs u.1 h.2)
+less_owned held n o t k [] r u h = tt
+less_owned held n o t k (b ∷ bs) r u h =
+    (go (governs (record_key b)) u.0.0 h.0, h.1, less_owned held n o t k bs (put_back b r) u.1 h.2)
   where
     by : (q : Name) (x : Bool) → is_name q n ≡ x → Under q ≢ Under n → held q ≡ Some theory.Exclusive
         → cond x o (held q) ≡ Some theory.Exclusive
@@ -276,12 +291,16 @@ exclusive_below (Some theory.Exclusive) h = h
 
 -- a name was put into a lower mode, or let go of, under which the transaction has changed nothing
 pub safe_put : (t : ℕ) (n : Name) (o : Option theory.Mode) (v : View) → IsBelow o (v.held t n)
-    → IsUnused n (v.undo.active t) → IsSafe v → IsSafe (put_mode t n o v)
+    → IsUnused n (v.undo.active t) v.rows → IsSafe v → IsSafe (put_mode t n o v)
 safe_put t n o v below unused s = record {
   owned = at_each (λ u held. AreOwned held u (suc (v.counts u)) (v.undo.active u)) t
       (λ q. cond (is_name q n) o (v.held t q)) v.held
-      (less_owned (v.held t) n o t (suc (v.counts t)) (v.undo.active t) unused (s.owned t))
+      (less_owned (v.held t) n o t (suc (v.counts t)) (v.undo.active t) v.rows unused (s.owned t))
       (λ u ne. s.owned u);
+  parts = at_each (λ u held. OwnAllParts held (v.undo.active u) v.rows) t
+      (λ q. cond (is_name q n) o (v.held t q)) v.held
+      (less_parts (v.held t) n o (v.undo.active t) v.rows unused (s.parts t))
+      (λ u ne. s.parts u);
   alone = λ x y q. at_pair (λ a b f g. f q ≡ Some theory.Exclusive → g q ≡ None) t
       (λ q. cond (is_name q n) o (v.held t q)) v.held
       (λ u ne e. mine u ne q (is_name q n) refl e)
@@ -305,10 +324,12 @@ safe_put t n o v below unused s = record {
 
 -- a name that is not held exclusively governs nothing that was changed
 pub unused_if_lower : (held : Name → Option theory.Mode) (n : Name) (t k : ℕ) → held n ≢ Some theory.Exclusive
-    → (bs : List Record) → AreOwned held t k bs → IsUnused n bs
-unused_if_lower held n t k ne [] h = tt
-unused_if_lower held n t k ne (b ∷ bs) h =
-    ((λ e. ne (subst (Owns held t k) e h.0)), unused_if_lower held n t k ne bs h.2)
+    → (bs : List Record) (r : Rows) → AreOwned held t k bs → OwnAllParts held bs r → IsUnused n bs r
+unused_if_lower held n t k ne [] r h p = tt
+unused_if_lower held n t k ne (b ∷ bs) r h p = (
+  ((λ e. ne (subst (Owns held t k) e h.0)), left_if_lower held n b r ne p.0),
+  unused_if_lower held n t k ne bs (put_back b r) h.2 p.1,
+)
 
 -- and where it was put below the mode in which it is held it is not
 pub not_exclusive : (o p : Option theory.Mode) → IsBelow o p → o ≢ Some theory.Exclusive
@@ -321,10 +342,31 @@ alone_gone t v s x y q ne =
     at_pair (λ a b f g. f q ≡ Some theory.Exclusive → g q ≡ None) t (λ _. None) v.held
     (λ u d e. let no : ⊥ = cc in absurd no) (λ u d e. refl) (λ u w d e. s.alone u w q d e) x y ne
 
+-- and it has no record any more
+parts_gone : (t : ℕ) (v : View) (r : Rows) → ((u : ℕ) → u ≢ t → OwnAllParts (v.held u) (v.undo.active u) r) → (u : ℕ)
+    → OwnAllParts (set t (λ _. None) v.held u) (set t [] v.undo.active u) r
+parts_gone t v r others u = go (cases_eq u t)
+  where
+    go : (u ≡ t) ⊎ (u ≢ t) → OwnAllParts (set t (λ _. None) v.held u) (set t [] v.undo.active u) r
+    go (inl e) = subst (λ bs. OwnAllParts (set t (λ _. None) v.held u) bs r) (sym (set_same t [] v.undo.active u e)) tt
+    go (inr ne) =
+        subst (λ bs. OwnAllParts (set t (λ _. None) v.held u) bs r) (sym (set_other t [] v.undo.active u ne))
+        (subst (λ held. OwnAllParts held (v.undo.active u) r) (sym (set_other t (λ _. None) v.held u ne)) (others u ne))
+
+-- what a transaction puts back is of rows of which no other has a record
+are_others : (v : View) → IsSafe v → (t : ℕ) (gone : List Record) → AreOwned (v.held t) t (suc (v.counts t)) gone
+    → (u : ℕ) → u ≢ t → AreOthers gone (v.undo.active u)
+are_others v s t [] own u ne = tt
+are_others v s t (a ∷ gone) own u ne = (
+  has_none v s t (record_key a) own.0 u ne (v.undo.active u) (s.owned u),
+  are_others v s t gone own.2 u ne,
+)
+
 -- a transaction was committed
 pub safe_committed : (t : ℕ) (q : Request) (y : Reply) (v : View) → IsSafe v → IsSafe (committed t q y v)
 safe_committed t q y v s = record {
   owned = λ u. go u (cases_eq u t);
+  parts = parts_gone t v v.rows (λ u ne. s.parts u);
   alone = alone_gone t v s;
   unwinds = λ ts. sealed_unwinds v.undo.history t ts v.undo.active v.rows s.unwinds;
 }
@@ -347,6 +389,12 @@ below_owned zero held t k bs h = h
 below_owned (suc n) held t k [] h = tt
 below_owned (suc n) held t k (b ∷ bs) h = below_owned n held t k bs h.2
 
+taken_owned : (n : ℕ) (held : Name → Option theory.Mode) (t k : ℕ) (bs : List Record) → AreOwned held t k bs
+    → AreOwned held t k (take n bs)
+taken_owned zero held t k bs h = tt
+taken_owned (suc n) held t k [] h = tt
+taken_owned (suc n) held t k (b ∷ bs) h = (h.0, h.1, taken_owned n held t k bs h.2)
+
 -- a transaction was taken back to a mark
 pub safe_back : (t mark : ℕ) (v : View) → IsSafe v → IsSafe (back_at t mark v)
 safe_back t mark v s =
@@ -354,6 +402,12 @@ safe_back t mark v s =
     record {
       owned = at_each (λ u bs. AreOwned (v.held u) u (suc (v.counts u)) bs) t (drop n (v.undo.active t)) v.undo.active
           (below_owned n (v.held t) t (suc (v.counts t)) (v.undo.active t) (s.owned t)) (λ u ne. s.owned u);
+      parts = at_each (λ u bs. OwnAllParts (v.held u) bs (unwind system (take n (v.undo.active t)) v.rows)) t
+          (drop n (v.undo.active t)) v.undo.active
+          (parts_below n (v.held t) (v.undo.active t) v.rows (s.parts t))
+          (λ u ne. parts_unwound (v.held u) (take n (v.undo.active t)) (v.undo.active u) v.rows
+          (are_others v s t (take n (v.undo.active t))
+          (taken_owned n (v.held t) t (suc (v.counts t)) (v.undo.active t) (s.owned t)) u ne) (s.parts u));
       alone = s.alone;
       unwinds = back_unwinds v.undo.history n (v.undo.active t) t v.undo.active v.rows refl s.unwinds;
     }
@@ -362,6 +416,9 @@ safe_back t mark v s =
 pub safe_rolled_back : (t : ℕ) (v : View) → IsSafe v → IsSafe (rolled_back t v)
 safe_rolled_back t v s = record {
   owned = λ u. go u (cases_eq u t);
+  parts = parts_gone t v (unwind system (v.undo.active t) v.rows) (λ u ne.
+      parts_unwound (v.held u) (v.undo.active t) (v.undo.active u) v.rows
+      (are_others v s t (v.undo.active t) (s.owned t) u ne) (s.parts u));
   alone = alone_gone t v s;
   unwinds = all_back v.undo.history t v.undo.active v.rows s.unwinds;
 }

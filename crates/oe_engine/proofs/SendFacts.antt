@@ -22,7 +22,10 @@ engine_send undo_send = view_send _ _ _ _ _
             renames.the_field_send,
             (
               search sendable,
-              (heap.the_field_send, tt),
+              (
+                search sendable,
+                (heap.the_field_send, tt),
+              ),
             ),
           ),
         ),

@@ -1,18 +1,18 @@
 -- Open work: whose the rows are that it has changed, and that it can be put back, with the commits behind it.
-use Rattle.std.specs.Prelude.{◌≡◌, ◌≢◌, ℕ, suc, List, [], ◌∷◌, Option, None, Some, IsSome, drop}
+use Rattle.std.specs.Prelude.{◌≡◌, ◌≢◌, ◌⊎◌, ℕ, suc, List, [], ◌∷◌, Option, None, Some, IsSome, drop}
 use Rattle.oe_theory.specs.Machine.{Guard, Free, Under, Own}
 use Rattle.oe_theory.specs.Machine as theory
 use Rattle.oe_theory.specs.World.{set}
 use Rattle.oe_rows.specs.declared.locks.Name.{Name}
 use Rattle.oe_rows.specs.declared.locks.Name.TheVariants as name
 use Rattle.oe_model.specs.Keys.{order_of_new_order}
-use Rattle.oe_model.specs.Rows.{Rows}
+use Rattle.oe_model.specs.Rows.{Rows, row_at}
 use Rattle.oe_model.specs.Changes.{Change, InsertNewOrder, key_of, Record, UpdatedWarehouse, UpdatedDistrict}
 use Rattle.oe_model.specs.Changes.{UpdatedCustomer, UpdatedOrder, UpdatedOrderLine, UpdatedStock, record_key, put_back}
 use Rattle.oe_model.specs.Changes.{ChangedWarehouse, ChangedDistrict, ChangedCustomer, ChangedOrder, ChangedOrderLine}
 use Rattle.oe_model.specs.Changes.{ChangedStock}
 use Rattle.oe_model.specs.Meets.{Meets}
-use Rattle.oe_model.specs.Locks.{governs}
+use Rattle.oe_model.specs.Locks.{governs, Facet, part, facet_key, governs_part}
 use Rattle.oe_change.specs.PutBack.{Stands}
 use Rattle.oe_engine.specs.GoesBack.{CanUnwindAll}
 use Rattle.oe_engine.specs.View.{View}
@@ -60,10 +60,29 @@ abbrev pub AreOwned : (Name → Option theory.Mode) → ℕ → ℕ → List Rec
 AreOwned held t k [] = Unit {0}
 AreOwned held t k (b ∷ bs) = Owns held t k (governs (record_key b)) × IsWhole b × AreOwned held t k bs
 
--- none of the records is of a row under this name
-abbrev pub IsUnused : Name → List Record → Type 0
-IsUnused n [] = Unit {0}
-IsUnused n (b ∷ bs) = (governs (record_key b) ≢ Under n) × IsUnused n bs
+-- the facet is the same in both
+abbrev pub SamePart : Facet → Rows → Rows → Type 0
+SamePart f r s = part f (row_at r (facet_key f)) ≡ part f (row_at s (facet_key f))
+
+-- each facet under a name is the same in both, or the name is held exclusively
+abbrev pub OwnsParts : (Name → Option theory.Mode) → Rows → Rows → Type 0
+OwnsParts held r s =
+    (f : Facet) (n : Name) → governs_part f ≡ Under n → SamePart f r s ⊎ (held n ≡ Some theory.Exclusive)
+
+-- each facet that these records have changed, put back one after another, lies under a name that is held exclusively
+abbrev pub OwnAllParts : (Name → Option theory.Mode) → List Record → Rows → Type 0
+OwnAllParts held [] r = Unit {0}
+OwnAllParts held (b ∷ bs) r = OwnsParts held (put_back b r) r × OwnAllParts held bs (put_back b r)
+
+-- a record is of no row under this name, and to put it back changes no facet under it
+abbrev pub LeavesName : Name → Record → Rows → Type 0
+LeavesName n b r =
+    (governs (record_key b) ≢ Under n) × ((f : Facet) → governs_part f ≡ Under n → SamePart f (put_back b r) r)
+
+-- so does each of these records, put back one after another
+abbrev pub IsUnused : Name → List Record → Rows → Type 0
+IsUnused n [] r = Unit {0}
+IsUnused n (b ∷ bs) r = LeavesName n b r × IsUnused n bs (put_back b r)
 
 -- the newest of these records, if there is one, finds the row that its change left
 abbrev pub FindsNewest : List Record → Rows → Type 0
@@ -90,6 +109,9 @@ Unwinds history active r (t ∷ ts) = FindsNewest (active t) r × Unwinds histor
 pub record IsSafe (v : View) : Type 0 where
   -- what an open transaction has changed it alone may change
   pub owned : (t : ℕ) → AreOwned (v.held t) t (suc (v.counts t)) (v.undo.active t)
+  -- and each facet that it has changed lies under a name that it holds exclusively: who has changed a customer's names
+  -- holds both last names so
+  pub parts : (t : ℕ) → OwnAllParts (v.held t) (v.undo.active t) v.rows
   -- a name that one transaction holds exclusively no other holds
   pub alone : (t u : ℕ) (n : Name) → u ≢ t → v.held t n ≡ Some theory.Exclusive → v.held u n ≡ None
   -- open work can be put back, whole or in part, in any order of terminals, and after the whole of it the commits

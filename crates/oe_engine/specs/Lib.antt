@@ -6,6 +6,7 @@ pub mod GoesBack
 pub mod Unwinds
 pub mod Rewinds
 pub mod GivesUp
+pub mod Forgetting
 pub mod Named
 pub mod Identity
 pub mod View

@@ -112,12 +112,14 @@ impl Engine {
     }
 
     /// Lowers the mode in which an open transaction holds a name, or with `None` lets go of the
-    /// name. None of its changes is of a row under that name. It takes no memory.
+    /// name. None of its changes is of a row under that name, nor of who has that last name. It
+    /// takes no memory.
     pub fn give_back(&mut self, tx: &Tx, name: Name, mode: Option<Mode>)
         requires open { IsOpen self.old tx.now }
         requires below { IsBelow (option_map mode_of mode)
             ((view_of self.old).held tx.now.terminal name) }
-        requires unused { IsUnused name ((view_of self.old).undo.active tx.now.terminal) }
+        requires unused { IsUnused name ((view_of self.old).undo.active tx.now.terminal)
+            (view_of self.old).rows }
         ensures put { view_of self.new
             ≡ put_mode tx.now.terminal name (option_map mode_of mode) (view_of self.old) }
         ensures name { self.new.name ≡ self.old.name }

@@ -41,6 +41,8 @@ pub struct Engine {
     // Since when customers have had their names.
     pub(crate) renames: Renames,
     name: u32,
+    // What touches gave: it has no meaning, and keeps their reads from being left out.
+    pub(crate) touched: u32,
     alloc: Global,
 }
 
@@ -152,6 +154,7 @@ impl Engine {
             locks,
             renames,
             name,
+            touched: 0,
             alloc,
         })
     }
@@ -319,7 +322,7 @@ impl Engine {
         requires below { (option_map mode_of mode ≡ (view_of self.old).held terminal name)
             ⊎ IsBelow (option_map mode_of mode) ((view_of self.old).held terminal name) }
         requires unused { IsBelow (option_map mode_of mode) ((view_of self.old).held terminal name)
-            → IsUnused name ((view_of self.old).undo.active terminal) }
+            → IsUnused name ((view_of self.old).undo.active terminal) (view_of self.old).rows }
         ensures put { view_of self.new
             ≡ put_mode terminal name (option_map mode_of mode) (view_of self.old) }
         ensures name { self.new.name ≡ self.old.name }
@@ -434,6 +437,7 @@ impl Engine {
             locks,
             renames: _,
             name: _,
+            touched: _,
             alloc: _,
         } = self;
         undo.discard();

@@ -24,6 +24,7 @@ pub mod past;
 pub mod programs;
 pub mod renames;
 pub mod stages;
+mod touches;
 pub mod writes;
 
 pub use engine::{Engine, Savepoint, Tx};

@@ -39,7 +39,7 @@ impl Model for Base {
     ghost view = { λ b. record {
       warehouses = b.warehouses;
       districts = b.districts;
-      customers = b.customers;
+      customers = b.customers.places;
       items = b.items;
       stocks = b.stocks;
     } };
@@ -47,7 +47,7 @@ impl Model for Base {
     ghost invariant = { λ b. IsBase (record {
       warehouses = b.warehouses;
       districts = b.districts;
-      customers = b.customers;
+      customers = b.customers.places;
       items = b.items;
       stocks = b.stocks;
     }) };

@@ -8,6 +8,7 @@ mod ReasonFacts
 mod ListFacts
 mod ChangeFacts
 mod AloneFacts
+mod AloneLaw
 mod WorkFacts
 mod AnswerFacts
 mod VerdictFacts

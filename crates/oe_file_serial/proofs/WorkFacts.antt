@@ -165,7 +165,8 @@ ends_work b t q w v (advanced.Committed m) last h (y, is, n) other =
       k.0,
       record { live = next_live w (Advance t) (theory.Committed m y) v h.live n.0; quiet = k.1 },
     )
-ends_work b t q w v (advanced.Refused e) last h n other = λ s. refused b t q w v e h n.0 s
+ends_work b t q w v (advanced.Kept e) last h (n, same) other = λ s. refused b t q w v e h n.0 s
+ends_work b t q w v (advanced.RolledBack e) last h (n, is) other = λ s. refused b t q w v e h n.0 s
 
 -- WHAT A PURGE LEAVES
 

@@ -1,5 +1,6 @@
 -- What the clauses of this crate cite.
 pub mod InOrder
+pub mod Alone
 pub mod Files
 pub mod BadTexts
 pub mod Answers

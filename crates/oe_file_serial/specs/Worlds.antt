@@ -37,7 +37,9 @@ abbrev pub Ends : Between system → ℕ → Request → Advanced → Option Rep
 Ends b t q advanced.More last w = ⊥
 Ends b t q (advanced.Committed m) last w =
     (y : Reply) × (last ≡ Some y) × Commits system b t q y (between system w) × IsFree w
-Ends b t q (advanced.Refused e) last w =
+Ends b t q (advanced.Kept e) last w =
+    shortage_of e ≡ None → Refuses system b t q e × (between system w ≡ b) × IsFree w
+Ends b t q (advanced.RolledBack e) last w =
     shortage_of e ≡ None → Refuses system b t q e × (between system w ≡ b) × IsFree w
 
 -- what is asked for is answered this text, alone

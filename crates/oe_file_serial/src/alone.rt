@@ -1,7 +1,8 @@
 //! One transaction or query alone in a core. A transaction is begun where nothing is open, carried
 //! out to its end, and forgotten once its answer is known, so that no more work is kept than one
 //! transaction's.
-ghost use Rattle.std.specs.Prelude.{◌≡◌, IfOk};
+ghost use Rattle.std.specs.Prelude.{◌≡◌, [], None, IfOk, OnOk};
+ghost use Rattle.oe_texts.specs.Refusal.{error_text};
 ghost use Rattle.oe_file_serial.specs.declared.lines.Asked.TheVariants as asked;
 ghost use Rattle.oe_file_serial.specs.Answers.{Answers};
 ghost use Rattle.oe_core.specs.Core.{world_of, last_reply};
@@ -23,7 +24,7 @@ fn carried_out(core: &mut Core, terminal: Terminal, request: &Request) -> Advanc
         (last_reply core.new terminal) (world_of core.new) }
 {
     if let Err(refusal) = core.begin(terminal, request) {
-        return Advanced::Refused(refusal);
+        return Advanced::Kept(refusal);
     }
     loop {
         match core.advance(terminal) {
@@ -53,6 +54,21 @@ fn shortage(refusal: &Refusal) -> Option<Shortage>
     }
 }
 
+// Writes the text of a refusal, where it doesn't tell of a shortage.
+fn refused(refusal: &Refusal, out: &mut AnswerText) -> Result<(), Shortage>
+    requires { out.old.items ≡ [] }
+    ensures own { OnOk result (shortage_of refusal.now ≡ None) }
+    ensures text { OnOk result (out.new.items ≡ error_text refusal.now) }
+{
+    match shortage(refusal) {
+        Some(shortage) => Err(shortage),
+        None => {
+            write_refusal(refusal, out);
+            Ok(())
+        }
+    }
+}
+
 // Carries a transaction out alone, and writes the text that it is answered.
 #[tactic(none)]
 fn transacted(
@@ -72,13 +88,8 @@ fn transacted(
             forget(core);
             Ok(())
         }
-        Advanced::Refused(refusal) => match shortage(&refusal) {
-            Some(shortage) => Err(shortage),
-            None => {
-                write_refusal(&refusal, out);
-                Ok(())
-            }
-        },
+        Advanced::Kept(refusal) => refused(&refusal, out),
+        Advanced::RolledBack(refusal) => refused(&refusal, out),
         Advanced::More => unreachable!(),
     }
 }

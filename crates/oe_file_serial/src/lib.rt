@@ -13,6 +13,8 @@ mod reports;
 mod texts;
 pub mod verdicts;
 
+ghost use Rattle.oe_file_serial.specs.Alone.{Alone_is_whole};
+
 pub use answers::AnswerText;
 pub use faults::write_bad_lines;
 pub use lines::BadLines;
@@ -20,3 +22,9 @@ pub use origins::{Opening, Origin};
 pub use reasons::{BadLine, Behind, Why};
 pub use reports::{SerialFault, run_serial, status, write_verdict};
 pub use verdicts::{Decision, Shortage, Verdict, decide};
+
+/// A transaction of which no other is beside it commits its whole effect on what commits have left,
+/// or is rolled back where there is none.
+pub fn law_alone()
+    ensures { Alone_is_whole }
+{}

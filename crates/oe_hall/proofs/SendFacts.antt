@@ -8,10 +8,12 @@ use Rattle.std.proofs.alloc.Global.TheSendSync as heap
 use Rattle.std.proofs.sync.Arc.TheSendSync as arc
 use Rattle.std.proofs.sync.Mutex.TheSendSync as mutex
 use Rattle.oe_core.specs.contracts.cores.Core.{the_row as core_row}
-use Rattle.oe_moments.specs.contracts.words.Moments.{the_row as moments_row}
 use Rattle.oe_moments.proofs.words.Moments.TheSendSync as moments
 use Rattle.oe_moments.proofs.words.KeeperSeat.TheSendSync as keeper
 use Rattle.oe_hall.specs.declared.naming.Naming
+use Rattle.oe_history.proofs.histories.History.TheSendSync as history
+use Rattle.oe_hall.specs.contracts.records.Recorded.{the_row as recorded_row}
+use Rattle.oe_hall.specs.contracts.records.Recorded.TheInside as recorded
 use Rattle.oe_hall.specs.contracts.hall.Hall.{the_row as hall_row}
 use Rattle.oe_hall.specs.contracts.hall.Hall.TheInside as hall
 use Rattle.oe_hall.specs.contracts.shop.Front.{the_row as front_row}
@@ -19,11 +21,16 @@ use Rattle.oe_hall.specs.contracts.shop.Front.TheInside as front
 use Rattle.oe_hall.proofs.counts.Books.TheSendSync as books
 
 module _ (J : RattleType) (j : Naming.Ghosts J.Denot) where
+  recorded_is_sent : IsSend core_row → IsSend (recorded_row J j)
+  recorded_is_sent core_send =
+      view_send _ _ _ _ _ (recorded_send (recorded.the_field J j).row _ _ (recorded.the_type J j).to_one
+      (struct_send (shape (recorded.the_type J j)) (core_send, (history.the_send, (search sendable, tt)))))
+
   pub hall_send : IsSend core_row → IsSend (hall_row J j)
   hall_send core_send =
       view_send _ _ _ _ _ (recorded_send (hall.the_field J j).row _ _ (hall.the_type J j).to_one
       (struct_send (shape (hall.the_type J j)) (
-        core_send,
+        recorded_is_sent core_send,
         (
           search sendable,
           (

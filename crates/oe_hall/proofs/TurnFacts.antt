@@ -1,5 +1,5 @@
 -- What a step of the machine counts, and which answers it may have.
-use Rattle.std.proofs.Common.{◌≡◌, ℕ, ◌<◌, ◌≤◌, true, false, refl, sym, ◌∙◌, arith}
+use Rattle.std.proofs.Common.{◌≡◌, ℕ, ◌<◌, ◌≤◌, None, refl, sym, ap, subst, ◌∙◌, arith}
 use Rattle.oe_theory.specs.World.{World, newest, horizon}
 use Rattle.oe_theory.specs.Next.{Next, Step, Begin, Advance, Save, Back, Rollback, Read, Audit, Purge, Rewind, Answer}
 use Rattle.oe_theory.specs.Next.{Begun, More, Committed, Rolled_back, Replied, Purged, Aborted, Rejected, Busy}
@@ -18,7 +18,7 @@ use Rattle.oe_requests.specs.declared.refusals.Refusal.TheVariants as refusal
 use Rattle.oe_requests.specs.declared.steps.Step.TheVariants as step
 use Rattle.oe_requests.specs.declared.requests.Request.{Request}
 use Rattle.oe_requests.specs.declared.requests.Query.{Query}
-use Rattle.oe_hall.specs.Turns.{keeps, open_count, HasSame, HasBegun, HasCommitted, HasEnded, HasPurged}
+use Rattle.oe_hall.specs.Turns.{open_count, HasSame, HasBegun, HasCommitted, HasEnded, HasPurged}
 
 -- what a step may be answered
 abbrev OfAdvance : Answer system → Type 0
@@ -108,6 +108,53 @@ fits w _ _ _ (not_quiet m n e) = tt
 fits w _ _ _ (lacks_memory_at_begin t q b) = tt
 fits w _ _ _ (lacks_memory t o e h) = tt
 
+-- where a rollback finds nothing open, nothing is
+abbrev AtRollback : World system → Step system → Type 0
+AtRollback w (Rollback t) = w.active t ≡ None
+AtRollback w i = Unit {0}
+
+abbrev HasNone : World system → Step system → Answer system → Type 0
+HasNone w i Not_open = AtRollback w i
+HasNone w i a = Unit {0}
+
+pub none_open : (w : World system) (i : Step system) (a : Answer system) (v : World system) → Next system w i a v
+    → HasNone w i a
+none_open w _ _ _ (begins t q b) = tt
+none_open w _ _ _ (goes_on t o c p e g r room) = tt
+none_open w _ _ _ (commits t o y e g r) = tt
+none_open w _ _ _ (saves t o e) = tt
+none_open w _ _ _ (goes_back t o e) = tt
+none_open w _ _ _ (rolls_back t o e) = tt
+none_open w _ _ _ (reads m q f a b c d) = tt
+none_open w _ _ _ (audits m c a b) = tt
+none_open w _ _ _ (purges m l h) = tt
+none_open w _ _ _ (rewinds m q l h) = tt
+none_open w _ _ _ (stops t o x e r) = tt
+none_open w _ _ _ (fails t o x e g r) = tt
+none_open w _ _ _ (is_busy t o n m u a b c) = tt
+none_open w _ _ _ (is_full t o c p a b d e) = tt
+none_open w _ _ _ (is_rejected t q e h) = tt
+none_open w _ _ _ (is_open t q o a b) = tt
+none_open w _ _ _ (number_is_rejected t q e a b c) = tt
+none_open w _ _ _ (query_is_rejected m q e a) = tt
+none_open w _ _ _ (misses m q e a b c d) = tt
+none_open w _ _ _ (not_open (Begin t q) u e h) = tt
+none_open w _ _ _ (not_open (Advance t) u e h) = tt
+none_open w _ _ _ (not_open (Save t) u e h) = tt
+none_open w _ _ _ (not_open (Back t) u e h) = tt
+none_open w _ _ _ (not_open (Rollback t) u e h) =
+    let same : u ≡ t = cc in
+    subst (λ (n : ℕ). w.active n ≡ None) same h
+none_open w _ _ _ (not_open (Read m q) u e h) = tt
+none_open w _ _ _ (not_open (Audit m c) u e h) = tt
+none_open w _ _ _ (not_open (Purge m) u e h) = tt
+none_open w _ _ _ (not_open (Rewind m) u e h) = tt
+none_open w _ _ _ (too_old i m e p h) = tt
+none_open w _ _ _ (future i m e p h) = tt
+none_open w _ _ _ (not_quiet m n e) = tt
+none_open w _ _ _ (lacks_memory_at_begin t q b) = tt
+none_open w _ _ _ (lacks_memory t o e h) = tt
+
 -- a step keeps the layout of undo records
 layout_stays : (w v : World system) (i : Step system) (a : Answer system) → Next system w i a v
     → v.layout ≡ w.layout
@@ -173,45 +220,20 @@ idle a f w v i r n =
     let s = f w v (steps_are_counted system laws w v i a r n) in
     (s.0, s.1, s.2, layout_stays w v i a n)
 
--- a refusal that leaves the transaction open, or found none
-pub after_kept : (w v : World system) (t : ℕ) (e : Refusal) → IsReached system w → keeps e ≡ true
-    → Next system w (Advance t) (refusal_in (step.Advance t) e) v → HasSame w v
-after_kept w v t (refusal.NoSuchRow x) r k n = let no : ⊥ = cc in absurd no
-after_kept w v t (refusal.RowExists x) r k n = let no : ⊥ = cc in absurd no
-after_kept w v t (refusal.Overflow x) r k n = let no : ⊥ = cc in absurd no
-after_kept w v t (refusal.Reference x) r k n = let no : ⊥ = cc in absurd no
-after_kept w v t refusal.KeyColumn r k n = let no : ⊥ = cc in absurd no
-after_kept w v t (refusal.Busy x u) r k n = idle _ (λ w v s. (s.newest, s.open_count, s.horizon)) w v _ r n
-after_kept w v t refusal.UndoFull r k n = idle _ (λ w v s. (s.newest, s.open_count, s.horizon)) w v _ r n
-after_kept w v t refusal.NoMemory r k n = idle _ (λ w v s. (s.newest, s.open_count, s.horizon)) w v _ r n
-after_kept w v t refusal.NotOpen r k n = idle _ (λ w v s. (s.newest, s.open_count, s.horizon)) w v _ r n
-after_kept w v t refusal.AlreadyOpen r k n = let no : ⊥ = cc in absurd no
-after_kept w v t refusal.InvalidItem r k n = let no : ⊥ = cc in absurd no
-after_kept w v t refusal.NoCustomer r k n = let no : ⊥ = cc in absurd no
-after_kept w v t (refusal.TooOld m) r k n = let no : ⊥ = cc in absurd no
-after_kept w v t (refusal.Future m) r k n = let no : ⊥ = cc in absurd no
-after_kept w v t (refusal.NotQuiet m) r k n = let no : ⊥ = cc in absurd no
-after_kept w v t (refusal.NotPinned m) r k n = let no : ⊥ = cc in absurd no
+-- a refusal that has changed nothing
+pub after_kept : (w v : World system) → v ≡ w → HasSame w v
+after_kept w v same = (
+  ap (λ z. newest system z) same,
+  ap open_count same,
+  ap (λ z. horizon system z) same,
+  ap (λ (z : World system). z.layout) same,
+)
 
--- any other has ended it
-pub after_ended : (w v : World system) (t : ℕ) (e : Refusal) → IsReached system w → keeps e ≡ false
-    → Next system w (Advance t) (refusal_in (step.Advance t) e) v → HasEnded w v
-after_ended w v t (refusal.NoSuchRow x) r k n = after_abort w v t _ r n
-after_ended w v t (refusal.RowExists x) r k n = after_abort w v t _ r n
-after_ended w v t (refusal.Overflow x) r k n = after_abort w v t _ r n
-after_ended w v t (refusal.Reference x) r k n = after_abort w v t _ r n
-after_ended w v t refusal.KeyColumn r k n = after_abort w v t _ r n
-after_ended w v t (refusal.Busy x u) r k n = let no : ⊥ = cc in absurd no
-after_ended w v t refusal.UndoFull r k n = let no : ⊥ = cc in absurd no
-after_ended w v t refusal.NoMemory r k n = let no : ⊥ = cc in absurd no
-after_ended w v t refusal.NotOpen r k n = let no : ⊥ = cc in absurd no
-after_ended w v t refusal.AlreadyOpen r k n = absurd (fits w _ _ v n)
-after_ended w v t refusal.InvalidItem r k n = after_abort w v t _ r n
-after_ended w v t refusal.NoCustomer r k n = after_abort w v t _ r n
-after_ended w v t (refusal.TooOld m) r k n = absurd (fits w _ _ v n)
-after_ended w v t (refusal.Future m) r k n = absurd (fits w _ _ v n)
-after_ended w v t (refusal.NotQuiet m) r k n = absurd (fits w _ _ v n)
-after_ended w v t (refusal.NotPinned m) r k n = after_abort w v t _ r n
+-- one that has ended the transaction
+pub after_ended : (w v : World system) (t : ℕ) (e : Refusal) → IsReached system w
+    → refusal_in (step.Advance t) e ≡ Aborted e → Next system w (Advance t) (refusal_in (step.Advance t) e) v
+    → HasEnded w v
+after_ended w v t e r is n = after_abort w v t e r (subst (λ a. Next system w (Advance t) a v) is n)
 
 -- a refused begin, a refused rollback
 pub after_refused_begin : (w v : World system) (t : ℕ) (q : Request) (e : Refusal) → IsReached system w

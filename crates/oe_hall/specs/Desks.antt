@@ -1,45 +1,47 @@
--- What desks are told: by its own contract each call is the answer of one turn of some hall.
-use Rattle.std.specs.Prelude.{◌≡◌, ◌⊎◌, ℕ, ◌+◌, ◌-◌, Option, Result, Ok, Err, List, sum_by, slice_get}
-use Rattle.atomic_table.specs.Seated.{TableId}
+-- What desks are told: by its own contract each call is one entry of the history, behind all that its desk had seen.
+use Rattle.std.specs.Prelude.{◌≡◌, ◌<◌, ◌⊎◌, ℕ, suc, ◌+◌, ◌-◌, Option, Some, Result, Ok, Err, List, [], ◌∷◌, sum_by}
+use Rattle.std.specs.Prelude.{slice_get}
 use Rattle.oe_moments.specs.Rule.{pin_word}
 use Rattle.oe_moments.specs.Pins.{TheSeat, ThePin, Holds}
+use Rattle.oe_core.specs.declared.advances.Advanced.{Advanced}
+use Rattle.oe_core.specs.declared.advances.Advanced.TheVariants as advanced
 use Rattle.oe_requests.specs.declared.requests.Request.{Request}
 use Rattle.oe_requests.specs.declared.requests.Query.{Query}
 use Rattle.oe_requests.specs.declared.replies.QueryReply.{QueryReply}
 use Rattle.oe_requests.specs.declared.replies.Reply.{Reply}
 use Rattle.oe_requests.specs.declared.refusals.Refusal.{Refusal}
 use Rattle.oe_requests.specs.declared.refusals.Refusal.TheVariants as refusal
-use Rattle.oe_hall.specs.Naming.{TheNames}
+use Rattle.oe_history.specs.declared.views.Entry.{Entry}
+use Rattle.oe_history.specs.Calls.{TheCaller, Knows}
+use Rattle.oe_hall.specs.Naming.{TheMarks}
 use Rattle.oe_hall.specs.Counts.{Tally}
-use Rattle.oe_hall.specs.Turns.{TheHall, IsHall, IsTold, BeginTurn, AdvanceTurn, EndTurn, ReadTurn, PurgeTurn}
-use Rattle.oe_hall.specs.Turns.{begin_told, told_of, end_told}
-use Rattle.oe_hall.specs.declared.calls.Ended.{Ended}
-use Rattle.oe_hall.specs.declared.calls.Ended.TheVariants as ended
+use Rattle.oe_hall.specs.Seats.{ThePlace, TheRoom}
+use Rattle.oe_hall.specs.Turns.{TheHall, IsHall, PurgeTurn, BeginCall, AdvanceCall, EndCall, ReadCall, PurgeCall}
 use Rattle.oe_hall.specs.declared.counts.Counted.{Counted}
 use Rattle.oe_hall.specs.declared.shop.Open.{Open}
 use Rattle.oe_hall.specs.declared.shop.Turn.{Turn}
 use Rattle.oe_hall.specs.declared.shop.Turn.TheVariants as turn
 
--- what a clause sees of a shop: its words and name, how many desks it gave, and the seats of the other terminals
+-- what a clause sees of a shop: its room, how many desks it gave, and the places of the other terminals
 pub record TheShop : Type 0 where
-  pub words : TableId
-  pub name : ℕ
+  pub room : TheRoom
   pub given : ℕ
-  pub seats : List (Option TheSeat)
+  pub seats : List (Option ThePlace)
 
--- and of a desk: its seat, what it was told, and the reply of its newest commit
+-- and of a desk: its seat, its calls, what it was told, and the reply of its newest commit
 pub record TheDesk : Type 0 where
   pub seat : TheSeat
+  pub calls : TheCaller
   pub told : Tally
   pub reply : Option Reply
 
--- the names of a shop that is not opened yet
+-- what a shop is known by that is not opened yet
 pub record TheSeats : Type 0 where
-  pub names : TheNames
+  pub names : TheMarks
   pub shop : ℕ
 
--- the seat of a terminal that has no desk yet
-abbrev pub seat_for : TheShop → ℕ → Option (Option TheSeat)
+-- the place of a terminal that has no desk yet
+abbrev pub seat_for : TheShop → ℕ → Option (Option ThePlace)
 seat_for s t = slice_get s.seats (t - 1)
 
 abbrev pub with_told : Tally → TheDesk → TheDesk
@@ -47,6 +49,9 @@ with_told c d = record d { told = c }
 
 abbrev pub with_reply : Option Reply → TheDesk → TheDesk
 with_reply y d = record d { reply = y }
+
+abbrev pub with_calls : TheCaller → TheDesk → TheDesk
+with_calls c d = record d { calls = c }
 
 abbrev pub with_seat : TheSeat → TheDesk → TheDesk
 with_seat s d = record d { seat = s }
@@ -61,26 +66,23 @@ abbrev pub begins : Result Open Refusal → Result (Unit {0}) Refusal
 begins (Ok o) = Ok tt
 begins (Err r) = Err r
 
-abbrev pub advances : Turn → Ended
-advances (turn.More o) = ended.More
-advances (turn.Kept o e) = ended.Kept e
-advances (turn.Committed m) = ended.Committed m
-advances (turn.RolledBack e) = ended.RolledBack e
+abbrev pub advances : Turn → Advanced
+advances (turn.More o) = advanced.More
+advances (turn.Kept o e) = advanced.Kept e
+advances (turn.Committed m) = advanced.Committed m
+advances (turn.RolledBack e) = advanced.RolledBack e
 
 abbrev pub ends : Result (Unit {0}) (Refusal × Open) → Result (Unit {0}) Refusal
 ends (Ok u) = Ok tt
 ends (Err e) = Err e.0
 
--- IN ONE TURN OF SOME HALL
+-- THE ENTRY THAT A CALL IS
 
--- between two halls that count so, with what the desk was told before and after
-abbrev pub ATurn : Tally → Tally → (TheHall → TheHall → Type 0) → Type 0
-ATurn told told' Went =
-    (h : TheHall) × (h' : TheHall) × IsHall h × IsHall h' × IsTold told h × IsTold told' h' × Went h h'
+-- Each is the newest entry that the desk has seen, behind all that it had seen, and the newest of its own calls; one
+-- that is no step adds nothing.
 
-abbrev pub ABegin : TheDesk → Request → Result Open Refusal → Type 0
-ABegin d q r =
-    ATurn d.told (begin_told (begins r) d.told) (λ h h'. BeginTurn h d.seat.terminal q (begins r) h')
+abbrev pub ABegin : TheDesk → Request → Result Open Refusal → TheDesk → Type 0
+ABegin d q r d' = BeginCall d.calls d.seat.terminal q (begins r) d'.calls
 
 -- a transaction that stays open is the one that was handed in
 abbrev pub Keeps : Open → Turn → Type 0
@@ -93,27 +95,39 @@ abbrev pub KeepsOnErr : Open → Result (Unit {0}) (Refusal × Open) → Type 0
 KeepsOnErr o (Ok u) = Unit {0}
 KeepsOnErr o (Err e) = e.1 ≡ o
 
--- of the desk's own transaction, which leaves this reply at the desk; any other comes back
-abbrev pub AnAdvance : TheDesk → Open → Turn → Option Reply → Type 0
-AnAdvance d o r reply =
-    IsOwn d.seat o × Keeps o r
-    × ATurn d.told (told_of (advances r) d.told) (λ h h'. AdvanceTurn h d.seat.terminal (advances r) reply h')
-    ⊎ (r ≡ turn.Kept o refusal.NotOpen) × (IsOwn d.seat o → ⊥)
+-- of the desk's own transaction; any other comes back
+abbrev pub AnAdvance : TheDesk → Open → Turn → TheDesk → Type 0
+AnAdvance d o r d' =
+    IsOwn d.seat o × AdvanceCall d.calls d.seat.terminal (advances r) d'.reply d'.calls
+    ⊎ (r ≡ turn.Kept o refusal.NotOpen) × (IsOwn d.seat o → ⊥) × (d'.calls ≡ d.calls)
 
-abbrev pub AnEnd : TheDesk → Open → Result (Unit {0}) (Refusal × Open) → Type 0
-AnEnd d o r =
-    IsOwn d.seat o × KeepsOnErr o r
-    × ATurn d.told (end_told (ends r) d.told) (λ h h'. EndTurn h d.seat.terminal (ends r) h')
-    ⊎ (r ≡ Err (refusal.NotOpen, o)) × (IsOwn d.seat o → ⊥)
+abbrev pub AnEnd : TheDesk → Open → Result (Unit {0}) (Refusal × Open) → TheDesk → Type 0
+AnEnd d o r d' =
+    IsOwn d.seat o × EndCall d.calls d.seat.terminal (ends r) d'.calls
+    ⊎ (r ≡ Err (refusal.NotOpen, o)) × (IsOwn d.seat o → ⊥) × (d'.calls ≡ d.calls)
 
 -- at the moment of the desk's own pin; the desk refuses any other with the word of its own pin
-abbrev pub ARead : TheDesk → ThePin → Query → Result QueryReply Refusal → Type 0
-ARead d p q r =
-    Holds d.seat p × ((h : TheHall) × (h' : TheHall) × IsHall h × IsHall h' × ReadTurn h p.moment q r h')
-    ⊎ (r ≡ Err (refusal.NotPinned (pin_word d.seat.notes.pin))) × (Holds d.seat p → ⊥)
+abbrev pub ARead : TheDesk → ThePin → Query → Result QueryReply Refusal → TheDesk → Type 0
+ARead d p q r d' =
+    Holds d.seat p × ReadCall d.calls d.seat.terminal p.moment q r d'.calls
+    ⊎ (r ≡ Err (refusal.NotPinned (pin_word d.seat.notes.pin))) × (Holds d.seat p → ⊥) × (d'.calls ≡ d.calls)
 
-abbrev pub APurge : ℕ → ℕ → Type 0
-APurge asked m = (h : TheHall) × (h' : TheHall) × IsHall h × IsHall h' × PurgeTurn h asked m h'
+-- the purger's, in a turn of a hall whose history it has seen
+abbrev pub APurge : TheCaller → ℕ → ℕ → TheCaller → Type 0
+APurge c asked m c' =
+    PurgeCall c m c'
+    × (h : TheHall) × (h' : TheHall) × IsHall h × IsHall h' × PurgeTurn h asked m h' × (h'.history.log ≡ c'.seen)
+
+-- WHAT A SHOP LEAVES
+
+-- each desk's calls are the history's entries of its terminal, and what it has seen is a beginning of the history
+abbrev pub AreKnown : List Entry → List TheDesk → Type 0
+AreKnown log [] = Unit {0}
+AreKnown log (d ∷ ds) = Knows log d.calls × AreKnown log ds
+
+-- no caller has this number: no terminal has it, or its terminal has no desk
+abbrev pub IsNobodys : List (Option ThePlace) → ℕ → Type 0
+IsNobodys seats by = (64 < by) ⊎ ((k : ℕ) × (p : ThePlace) × (by ≡ suc k) × (slice_get seats k ≡ Some (Some p)))
 
 -- WHAT DESKS WERE TOLD IN ALL
 

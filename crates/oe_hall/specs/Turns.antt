@@ -1,5 +1,6 @@
--- One turn of the hall: a step of the machine with what it counts, or none.
-use Rattle.std.specs.Prelude.{◌≡◌, ◌≢◌, ◌⊎◌, ℕ, suc, ◌+◌, ◌≤◌, max, Bool, true, false, Option, Result, Ok, Err}
+-- One turn of the hall: a step of the machine with what it counts and its entry in the history, or none.
+use Rattle.std.specs.Prelude.{◌≡◌, ◌≢◌, ◌⊎◌, ℕ, suc, ◌+◌, ◌≤◌, max, Bool, true, false, Option, None, Some, Result, Ok}
+use Rattle.std.specs.Prelude.{Err}
 use Rattle.atomic_table.specs.Seated.{TableId}
 use Rattle.oe_moments.specs.Rule.{pin_word}
 use Rattle.oe_moments.specs.declared.notes.PinState.TheVariants.{Sure}
@@ -7,7 +8,7 @@ use Rattle.oe_theory.specs.World.{World, newest, horizon}
 use Rattle.oe_theory.specs.Next.{count_open}
 use Rattle.oe_model.specs.System.{system, terminal_limit}
 use Rattle.oe_core.specs.Core.{CoreState, world_of}
-use Rattle.oe_core.specs.Steps.{Carries, Advances}
+use Rattle.oe_core.specs.Steps.{Carries, Advances, begin_answer}
 use Rattle.oe_core.specs.declared.advances.Advanced.{Advanced}
 use Rattle.oe_core.specs.declared.advances.Advanced.TheVariants as advanced
 use Rattle.oe_requests.specs.declared.requests.Request.{Request}
@@ -17,23 +18,34 @@ use Rattle.oe_requests.specs.declared.replies.Reply.{Reply}
 use Rattle.oe_requests.specs.declared.refusals.Refusal.{Refusal}
 use Rattle.oe_requests.specs.declared.refusals.Refusal.TheVariants as refusal
 use Rattle.oe_requests.specs.declared.refusals.Column.TheVariants.{HistoryNumber}
+use Rattle.oe_requests.specs.declared.steps.Step.{Step}
 use Rattle.oe_requests.specs.declared.steps.Step.TheVariants as step
 use Rattle.oe_requests.specs.declared.answers.Answer.{Answer}
 use Rattle.oe_requests.specs.declared.answers.Answer.TheVariants as answer
+use Rattle.oe_history.specs.Views.{entry}
+use Rattle.oe_history.specs.Calls.{TheHistory, TheCaller, Extends, with_entry}
 use Rattle.oe_hall.specs.Counts.{Counts, Tally, begun_once, committed_once, rolled_back_once, told_begun}
 use Rattle.oe_hall.specs.Counts.{told_committed, told_rolled_back, IsAtMost}
-use Rattle.oe_hall.specs.declared.calls.Ended.{Ended}
-use Rattle.oe_hall.specs.declared.calls.Ended.TheVariants as ended
 
--- what a clause sees of the hall: the core, what was counted, the keeper's horizon, and the words of the pins
+-- what a clause sees of a core with the history that has led to it
+pub record TheRecord : Type 0 where
+  pub core : CoreState
+  pub history : TheHistory
+
+-- what a clause sees of the hall: the core and its history, what was counted, the keeper's horizon, and the words of
+-- the pins
 pub record TheHall : Type 0 where
   pub core : CoreState
+  pub history : TheHistory
   pub counts : Counts
   pub horizon : ℕ
   pub words : TableId
 
 abbrev pub world : TheHall → World system
 world h = world_of h.core
+
+abbrev pub with_history : TheHistory → TheHall → TheHall
+with_history x h = record h { history = x }
 
 -- how many transactions are open
 abbrev pub open_count : World system → ℕ
@@ -61,11 +73,11 @@ abbrev pub HasPurged : ℕ → World system → World system → Type 0
 HasPurged m w v = (newest system v ≡ newest system w) × (open_count v ≡ open_count w) × (horizon system v ≡ m)
     × (v.layout ≡ w.layout)
 
-abbrev pub HasMoved : Ended → World system → World system → Type 0
-HasMoved ended.More w v = HasSame w v
-HasMoved (ended.Kept e) w v = HasSame w v
-HasMoved (ended.Committed m) w v = HasCommitted w v
-HasMoved (ended.RolledBack e) w v = HasEnded w v
+abbrev pub HasMoved : Advanced → World system → World system → Type 0
+HasMoved advanced.More w v = HasSame w v
+HasMoved (advanced.Kept e) w v = HasSame w v
+HasMoved (advanced.Committed m) w v = HasCommitted w v
+HasMoved (advanced.RolledBack e) w v = HasEnded w v
 
 abbrev pub BeginMoves : Result (Unit {0}) Refusal → World system → World system → Type 0
 BeginMoves (Ok u) w v = HasBegun w v
@@ -92,62 +104,59 @@ abbrev pub begin_told : Result (Unit {0}) Refusal → Tally → Tally
 begin_told (Ok u) c = told_begun c
 begin_told (Err e) c = c
 
--- refusals of an advance that leave its transaction open, or found none
-abbrev pub keeps : Refusal → Bool
-keeps (refusal.Busy n u) = true
-keeps refusal.UndoFull = true
-keeps refusal.NoMemory = true
-keeps refusal.NotOpen = true
-keeps _ = false
-
 -- what is counted of an advance, and told
-abbrev pub counted : Ended → Counts → Counts
-counted ended.More c = c
-counted (ended.Kept e) c = c
-counted (ended.Committed m) c = committed_once c
-counted (ended.RolledBack e) c = rolled_back_once c
+abbrev pub counted : Advanced → Counts → Counts
+counted advanced.More c = c
+counted (advanced.Kept e) c = c
+counted (advanced.Committed m) c = committed_once c
+counted (advanced.RolledBack e) c = rolled_back_once c
 
-abbrev pub told_of : Ended → Tally → Tally
-told_of ended.More c = c
-told_of (ended.Kept e) c = c
-told_of (ended.Committed m) c = told_committed c
-told_of (ended.RolledBack e) c = told_rolled_back c
-
--- as the core tells it
-abbrev pub advanced_of : Ended → Advanced
-advanced_of ended.More = advanced.More
-advanced_of (ended.Kept e) = advanced.Refused e
-advanced_of (ended.Committed m) = advanced.Committed m
-advanced_of (ended.RolledBack e) = advanced.Refused e
+abbrev pub told_of : Advanced → Tally → Tally
+told_of advanced.More c = c
+told_of (advanced.Kept e) c = c
+told_of (advanced.Committed m) c = told_committed c
+told_of (advanced.RolledBack e) c = told_rolled_back c
 
 -- the reply that was kept stays, unless a commit has left its own
-abbrev pub LeavesReply : Ended → Option Reply → Option Reply → Type 0
-LeavesReply ended.More old new = new ≡ old
-LeavesReply (ended.Kept e) old new = new ≡ old
-LeavesReply (ended.Committed m) old new = Unit {0}
-LeavesReply (ended.RolledBack e) old new = new ≡ old
-
--- a refusal is sorted by what it left
-abbrev pub IsSorted : Ended → Type 0
-IsSorted (ended.Kept e) = keeps e ≡ true
-IsSorted (ended.RolledBack e) = keeps e ≡ false
-IsSorted r = Unit {0}
+abbrev pub LeavesReply : Advanced → Option Reply → Option Reply → Type 0
+LeavesReply advanced.More old new = new ≡ old
+LeavesReply (advanced.Kept e) old new = new ≡ old
+LeavesReply (advanced.Committed m) old new = Unit {0}
+LeavesReply (advanced.RolledBack e) old new = new ≡ old
 
 -- a hall counts no more transactions than these
 abbrev pub most_begun : ℕ
 most_begun = 18446744073709551615
 
+-- the count of begins is full
+abbrev pub IsFullCount : Result (Unit {0}) Refusal → Type 0
+IsFullCount r = (r ≡ Err (refusal.Overflow HistoryNumber)) × (h : TheHall) × IsHall h × (h.counts.begun ≡ most_begun)
+
+-- the call is the newest entry
+abbrev pub IsWritten : ℕ → Step → Answer → TheHall → TheHall → Type 0
+IsWritten by i a h h' = h'.history ≡ with_entry (entry by i a) h.history
+
 -- a begin is one step, or none where the count is full
 abbrev pub BeginTurn : TheHall → ℕ → Request → Result (Unit {0}) Refusal → TheHall → Type 0
 BeginTurn h t q (Ok u) h' = Carries (world h) (step.Begin t q) answer.Begun (world h')
-    × (h'.counts ≡ begun_once h.counts) × (h'.words ≡ h.words)
+    × IsWritten t (step.Begin t q) answer.Begun h h' × (h'.counts ≡ begun_once h.counts) × (h'.words ≡ h.words)
 BeginTurn h t q (Err e) h' =
-    (Carries (world h) (step.Begin t q) (answer.Refused e) (world h') × (h'.counts ≡ h.counts) × (h'.words ≡ h.words))
+    (Carries (world h) (step.Begin t q) (answer.Refused e) (world h')
+    × IsWritten t (step.Begin t q) (answer.Refused e) h h' × (h'.counts ≡ h.counts) × (h'.words ≡ h.words))
     ⊎ (e ≡ refusal.Overflow HistoryNumber) × (h.counts.begun ≡ most_begun) × (h' ≡ h)
 
+-- the answer of an Advance that leaves this reply at its desk: a commit's is its own
+abbrev pub advance_answer : Advanced → Option Reply → Answer
+advance_answer advanced.More y = answer.More
+advance_answer (advanced.Kept e) y = answer.Refused e
+advance_answer (advanced.Committed m) (Some y) = answer.Committed m y
+advance_answer (advanced.Committed m) None = answer.Begun
+advance_answer (advanced.RolledBack e) y = answer.Refused e
+
 -- an advance is one step, and the reply that is kept is a commit's own
-abbrev pub AdvanceTurn : TheHall → ℕ → Ended → Option Reply → TheHall → Type 0
-AdvanceTurn h t r reply h' = Advances (world h) t (advanced_of r) (world h') reply × IsSorted r
+abbrev pub AdvanceTurn : TheHall → ℕ → Advanced → Option Reply → TheHall → Type 0
+AdvanceTurn h t r reply h' = Advances (world h) t r (world h') reply
+    × IsWritten t (step.Advance t) (advance_answer r reply) h h'
     × (h'.counts ≡ counted r h.counts) × (h'.words ≡ h.words)
 
 abbrev pub end_answer : Result (Unit {0}) Refusal → Answer
@@ -164,26 +173,67 @@ end_told (Err e) c = c
 
 -- an end is one step
 abbrev pub EndTurn : TheHall → ℕ → Result (Unit {0}) Refusal → TheHall → Type 0
-EndTurn h t r h' = Carries (world h) (step.Rollback t) (end_answer r) (world h') × (h'.counts ≡ end_counts r h.counts)
-    × (h'.words ≡ h.words)
+EndTurn h t r h' = Carries (world h) (step.Rollback t) (end_answer r) (world h')
+    × IsWritten t (step.Rollback t) (end_answer r) h h' × (h'.counts ≡ end_counts r h.counts) × (h'.words ≡ h.words)
 
 abbrev pub read_answer : Result QueryReply Refusal → Answer
 read_answer (Ok f) = answer.Replied f
 read_answer (Err e) = answer.Refused e
 
--- a read is one step, or none where the pin's word is another
-abbrev pub ReadTurn : TheHall → ℕ → Query → Result QueryReply Refusal → TheHall → Type 0
-ReadTurn h m q r h' = (Carries (world h) (step.Read m q) (read_answer r) (world h') × (h' ≡ h))
-    ⊎ ((n : ℕ) × (r ≡ Err (refusal.NotPinned n)) × (n ≢ pin_word (Sure m))) × (h' ≡ h)
+-- the pin's word is another
+abbrev pub IsNotPinned : ℕ → Result QueryReply Refusal → Type 0
+IsNotPinned m r = (n : ℕ) × (r ≡ Err (refusal.NotPinned n)) × (n ≢ pin_word (Sure m))
 
--- a purge at a moment is one step, at the moment that the pins allow: no earlier than the horizon, and later than was
--- asked only where
--- the horizon was
+-- a read is one step, which changes only the history, or none where the pin's word is another
+abbrev pub ReadTurn : TheHall → ℕ → ℕ → Query → Result QueryReply Refusal → TheHall → Type 0
+ReadTurn h t m q r h' =
+    Carries (world h) (step.Read m q) (read_answer r) (world h')
+    × (h' ≡ with_history (with_entry (entry t (step.Read m q) (read_answer r)) h.history) h)
+    ⊎ IsNotPinned m r × (h' ≡ h)
+
+-- a purge at a moment is one step of the purger, whose number is 0, at the moment that the pins allow: no earlier than
+-- the horizon, and later than was asked only where the horizon was
 abbrev pub PurgeTurn : TheHall → ℕ → ℕ → TheHall → Type 0
 PurgeTurn h asked m h' = (h.horizon ≤ m) × (m ≤ max h.horizon asked)
-    × Carries (world h) (step.Purge m) (answer.Purged m) (world h') × (h'.counts ≡ h.counts) × (h'.words ≡ h.words)
+    × Carries (world h) (step.Purge m) (answer.Purged m) (world h')
+    × IsWritten 0 (step.Purge m) (answer.Purged m) h h' × (h'.counts ≡ h.counts) × (h'.words ≡ h.words)
 
 -- the read is not refused for its moment's age
 abbrev pub IsYoung : Result QueryReply Refusal → Type 0
 IsYoung (Err (refusal.TooOld h)) = ⊥
 IsYoung r = Unit {0}
+
+-- WHAT A CALL ADDS TO WHAT ITS CALLER KNOWS: ITS ENTRY, OR NOTHING WHERE IT IS NO STEP
+
+abbrev pub BeginCall : TheCaller → ℕ → Request → Result (Unit {0}) Refusal → TheCaller → Type 0
+BeginCall c t q r c' = Extends c (entry t (step.Begin t q) (begin_answer r)) c' ⊎ IsFullCount r × (c' ≡ c)
+
+abbrev pub AdvanceCall : TheCaller → ℕ → Advanced → Option Reply → TheCaller → Type 0
+AdvanceCall c t r reply c' = Extends c (entry t (step.Advance t) (advance_answer r reply)) c'
+
+abbrev pub EndCall : TheCaller → ℕ → Result (Unit {0}) Refusal → TheCaller → Type 0
+EndCall c t r c' = Extends c (entry t (step.Rollback t) (end_answer r)) c'
+
+abbrev pub ReadCall : TheCaller → ℕ → ℕ → Query → Result QueryReply Refusal → TheCaller → Type 0
+ReadCall c t m q r c' = Extends c (entry t (step.Read m q) (read_answer r)) c' ⊎ IsNotPinned m r × (c' ≡ c)
+
+-- the purger's
+abbrev pub PurgeCall : TheCaller → ℕ → TheCaller → Type 0
+PurgeCall c m c' = Extends c (entry 0 (step.Purge m) (answer.Purged m)) c'
+
+-- WHETHER THE CALLER'S TRANSACTION IS OPEN BEFORE AND AFTER AN ANSWER
+
+abbrev pub BeginLeaves : Result (Unit {0}) Refusal → Bool → Bool → Type 0
+BeginLeaves (Ok u) was is = is ≡ true
+BeginLeaves (Err e) was is = is ≡ was
+
+abbrev pub AdvanceLeaves : Advanced → Bool → Bool → Type 0
+AdvanceLeaves advanced.More was is = is ≡ was
+AdvanceLeaves (advanced.Kept e) was is = is ≡ was
+AdvanceLeaves (advanced.Committed m) was is = is ≡ false
+AdvanceLeaves (advanced.RolledBack e) was is = is ≡ false
+
+-- an end is refused only where none is open
+abbrev pub EndLeaves : Result (Unit {0}) Refusal → Bool → Bool → Type 0
+EndLeaves (Ok u) was is = is ≡ false
+EndLeaves (Err e) was is = (was ≡ false) × (is ≡ false)

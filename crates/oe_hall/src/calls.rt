@@ -1,40 +1,17 @@
 //! The core's calls, each one step of the machine, with what the step counts: the newest moment,
 //! the open transactions, and the horizon. Undo records keep their layout. A refusal is the step's
 //! own answer.
-ghost use Rattle.std.specs.Prelude.{◌≡◌, ℕ, ◌≤◌, Option, true, false};
+ghost use Rattle.std.specs.Prelude.{◌≡◌, ◌≤◌};
 ghost use Rattle.oe_theory.specs.World.{newest, horizon};
 ghost use Rattle.oe_model.specs.System.{system};
 ghost use Rattle.oe_core.specs.Core.{world_of};
 ghost use Rattle.oe_core.specs.Steps.{Carries, Advances, begin_answer};
-ghost use Rattle.oe_hall.specs.Turns.{keeps, advanced_of, end_answer, read_answer, IsYoung, IsSorted, HasMoved, LeavesReply, BeginMoves, EndMoves, HasPurged};
+ghost use Rattle.oe_hall.specs.Turns.{end_answer, read_answer, IsYoung, HasMoved, LeavesReply, BeginMoves, EndMoves, HasPurged};
 
 use crate::replies::keep_last;
 use oe_core::{Advanced, Core};
 use oe_requests::{Answer, Query, QueryReply, Refusal, Reply, Request, Step};
 use oe_values::{Moment, Terminal};
-
-/// How an advance ends. The reply of a commit is not part of it, so that no other has room for one.
-#[derive(Drop)]
-pub enum Ended {
-    /// The transaction is open, and has a stage left.
-    More,
-    /// Nothing has changed: the transaction is open where it was, or the terminal has none.
-    Kept(Refusal),
-    /// The transaction committed and made that moment.
-    Committed(Moment),
-    /// The transaction is rolled back.
-    RolledBack(Refusal),
-}
-
-// Tells whether a refusal of an advance has changed nothing.
-fn keeps(refusal: &Refusal) -> bool
-    ensures { result ≡ keeps refusal.now }
-{
-    matches!(
-        refusal,
-        Refusal::Busy(_, _) | Refusal::UndoFull | Refusal::NoMemory | Refusal::NotOpen
-    )
-}
 
 /// Begins the terminal's transaction. A refusal has changed nothing.
 #[tactic(auto, using(crate::proofs::TurnFacts::after_begin, crate::proofs::TurnFacts::after_refused_begin))]
@@ -50,27 +27,18 @@ pub fn begin(core: &mut Core, terminal: Terminal, request: &Request) -> Result<(
 /// Carries out the next stage of the terminal's transaction, which commits after the last. `reply`
 /// is then that commit's, and stays as it is otherwise.
 #[tactic(auto, using(crate::proofs::TurnFacts::after_more, crate::proofs::TurnFacts::after_commit, crate::proofs::TurnFacts::after_kept, crate::proofs::TurnFacts::after_ended))]
-pub fn advance(core: &mut Core, terminal: Terminal, reply: &mut Option<Reply>) -> Ended
-    ensures step { Advances (world_of core.old) terminal (advanced_of result)
-        (world_of core.new) reply.new }
+pub fn advance(core: &mut Core, terminal: Terminal, reply: &mut Option<Reply>) -> Advanced
+    ensures step { Advances (world_of core.old) terminal result (world_of core.new) reply.new }
     ensures reply { LeavesReply result reply.old reply.new }
-    ensures sorted { IsSorted result }
     ensures counts { HasMoved result (world_of core.old) (world_of core.new) }
 {
     core.is_reached();
     match core.advance(terminal) {
-        Advanced::More => Ended::More,
         Advanced::Committed(moment) => {
             keep_last(core, terminal, reply);
-            Ended::Committed(moment)
+            Advanced::Committed(moment)
         }
-        Advanced::Refused(refusal) => {
-            if keeps(&refusal) {
-                Ended::Kept(refusal)
-            } else {
-                Ended::RolledBack(refusal)
-            }
-        }
+        other => other,
     }
 }
 

@@ -1,24 +1,27 @@
-//! The locked value: a core, what was told in all, and the keeper of the pins.
+//! The locked value: a core with its history, what was told in all, and the keeper of the pins.
 //!
 //! By its invariant the newest moment counts the commits, what was begun is what was committed, was
 //! rolled back and is open, the keeper's horizon is the world's, and undo records have the layout
-//! that the shop's names say. Each call is one step of the machine, or none, as its clause says.
-//! Nothing here takes memory of its own.
-ghost use Rattle.std.specs.Prelude.{◌≡◌, ◌<◌, ◌^◌, min};
+//! that the shop's names say. Each call is one step of the machine, and one entry of the history,
+//! or neither, as its clause says. Nothing here takes memory of its own.
+ghost use Rattle.std.specs.Prelude.{◌≡◌, ℕ, ◌<◌, ◌≤◌, ◌^◌, [], min};
 ghost use Rattle.std.specs.Arc.{arc_value};
 ghost use Rattle.oe_theory.specs.World.{newest, horizon};
 ghost use Rattle.oe_model.specs.System.{system};
 ghost use Rattle.oe_core.specs.Core.{world_of};
+ghost use Rattle.oe_history.specs.Views.{calls_by};
+ghost use Rattle.oe_history.specs.Calls.{Knows};
 ghost use Rattle.oe_moments.specs.Rule.{at_start};
 ghost use Rattle.oe_moments.specs.Pins.{AreOfDesks};
 ghost use Rattle.oe_hall.specs.Counts.{none, tally, AreTotals};
-ghost use Rattle.oe_hall.specs.Turns.{IsHall, IsTold, open_count, BeginTurn, AdvanceTurn, LeavesReply, EndTurn, ReadTurn, PurgeTurn, begin_told, told_of, end_told, IsYoung};
+ghost use Rattle.oe_hall.specs.Histories.{IsHistory, HasHappened, is_open};
+ghost use Rattle.oe_hall.specs.Turns.{IsHall, IsTold, BeginCall, AdvanceCall, EndCall, ReadCall, PurgeCall, BeginLeaves, AdvanceLeaves, EndLeaves, open_count, BeginTurn, AdvanceTurn, LeavesReply, EndTurn, ReadTurn, PurgeTurn, begin_told, told_of, end_told, IsYoung};
 
-use crate::calls;
-use crate::calls::Ended;
 use crate::counts::{Books, Counted, Told};
 use crate::naming::Naming;
-use oe_core::Core;
+use crate::records::Recorded;
+use oe_core::{Advanced, Core};
+use oe_history::{Caller, History};
 use oe_moments::{KeeperSeat, Moments, Pin};
 use oe_requests::{Column, Query, QueryReply, Refusal, Reply, Request};
 use oe_values::{Moment, Terminal};
@@ -27,7 +30,7 @@ use std::sync::Arc;
 
 /// The hall of a shop. It can't be dropped, since the core can't.
 pub struct Hall<J: Naming> {
-    core: Core,
+    recorded: Recorded<J>,
     begun: u64,
     rolled_back: u64,
     books: Books<J>,
@@ -51,44 +54,48 @@ impl<J: Naming> Model for Hall<J> {
     ghost coded = { Prim.hlevel (codes, map_code) };
 
     ghost view = { λ h. record {
-      core = h.core;
+      core = h.recorded.core;
+      history = h.recorded.history;
       counts = h.books;
       horizon = h.keeper.notes.horizon;
       words = arc_value h.moments;
     } };
 
     ghost invariant = { λ h. (h.begun ≡ h.books.begun) × (h.rolled_back ≡ h.books.rolled_back)
-        × AreCounts h.books (world_of h.core) × (h.keeper.words ≡ arc_value h.moments)
-        × (h.keeper.notes.horizon ≡ horizon system (world_of h.core))
+        × AreCounts h.books (world_of h.recorded.core) × (h.keeper.words ≡ arc_value h.moments)
+        × (h.keeper.notes.horizon ≡ horizon system (world_of h.recorded.core))
         × AreOfDesks (arc_value h.moments) 64 × (arc_value h.moments ≡ J.names.words)
-        × ((world_of h.core).layout ≡ J.names.layout) };
+        × ((world_of h.recorded.core).layout ≡ J.names.layout)
+        × (h.recorded.history.dealt ≡ 65) };
 }
 
 impl<J: Naming> Hall<J> {
     /// Makes a hall of a core that has begun nothing, and of words that nothing is told of.
     pub(crate) fn new(
-        core: Core,
+        recorded: Recorded<J>,
         books: Books<J>,
         moments: Arc<Moments>,
         keeper: KeeperSeat,
     ) -> Hall<J>
-        requires newest { newest system (world_of core) ≡ 0 }
-        requires quiet { open_count (world_of core) ≡ 0 }
-        requires horizon { horizon system (world_of core) ≡ 0 }
+        requires newest { newest system (world_of recorded.core) ≡ 0 }
+        requires quiet { open_count (world_of recorded.core) ≡ 0 }
+        requires horizon { horizon system (world_of recorded.core) ≡ 0 }
+        requires dealt { recorded.history.dealt ≡ 65 }
         requires books { books ≡ none }
         requires keeper { keeper ≡ record { words = arc_value moments; notes = at_start } }
         requires words { AreOfDesks (arc_value moments) 64 }
         requires naming { arc_value moments ≡ J.names.words }
-        requires layout { (world_of core).layout ≡ J.names.layout }
+        requires layout { (world_of recorded.core).layout ≡ J.names.layout }
         ensures { result ≡ record {
-          core = core;
+          core = recorded.core;
+          history = recorded.history;
           counts = none;
           horizon = 0;
           words = arc_value moments;
         } }
     {
         Hall {
-            core,
+            recorded,
             begun: 0,
             rolled_back: 0,
             books,
@@ -102,21 +109,29 @@ impl<J: Naming> Hall<J> {
     pub fn begin(
         &mut self,
         told: &mut Told<J>,
+        caller: &mut Caller,
         terminal: Terminal,
         request: &Request,
     ) -> Result<(), Refusal>
-        requires { 0 < told.old.parts }
+        requires part { 0 < told.old.parts }
+        requires here { caller.old.table ≡ J.names.history }
+        requires own { caller.old.by ≡ terminal }
+        requires run { HasHappened J.names.opened caller.old.seen }
         ensures counted { IsTold told.old self.old × IsTold told.new self.new }
         ensures hall { IsHall self.old × IsHall self.new }
         ensures turn { BeginTurn self.old terminal request.now result self.new }
         ensures told { told.new ≡ begin_told result told.old }
         ensures fits { told.new.begun < 2 ^ 64 }
+        ensures called { BeginCall caller.old terminal request.now result caller.new }
+        ensures here { (caller.new.table ≡ caller.old.table) × (caller.new.by ≡ caller.old.by) }
+        ensures run { HasHappened J.names.opened caller.new.seen }
+        ensures open { BeginLeaves result (is_open caller.old.mine) (is_open caller.new.mine) }
     {
         self.books.bound(told);
         if self.begun == u64::MAX {
             return Err(Refusal::Overflow(Column::HistoryNumber));
         }
-        if let Err(refusal) = calls::begin(&mut self.core, terminal, request) {
+        if let Err(refusal) = self.recorded.begin(caller, terminal, request) {
             return Err(refusal);
         }
         self.begun += 1;
@@ -131,23 +146,30 @@ impl<J: Naming> Hall<J> {
     pub fn advance(
         &mut self,
         told: &mut Told<J>,
+        caller: &mut Caller,
         terminal: Terminal,
         reply: &mut Option<Reply>,
-    ) -> Ended
-        requires { 0 < told.old.parts }
+    ) -> Advanced
+        requires part { 0 < told.old.parts }
+        requires here { caller.old.table ≡ J.names.history }
+        requires own { caller.old.by ≡ terminal }
         ensures counted { IsTold told.old self.old × IsTold told.new self.new }
         ensures hall { IsHall self.old × IsHall self.new }
         ensures turn { AdvanceTurn self.old terminal result reply.new self.new }
         ensures reply { LeavesReply result reply.old reply.new }
         ensures told { told.new ≡ told_of result told.old }
         ensures fits { (told.new.committed < 2 ^ 64) × (told.new.rolled_back < 2 ^ 64) }
+        ensures called { AdvanceCall caller.old terminal result reply.new caller.new }
+        ensures here { (caller.new.table ≡ caller.old.table) × (caller.new.by ≡ caller.old.by) }
+        ensures run { HasHappened J.names.opened caller.new.seen }
+        ensures open { AdvanceLeaves result (is_open caller.old.mine) (is_open caller.new.mine) }
     {
         self.books.bound(told);
-        let ended = calls::advance(&mut self.core, terminal, reply);
+        let ended = self.recorded.advance(caller, terminal, reply);
         match &ended {
-            Ended::More | Ended::Kept(_) => {}
-            Ended::Committed(_) => self.books.add_committed(told),
-            Ended::RolledBack(_) => {
+            Advanced::More | Advanced::Kept(_) => {}
+            Advanced::Committed(_) => self.books.add_committed(told),
+            Advanced::RolledBack(_) => {
                 self.rolled_back += 1;
                 self.books.add_rolled_back(told);
             }
@@ -158,16 +180,27 @@ impl<J: Naming> Hall<J> {
 
     /// Rolls the terminal's transaction back. `NotOpen` where it has none; nothing has changed
     /// then.
-    pub fn end(&mut self, told: &mut Told<J>, terminal: Terminal) -> Result<(), Refusal>
-        requires { 0 < told.old.parts }
+    pub fn end(
+        &mut self,
+        told: &mut Told<J>,
+        caller: &mut Caller,
+        terminal: Terminal,
+    ) -> Result<(), Refusal>
+        requires part { 0 < told.old.parts }
+        requires here { caller.old.table ≡ J.names.history }
+        requires own { caller.old.by ≡ terminal }
         ensures counted { IsTold told.old self.old × IsTold told.new self.new }
         ensures hall { IsHall self.old × IsHall self.new }
         ensures turn { EndTurn self.old terminal result self.new }
         ensures told { told.new ≡ end_told result told.old }
         ensures fits { told.new.rolled_back < 2 ^ 64 }
+        ensures called { EndCall caller.old terminal result caller.new }
+        ensures here { (caller.new.table ≡ caller.old.table) × (caller.new.by ≡ caller.old.by) }
+        ensures run { HasHappened J.names.opened caller.new.seen }
+        ensures open { EndLeaves result (is_open caller.old.mine) (is_open caller.new.mine) }
     {
         self.books.bound(told);
-        if let Err(refusal) = calls::end(&mut self.core, terminal) {
+        if let Err(refusal) = self.recorded.end(caller, terminal) {
             return Err(refusal);
         }
         self.rolled_back += 1;
@@ -178,28 +211,45 @@ impl<J: Naming> Hall<J> {
 
     /// Answers a query of the moment that a pin holds: never `TooOld`. `NotPinned` where the pin's
     /// word is another.
-    pub fn read(&mut self, pin: &Pin, query: &Query) -> Result<QueryReply, Refusal>
+    pub fn read(
+        &mut self,
+        caller: &mut Caller,
+        pin: &Pin,
+        query: &Query,
+    ) -> Result<QueryReply, Refusal>
+        requires here { caller.old.table ≡ J.names.history }
+        requires run { HasHappened J.names.opened caller.old.seen }
         ensures hall { IsHall self.old × IsHall self.new }
-        ensures turn { ReadTurn self.old pin.now.moment query.now result self.new }
+        ensures turn { ReadTurn self.old caller.old.by pin.now.moment query.now result self.new }
         ensures young { IsYoung result }
+        ensures called { ReadCall caller.old caller.old.by pin.now.moment query.now result
+            caller.new }
+        ensures here { (caller.new.table ≡ caller.old.table) × (caller.new.by ≡ caller.old.by) }
+        ensures run { HasHappened J.names.opened caller.new.seen }
     {
         let moments = &*self.moments;
         let _terminal = pin.terminal().get();
         if let Err(other) = moments.find(&mut self.keeper, pin) {
             return Err(Refusal::NotPinned(other.word));
         }
-        calls::read(&self.core, pin.moment(), query)
+        self.recorded.read(caller, pin.moment(), query)
     }
 
     /// Purges up to a moment, no further than the newest and each pin, and gives the horizon.
-    pub fn purge(&mut self, moment: Moment) -> Moment
+    pub fn purge(&mut self, caller: &mut Caller, moment: Moment) -> Moment
+        requires here { caller.old.table ≡ J.names.history }
+        requires own { caller.old.by ≡ 0 }
         ensures hall { IsHall self.old × IsHall self.new }
         ensures turn { PurgeTurn self.old moment result self.new }
+        ensures called { PurgeCall caller.old result caller.new }
+        ensures seen { self.new.history.log ≡ caller.new.seen }
+        ensures here { (caller.new.table ≡ caller.old.table) × (caller.new.by ≡ caller.old.by) }
+        ensures run { HasHappened J.names.opened caller.new.seen }
     {
-        let wanted = earlier(moment, self.core.newest());
+        let wanted = earlier(moment, self.recorded.newest());
         let moments = &*self.moments;
         let reached = moments.purge(&mut self.keeper, wanted);
-        calls::purge(&mut self.core, reached);
+        self.recorded.purge(caller, reached);
         reached
     }
 
@@ -214,26 +264,38 @@ impl<J: Naming> Hall<J> {
         self.books.audit(all);
         Counted {
             begun: self.begun,
-            committed: self.core.newest().get(),
+            committed: self.recorded.newest().get(),
             rolled_back: self.rolled_back,
         }
     }
 
-    /// Gives the core, as the hall leaves it.
-    pub(crate) fn into_core(self) -> Core
+    /// Shows that a caller's calls are the entries of its number. This is a law, and changes
+    /// nothing.
+    pub(crate) fn look(&mut self, caller: &mut Caller)
+        requires here { caller.old.table ≡ J.names.history }
+        ensures same { (self.new ≡ self.old) × (caller.new ≡ caller.old) }
+        ensures told { Knows self.old.history.log caller.old }
+    {
+        self.recorded.look(caller);
+    }
+
+    /// Gives the core and its history, as the hall leaves them.
+    pub(crate) fn into_parts(self) -> (Core, History)
         ensures hall { IsHall self }
-        ensures core { result ≡ self.core }
-        ensures layout { (world_of result).layout ≡ J.names.layout }
+        ensures same { (result.0 ≡ self.core) × (result.1 ≡ self.history) }
+        ensures layout { (world_of result.0).layout ≡ J.names.layout }
+        ensures run { IsHistory J.names.opened result.1.log (world_of result.0) }
+        ensures others { (by : ℕ) → 65 ≤ by → calls_by by result.1.log ≡ [] }
     {
         let Hall {
-            core,
+            recorded,
             begun: _,
             rolled_back: _,
             books: _,
             moments: _,
             keeper: _,
         } = self;
-        core
+        recorded.into_parts()
     }
 }
 

@@ -1,15 +1,18 @@
 //! The shop, which gives each terminal a desk, and the desks, which threads own.
 //!
-//! Each call of a desk that asks the core is one turn of the hall's lock; it may wait for it. What
-//! a desk knows of moments and pins stands in its seat, and those calls never wait. By the
-//! invariants a desk has one part of each ledger with what it was told, the shop has the others
-//! with nothing told, and the seats that no desk has are as they were dealt. An `Open`, like a
-//! `Pin`, can't be dropped: the desk that began it ends it.
-ghost use Rattle.std.specs.Prelude.{◌≡◌, ◌≢◌, ◌↔◌, ℕ, ◌+◌, ◌-◌, ◌<◌, ◌≤◌, length, [], vec_capacity, slice_get, slice_set, sum_by, IfOk, IfErr, OnOk, OnErr, Some, None, IsTrue, false};
+//! Each call of a desk that asks the core is one turn of the hall's lock; it may wait for it, and
+//! stands in the one history with its answer, under the terminal's number. What a desk knows of
+//! moments and pins stands in its seat, and those calls never wait. By the invariants a desk has
+//! one part of each ledger with what it was told, the shop has the others with nothing told, and
+//! the places that no desk has are as they were dealt. An `Open`, like a `Pin`, can't be dropped:
+//! the desk that began it ends it.
+ghost use Rattle.std.specs.Prelude.{◌≡◌, ◌≢◌, ◌↔◌, ℕ, suc, ◌+◌, ◌-◌, ◌<◌, ◌≤◌, length, [], vec_capacity, slice_get, slice_set, sum_by, IfOk, IfErr, OnOk, OnErr, Some, None, IsTrue, false};
 ghost use Rattle.std.specs.Arc.{arc_value};
 ghost use Rattle.std.specs.Option.{option_copied};
 ghost use Rattle.atomic_table.specs.Seated.{TableId};
 ghost use Rattle.oe_theory.specs.World.{newest, horizon};
+ghost use Rattle.oe_theory.specs.Next.{IsQuiet};
+ghost use Rattle.oe_theory.specs.Theorems.{opened};
 ghost use Rattle.oe_model.specs.Conditions.{IsPopulation};
 ghost use Rattle.oe_model.specs.System.{system};
 ghost use Rattle.oe_store.specs.Places.{rows};
@@ -17,16 +20,22 @@ ghost use Rattle.oe_core.specs.Core.{world_of};
 ghost use Rattle.oe_moments.specs.Rule.{saw, turn, with_pin, at_start, pin_word};
 ghost use Rattle.oe_moments.specs.Pins.{AreOfDesks, with_notes, is_pinned, Holds};
 ghost use Rattle.oe_moments.specs.declared.notes.PinState.TheVariants.{Free};
+ghost use Rattle.oe_history.specs.Views.{calls_by};
+ghost use Rattle.oe_history.specs.Calls.{TheHistory, TheCaller, Knows};
+ghost use Rattle.oe_hall.specs.Naming.{named};
 ghost use Rattle.oe_hall.specs.Counts.{untold, tally, with_one_more, AreTotals};
-ghost use Rattle.oe_hall.specs.Turns.{TheHall, IsHall, open_count, begin_told, told_of, end_told, LeavesReply, IsYoung};
-ghost use Rattle.oe_hall.specs.Seats.{fresh_seat, AreFresh, waiting};
-ghost use Rattle.oe_hall.specs.Desks.{TheDesk, TheShop, TheSeats, AreSums, AreOpen, begun_by, committed_by, rolled_back_by, with_told, with_reply, with_seat, seat_for, IsOwn, begins, advances, ends, ABegin, AnAdvance, AnEnd, ARead, APurge};
+ghost use Rattle.oe_hall.specs.Histories.{IsHistory, HasHappened, is_open};
+ghost use Rattle.oe_hall.specs.Turns.{TheHall, IsHall, open_count, begin_told, told_of, end_told, LeavesReply, IsYoung, BeginLeaves, AdvanceLeaves, EndLeaves};
+ghost use Rattle.oe_hall.specs.Seats.{ThePlace, TheRoom, IsHere, AreHere, HasCalled, HaveCalled, silent, fresh_seat, fresh_place, AreFresh, waiting};
+ghost use Rattle.oe_hall.specs.Desks.{TheDesk, TheShop, TheSeats, AreSums, AreOpen, begun_by, committed_by, rolled_back_by, with_told, with_reply, with_seat, with_calls, seat_for, IsOwn, Keeps, KeepsOnErr, begins, advances, ends, ABegin, AnAdvance, AnEnd, ARead, AreKnown, IsNobodys};
 
-use crate::calls::Ended;
 use crate::counts::{Blanks, Counted, Told, open_books};
 use crate::hall::Hall;
 use crate::naming::Naming;
-use oe_core::Core;
+use crate::purger::Purger;
+use crate::records::Recorded;
+use oe_core::{Advanced, Core};
+use oe_history::{Caller, History};
 use oe_moments::{DealerSeat, DeskSeat, KeeperSeat, Moments, NotPinned, Pin, TooOld};
 use oe_requests::{Query, QueryReply, Refusal, Reply, Request};
 use oe_rows::Layout;
@@ -34,7 +43,7 @@ use oe_store::Tables;
 use oe_values::{ExtentCount, Moment, NoMemory, Number, Terminal};
 use std::alloc::{AllocError, Global};
 use std::hint;
-use std::marker::Model;
+use std::marker::{Model, PhantomData};
 use std::sync::{Arc, Mutex, MutexGuard, Wait};
 
 /// A transaction that a desk began.
@@ -57,7 +66,7 @@ pub enum Turn {
 
 /// What a shop lends to its desks: the locked hall, and the words.
 pub struct Front<J: Naming> {
-    hall: Mutex<Hall<J>>,
+    pub(crate) hall: Mutex<Hall<J>>,
     moments: Arc<Moments>,
 }
 
@@ -70,14 +79,31 @@ impl<J: Naming> Model for Front<J> {
         × (arc_value f.moments ≡ J.names.words) };
 }
 
-/// The words of a shop, the keeper's seat, a seat for each terminal, its blank ledgers, and the
-/// layout of its undo records.
+/// The place of a terminal: its desk's seat, and the caller of its steps.
+#[derive(Drop)]
+pub struct Place {
+    seat: DeskSeat,
+    caller: Caller,
+}
+
+impl Model for Place {
+    ghost Value = { ThePlace };
+
+    ghost view = { λ p. record { seat = p.seat; calls = p.caller } };
+
+    ghost invariant = { λ p. Unit {0} };
+}
+
+/// The words of a shop, the keeper's seat, its history with the purger, a place for each terminal,
+/// its blank ledgers, and the layout of its undo records.
 #[derive(Drop)]
 pub struct Seats {
     moments: Arc<Moments>,
     other: Arc<Moments>,
     keeper: KeeperSeat,
-    desks: Vec<Option<DeskSeat>>,
+    history: History,
+    purger: Caller,
+    desks: Vec<Option<Place>>,
     blanks: Blanks,
     layout: Layout,
     shop: u32,
@@ -89,6 +115,7 @@ impl Model for Seats {
     ghost view = { λ s. record {
       names = record {
         words = arc_value s.moments;
+        history = s.history.table;
         begun = s.blanks.begun.name;
         committed = s.blanks.committed.name;
         rolled_back = s.blanks.rolled_back.name;
@@ -101,13 +128,18 @@ impl Model for Seats {
         × (arc_value s.other ≡ arc_value s.moments)
         × (s.keeper ≡ record { words = arc_value s.moments; notes = at_start })
         × (length s.desks.items ≡ 64) × (waiting s.desks.items ≡ 64)
-        × AreFresh (arc_value s.moments) s.shop s.desks.items };
+        × AreFresh (record {
+          words = arc_value s.moments;
+          history = s.history.table;
+          name = s.shop;
+        }) s.desks.items
+        × (s.history.log ≡ []) × (s.history.dealt ≡ 65) × (s.purger ≡ silent s.history.table 0) };
 }
 
 /// A shop: what it lends, and what gives the desks.
 pub struct Shop<J: Naming> {
     front: Front<J>,
-    seats: Vec<Option<DeskSeat>>,
+    seats: Vec<Option<Place>>,
     rest: Told<J>,
     given: u64,
     name: u32,
@@ -117,14 +149,15 @@ impl<J: Naming> Model for Shop<J> {
     ghost Value = { TheShop };
 
     ghost view = { λ s. record {
-      words = s.front;
-      name = s.name;
+      room = record { words = s.front; history = J.names.history; name = s.name };
       given = s.given;
       seats = s.seats.items;
     } };
 
     ghost invariant = { λ s. AreOfDesks s.front 64 × (length s.seats.items ≡ 64)
-        × AreFresh s.front s.name s.seats.items × (s.rest.parts + s.given ≡ 65)
+        × AreFresh (record { words = s.front; history = J.names.history; name = s.name })
+        s.seats.items
+        × (s.rest.parts + s.given ≡ 65)
         × (waiting s.seats.items + s.given ≡ 64) × (s.rest ≡ untold s.rest.parts)
         × (s.front ≡ J.names.words) };
 }
@@ -133,6 +166,7 @@ impl<J: Naming> Model for Shop<J> {
 #[derive(Drop)]
 pub struct Desk<J: Naming> {
     seat: DeskSeat,
+    caller: Caller,
     told: Told<J>,
     begun: u64,
     committed: u64,
@@ -143,22 +177,37 @@ pub struct Desk<J: Naming> {
 impl<J: Naming> Model for Desk<J> {
     ghost Value = { TheDesk };
 
-    ghost view = { λ d. record { seat = d.seat; told = d.told; reply = d.reply } };
+    ghost view = { λ d. record {
+      seat = d.seat;
+      calls = d.caller;
+      told = d.told;
+      reply = d.reply;
+    } };
 
     ghost invariant = { λ d. (d.seat.words ≡ J.names.words) × (d.told ≡ record {
       parts = 1;
       begun = d.begun;
       committed = d.committed;
       rolled_back = d.rolled_back;
-    }) };
+    }) × (d.caller.table ≡ J.names.history) × (d.caller.by ≡ d.seat.terminal)
+        × HasHappened J.names.opened d.caller.seen };
+}
+
+/// What a closed shop leaves: its core, how much its desks were told in sum, and the history, which
+/// contracts see. It can't be dropped, since the core can't.
+pub struct Closed {
+    pub core: Core,
+    pub counted: Counted,
+    pub history: History,
 }
 
 /// Why a shop can't be closed: its desks were told that many more begins than ends. It comes back
-/// with its desks.
+/// with its desks and its purger.
 pub struct NotQuiet<J: Naming> {
     pub open: u64,
     pub shop: Shop<J>,
     pub desks: Vec<Desk<J>>,
+    pub purger: Purger<J>,
 }
 
 /// How often a turn asks for the lock again before it sleeps. A turn is shorter than a sleep.
@@ -177,7 +226,10 @@ fn pause() {
 
 // Enters the hall, once nobody else is in it.
 #[inline]
-fn enter<'h, J: Naming, W: Wait>(rt: &W, hall: &'h Mutex<Hall<J>>) -> MutexGuard<'h, Hall<J>> {
+pub(crate) fn enter<'h, J: Naming, W: Wait>(
+    rt: &W,
+    hall: &'h Mutex<Hall<J>>,
+) -> MutexGuard<'h, Hall<J>> {
     match hall.try_lock() {
         Some(guard) => guard,
         None => enter_later(rt, hall),
@@ -199,22 +251,39 @@ fn enter_later<'h, J: Naming, W: Wait>(
     hall.lock(rt)
 }
 
-// Deals each terminal's seat.
+// Deals each terminal's place.
 #[tactic(auto, using(crate::proofs::SeatFacts::fresh_snoc, crate::proofs::SeatFacts::waiting_snoc, crate::proofs::SeatFacts::fresh_none))]
-fn deal_all(moments: &Moments, dealer: &mut DealerSeat, seats: &mut Vec<Option<DeskSeat>>)
+fn deal_all(
+    moments: &Moments,
+    dealer: &mut DealerSeat,
+    history: &mut History,
+    places: &mut Vec<Option<Place>>,
+)
     requires words { (dealer.old.words ≡ moments.now) × AreOfDesks moments.now 64 }
     requires first { dealer.old.notes.dealt ≡ 0 }
-    requires room { (seats.old.items ≡ []) × (64 ≤ vec_capacity seats.old) }
-    ensures count { (length seats.new.items ≡ 64) × (waiting seats.new.items ≡ 64) }
-    ensures fresh { AreFresh moments.now dealer.old.shop seats.new.items }
+    requires second { history.old.dealt ≡ 1 }
+    requires room { (places.old.items ≡ []) × (64 ≤ vec_capacity places.old) }
+    ensures count { (length places.new.items ≡ 64) × (waiting places.new.items ≡ 64) }
+    ensures fresh { AreFresh (record {
+      words = moments.now;
+      history = history.old.table;
+      name = dealer.old.shop;
+    }) places.new.items }
+    ensures history { history.new ≡ record {
+      table = history.old.table;
+      log = history.old.log;
+      dealt = 65;
+    } }
 {
     for _k in 0..64u64 {
-        seats.push_reserved(Some(moments.deal(dealer)));
+        let seat = moments.deal(dealer);
+        let caller = history.deal();
+        places.push_reserved(Some(Place { seat, caller }));
     }
 }
 
 // Takes what stands in a slot.
-fn take_seat(seats: &mut Vec<Option<DeskSeat>>, slot: usize) -> Option<DeskSeat>
+fn take_seat(seats: &mut Vec<Option<Place>>, slot: usize) -> Option<Place>
     requires { slot < length seats.old.items }
     ensures value { slice_get seats.old.items slot ≡ Some result }
     ensures after { seats.new.items ≡ slice_set seats.old.items slot None }
@@ -223,8 +292,8 @@ fn take_seat(seats: &mut Vec<Option<DeskSeat>>, slot: usize) -> Option<DeskSeat>
 }
 
 impl Seats {
-    /// Makes the words and the ledgers of a shop of that name and layout, and deals all seats.
-    /// Memory is the only refusal.
+    /// Makes the words, the history and the ledgers of a shop of that name and layout, and deals
+    /// all places. Memory is the only refusal.
     pub fn new(alloc: Global, shop: u32, layout: Layout) -> Result<Seats, AllocError>
         ensures { IfOk result (λ s. (s.shop ≡ shop) × (s.names.layout ≡ layout)) }
     {
@@ -233,12 +302,16 @@ impl Seats {
         let keeper = moments.deal_keeper(&mut dealer);
         let moments = Arc::new(alloc, moments)?;
         let other = Arc::try_clone(&moments)?;
+        let mut history = History::new(alloc)?;
+        let purger = history.deal();
         let mut desks = Vec::with_capacity(alloc, 64)?;
-        deal_all(&moments, &mut dealer, &mut desks);
+        deal_all(&moments, &mut dealer, &mut history, &mut desks);
         Ok(Seats {
             moments,
             other,
             keeper,
+            history,
+            purger,
             desks,
             blanks: Blanks::new(),
             layout,
@@ -255,18 +328,20 @@ impl Seats {
 }
 
 impl<J: Naming> Shop<J> {
-    /// Opens a shop on a population, with that number of undo extents. Memory is the only refusal;
-    /// seats have theirs.
+    /// Opens a shop on a population, with that number of undo extents, and gives its purger. Memory
+    /// is the only refusal; seats have theirs.
     pub fn open(
         alloc: Global,
         tables: Tables,
         extents: ExtentCount,
         seats: Seats,
-    ) -> Result<Shop<J>, NoMemory>
+    ) -> Result<(Shop<J>, Purger<J>), NoMemory>
         requires population { IsPopulation (rows tables) }
-        requires names { seats.names ≡ J.names }
-        ensures new { IfOk result (λ s. (s.name ≡ seats.shop) × (s.given ≡ 0)) }
-        ensures free { IfOk result (λ s. (t : ℕ) → seat_for s t ≢ Some None) }
+        requires names { named seats.names
+            (opened system (rows tables) extents seats.names.layout) ≡ J.names }
+        ensures new { IfOk result (λ s. (s.0.room.name ≡ seats.shop) × (s.0.given ≡ 0)) }
+        ensures free { IfOk result (λ s. (t : ℕ) → seat_for s.0 t ≢ Some None) }
+        ensures purger { IfOk result (λ s. s.1 ≡ silent J.names.history 0) }
     {
         let layout = seats.layout();
         let core = Core::open(alloc, tables, extents, layout)?;
@@ -274,27 +349,32 @@ impl<J: Naming> Shop<J> {
     }
 
     // Opens a shop on a core that has begun nothing.
-    fn over(core: Core, seats: Seats) -> Shop<J>
+    fn over(core: Core, seats: Seats) -> (Shop<J>, Purger<J>)
         requires newest { newest system (world_of core) ≡ 0 }
         requires quiet { open_count (world_of core) ≡ 0 }
         requires horizon { horizon system (world_of core) ≡ 0 }
-        requires names { seats.names ≡ J.names }
+        requires names { named seats.names (world_of core) ≡ J.names }
         requires layout { (world_of core).layout ≡ J.names.layout }
-        ensures new { (result.name ≡ seats.shop) × (result.given ≡ 0) }
-        ensures free { (t : ℕ) → seat_for result t ≢ Some None }
+        requires none { IsQuiet system (world_of core) }
+        ensures new { (result.0.room.name ≡ seats.shop) × (result.0.given ≡ 0) }
+        ensures free { (t : ℕ) → seat_for result.0 t ≢ Some None }
+        ensures purger { result.1 ≡ silent J.names.history 0 }
     {
         let Seats {
             moments,
             other,
             keeper,
+            history,
+            purger,
             desks,
             blanks,
             layout: _,
             shop,
         } = seats;
         let (books, rest) = open_books::<J>(blanks);
-        let hall = Hall::new(core, books, other, keeper);
-        Shop {
+        let recorded = Recorded::new(core, history);
+        let hall = Hall::new(recorded, books, other, keeper);
+        let shop = Shop {
             front: Front {
                 hall: Mutex::new(hall),
                 moments,
@@ -303,7 +383,12 @@ impl<J: Naming> Shop<J> {
             rest,
             given: 0,
             name: shop,
-        }
+        };
+        let purger = Purger {
+            caller: purger,
+            of: PhantomData,
+        };
+        (shop, purger)
     }
 
     /// Gives a terminal its desk. `AlreadyOpen` where it has one, and nothing has changed then.
@@ -311,12 +396,13 @@ impl<J: Naming> Shop<J> {
     pub fn desk(&mut self, terminal: Terminal) -> Result<Desk<J>, Refusal>
         ensures ok { IfOk result (λ d.
             d ≡ record {
-              seat = fresh_seat self.old.words self.old.name (terminal - 1);
+              seat = fresh_seat self.old.room.words self.old.room.name (terminal - 1);
+              calls = silent self.old.room.history (suc (terminal - 1));
               told = untold 1;
               reply = None;
             }) }
         ensures given { OnOk result ((self.new.given ≡ self.old.given + 1)
-            × (self.new.words ≡ self.old.words) × (self.new.name ≡ self.old.name)
+            × (self.new.room ≡ self.old.room)
             × (self.new.seats ≡ slice_set self.old.seats (terminal - 1) None)) }
         ensures err { IfErr result (λ e. e ≡ Refusal.AlreadyOpen) }
         ensures same { OnErr result ((self.new ≡ self.old)
@@ -324,13 +410,15 @@ impl<J: Naming> Shop<J> {
     {
         let slot = terminal.get() as usize - 1;
         let given = self.given;
-        let Some(seat) = take_seat(&mut self.seats, slot) else {
+        let Some(place) = take_seat(&mut self.seats, slot) else {
             return Err(Refusal::AlreadyOpen);
         };
+        let Place { seat, caller } = place;
         let told = self.rest.split_one();
         self.given = given + 1;
         Ok(Desk {
             seat,
+            caller,
             told,
             begun: 0,
             committed: 0,
@@ -341,44 +429,59 @@ impl<J: Naming> Shop<J> {
 
     /// Lends what the calls of its desks take.
     pub fn front(&self) -> &Front<J>
-        ensures { result.now ≡ self.now.words }
+        ensures { result.now ≡ self.now.room.words }
     {
         let _name = self.name;
         &self.front
     }
 
-    /// Purges up to a moment, no further than the newest and each pin, and gives the horizon.
-    pub fn purge<W: Wait>(&self, rt: &W, moment: Moment) -> Moment
-        ensures { APurge moment result }
-    {
-        self.front().purge(rt, moment)
-    }
-
-    /// Closes the shop, where all that its desks began has ended: gives the core, and how much each
-    /// desk was told in sum. `NotQuiet` where a transaction is open; shop and desks come back.
-    pub fn close(self, mut desks: Vec<Desk<J>>) -> Result<(Core, Counted), NotQuiet<J>>
+    /// Closes the shop, where all that its desks began has ended: gives the core, how much each
+    /// desk was told in sum, and the history. `NotQuiet` where a transaction is open; shop, desks
+    /// and purger come back.
+    ///
+    /// The history leads from the world with which the shop opened to the core's. Each desk's calls
+    /// stand there as the desk was told them, in its order, and so do the purger's, and no others.
+    pub fn close(self, mut desks: Vec<Desk<J>>, purger: Purger<J>) -> Result<Closed, NotQuiet<J>>
         requires all { length desks.items ≡ self.given }
-        ensures sums { IfOk result (λ r. AreSums desks.items r.1) }
-        ensures ended { IfOk result (λ r. r.1.begun ≡ r.1.committed + r.1.rolled_back) }
-        ensures quiet { IfOk result (λ r. open_count (world_of r.0) ≡ 0) }
-        ensures newest { IfOk result (λ r. newest system (world_of r.0) ≡ r.1.committed) }
-        ensures layout { IfOk result (λ r. (world_of r.0).layout ≡ J.names.layout) }
-        ensures back { IfErr result (λ e. (e.shop ≡ self) × (e.desks.items ≡ desks.items)) }
+        ensures run { IfOk result (λ r.
+            IsHistory J.names.opened r.history.log (world_of r.core)) }
+        ensures told { IfOk result (λ r. AreKnown r.history.log desks.items
+            × Knows r.history.log purger) }
+        ensures purges { IfOk result (λ r. calls_by 0 r.history.log ≡ purger.mine) }
+        ensures others { IfOk result (λ r.
+            (by : ℕ) → IsNobodys self.seats by → calls_by by r.history.log ≡ []) }
+        ensures sums { IfOk result (λ r. AreSums desks.items r.counted) }
+        ensures ended { IfOk result (λ r.
+            r.counted.begun ≡ r.counted.committed + r.counted.rolled_back) }
+        ensures quiet { IfOk result (λ r. open_count (world_of r.core) ≡ 0) }
+        ensures newest { IfOk result (λ r.
+            newest system (world_of r.core) ≡ r.counted.committed) }
+        ensures layout { IfOk result (λ r. (world_of r.core).layout ≡ J.names.layout) }
+        ensures back { IfErr result (λ e. (e.shop ≡ self) × (e.desks.items ≡ desks.items)
+            × (e.purger ≡ purger)) }
         ensures open { IfErr result (λ e. (1 ≤ e.open) × AreOpen desks.items e.open) }
     {
         let Shop {
             front,
-            seats,
+            mut seats,
             mut rest,
             given,
             name,
         } = self;
+        let mut purger = purger;
         let Front { hall, moments } = front;
         let mut hall = hall.into_inner();
         let counted = audit_list(&mut hall, &mut rest, &mut desks);
+        hall.look(&mut purger.caller);
+        look_at_list(&mut hall, &mut seats);
         let open = counted.begun - counted.committed - counted.rolled_back;
         if open == 0 {
-            return Ok((hall.into_core(), counted));
+            let (core, history) = hall.into_parts();
+            return Ok(Closed {
+                core,
+                counted,
+                history,
+            });
         }
         let shop = Shop {
             front: Front {
@@ -390,7 +493,45 @@ impl<J: Naming> Shop<J> {
             given,
             name,
         };
-        Err(NotQuiet { open, shop, desks })
+        Err(NotQuiet {
+            open,
+            shop,
+            desks,
+            purger,
+        })
+    }
+}
+
+// Looks at what the places of a list have called.
+fn look_at_list<J: Naming>(hall: &mut Hall<J>, places: &mut Vec<Option<Place>>)
+    requires here { AreHere J.names.history places.old.items }
+    ensures same { (hall.new ≡ hall.old) × (places.new.items ≡ places.old.items) }
+    ensures told { HaveCalled hall.old.history.log places.old.items }
+{
+    look_at_places(hall, places.as_mut_slice());
+}
+
+// Looks at what the places have called.
+fn look_at_places<J: Naming>(hall: &mut Hall<J>, places: &mut [Option<Place>])
+    requires here { AreHere J.names.history places.old }
+    ensures same { (hall.new ≡ hall.old) × (places.new ≡ places.old) }
+    ensures told { HaveCalled hall.old.history.log places.old }
+{
+    let Some((first, others)) = places.split_first_mut() else {
+        return;
+    };
+    look_at_place(hall, first);
+    look_at_places(hall, others);
+}
+
+// Looks at what a place has called, if it is there.
+fn look_at_place<J: Naming>(hall: &mut Hall<J>, place: &mut Option<Place>)
+    requires here { IsHere J.names.history place.old }
+    ensures same { (hall.new ≡ hall.old) × (place.new ≡ place.old) }
+    ensures told { HasCalled hall.old.history.log place.old }
+{
+    if let Some(place) = place {
+        hall.look(&mut place.caller);
     }
 }
 
@@ -402,6 +543,7 @@ fn audit_list<J: Naming>(hall: &mut Hall<J>, all: &mut Told<J>, desks: &mut Vec<
     ensures desks { desks.new.items ≡ desks.old.items }
     ensures hall { IsHall hall.old }
     ensures counts { AreTotals (tally 1 result) hall.old.counts }
+    ensures known { AreKnown hall.old.history.log desks.old.items }
     ensures told { (result.begun ≡ all.old.begun + sum_by begun_by desks.old.items)
         × (result.committed ≡ all.old.committed + sum_by committed_by desks.old.items)
         × (result.rolled_back ≡ all.old.rolled_back + sum_by rolled_back_by desks.old.items) }
@@ -417,6 +559,7 @@ fn audit_desks<J: Naming>(hall: &mut Hall<J>, all: &mut Told<J>, desks: &mut [De
     ensures same { (hall.new ≡ hall.old) × (all.new ≡ all.old) × (desks.new ≡ desks.old) }
     ensures hall { IsHall hall.old }
     ensures counts { AreTotals (tally 1 result) hall.old.counts }
+    ensures known { AreKnown hall.old.history.log desks.old }
     ensures told { (result.begun ≡ all.old.begun + sum_by begun_by desks.old)
         × (result.committed ≡ all.old.committed + sum_by committed_by desks.old)
         × (result.rolled_back ≡ all.old.rolled_back + sum_by rolled_back_by desks.old) }
@@ -440,6 +583,8 @@ fn audit_first<J: Naming>(
         × (others.new ≡ others.old) }
     ensures hall { IsHall hall.old }
     ensures counts { AreTotals (tally 1 result) hall.old.counts }
+    ensures known { Knows hall.old.history.log first.old.calls
+        × AreKnown hall.old.history.log others.old }
     ensures told { (result.begun
         ≡ all.old.begun + (begun_by first.old + sum_by begun_by others.old))
         × (result.committed
@@ -452,19 +597,11 @@ fn audit_first<J: Naming>(
         committed: first.committed,
         rolled_back: first.rolled_back,
     };
+    hall.look(&mut first.caller);
     first.told.give(all, told);
     let counted = audit_desks(hall, all, others);
     all.give(&mut first.told, told);
     counted
-}
-
-impl<J: Naming> Front<J> {
-    /// Purges up to a moment, no further than the newest and each pin, and gives the horizon.
-    pub fn purge<W: Wait>(&self, rt: &W, moment: Moment) -> Moment
-        ensures { APurge moment result }
-    {
-        enter(rt, &self.hall).purge(moment)
-    }
 }
 
 impl<J: Naming> Desk<J> {
@@ -483,13 +620,18 @@ impl<J: Naming> Desk<J> {
         front: &Front<J>,
         request: &Request,
     ) -> Result<Open, Refusal>
-        ensures turn { ABegin self.old request.now result }
-        ensures told { self.new ≡ with_told (begin_told (begins result) self.old.told) self.old }
+        ensures turn { ABegin self.old request.now result self.new }
+        ensures run { HasHappened J.names.opened self.new.calls.seen }
+        ensures left { BeginLeaves (begins result) (is_open self.old.calls.mine)
+            (is_open self.new.calls.mine) }
+        ensures told { self.new ≡ with_calls self.new.calls
+            (with_told (begin_told (begins result) self.old.told) self.old) }
         ensures open { IfOk result (λ o. (o.shop ≡ self.old.seat.shop)
             × (o.terminal ≡ self.old.seat.terminal)) }
     {
         let terminal = self.seat.terminal();
-        match enter(rt, &front.hall).begin(&mut self.told, terminal, request) {
+        let mut hall = enter(rt, &front.hall);
+        match hall.begin(&mut self.told, &mut self.caller, terminal, request) {
             Ok(()) => {
                 self.begun += 1;
                 Ok(Open {
@@ -505,24 +647,30 @@ impl<J: Naming> Desk<J> {
     /// last: its reply is the desk's `reply` until the next commit. `NotOpen` of any other.
     #[inline]
     pub fn advance<W: Wait>(&mut self, rt: &W, front: &Front<J>, work: Open) -> Turn
-        ensures turn { AnAdvance self.old work result self.new.reply }
+        ensures turn { AnAdvance self.old work result self.new }
+        ensures kept { Keeps work result }
+        ensures run { HasHappened J.names.opened self.new.calls.seen }
+        ensures left { IsOwn self.old.seat work → AdvanceLeaves (advances result)
+            (is_open self.old.calls.mine) (is_open self.new.calls.mine) }
         ensures reply { LeavesReply (advances result) self.old.reply self.new.reply }
-        ensures told { self.new ≡ with_told (told_of (advances result) self.old.told)
-            (with_reply self.new.reply self.old) }
+        ensures told { self.new ≡ with_calls self.new.calls
+            (with_told (told_of (advances result) self.old.told)
+            (with_reply self.new.reply self.old)) }
     {
         if !began(&self.seat, &work) {
             return Turn::Kept(work, Refusal::NotOpen);
         }
         let terminal = self.seat.terminal();
-        match enter(rt, &front.hall).advance(&mut self.told, terminal, &mut self.reply) {
-            Ended::More => Turn::More(work),
-            Ended::Kept(refusal) => Turn::Kept(work, refusal),
-            Ended::Committed(moment) => {
+        let mut hall = enter(rt, &front.hall);
+        match hall.advance(&mut self.told, &mut self.caller, terminal, &mut self.reply) {
+            Advanced::More => Turn::More(work),
+            Advanced::Kept(refusal) => Turn::Kept(work, refusal),
+            Advanced::Committed(moment) => {
                 self.committed += 1;
                 work.spend();
                 Turn::Committed(moment)
             }
-            Ended::RolledBack(refusal) => {
+            Advanced::RolledBack(refusal) => {
                 self.rolled_back += 1;
                 work.spend();
                 Turn::RolledBack(refusal)
@@ -537,21 +685,28 @@ impl<J: Naming> Desk<J> {
         self.reply.as_ref()
     }
 
-    /// Rolls a transaction back that the desk began. `NotOpen` of any other, which comes back.
+    /// Rolls a transaction back that the desk began: it is never refused where the desk's calls left
+    /// one open. `NotOpen` of any other, which comes back.
     pub fn end<W: Wait>(
         &mut self,
         rt: &W,
         front: &Front<J>,
         transaction: Open,
     ) -> Result<(), (Refusal, Open)>
-        ensures turn { AnEnd self.old transaction result }
-        ensures told { self.new ≡ with_told (end_told (ends result) self.old.told) self.old }
+        ensures turn { AnEnd self.old transaction result self.new }
+        ensures kept { KeepsOnErr transaction result }
+        ensures run { HasHappened J.names.opened self.new.calls.seen }
+        ensures left { IsOwn self.old.seat transaction → EndLeaves (ends result)
+            (is_open self.old.calls.mine) (is_open self.new.calls.mine) }
+        ensures told { self.new ≡ with_calls self.new.calls
+            (with_told (end_told (ends result) self.old.told) self.old) }
     {
         if !began(&self.seat, &transaction) {
             return Err((Refusal::NotOpen, transaction));
         }
         let terminal = self.seat.terminal();
-        match enter(rt, &front.hall).end(&mut self.told, terminal) {
+        let mut hall = enter(rt, &front.hall);
+        match hall.end(&mut self.told, &mut self.caller, terminal) {
             Ok(()) => {
                 self.rolled_back += 1;
                 transaction.spend();
@@ -564,19 +719,21 @@ impl<J: Naming> Desk<J> {
     /// Answers a query of the moment that the desk's pin holds: never `TooOld`. `NotPinned` with
     /// the desk's pin word, where the pin is another desk's.
     pub fn read<W: Wait>(
-        &self,
+        &mut self,
         rt: &W,
         front: &Front<J>,
         pin: &Pin,
         query: &Query,
     ) -> Result<QueryReply, Refusal>
-        ensures turn { ARead self.now pin.now query.now result }
+        ensures turn { ARead self.old pin.now query.now result self.new }
+        ensures run { HasHappened J.names.opened self.new.calls.seen }
+        ensures desk { self.new ≡ with_calls self.new.calls self.old }
         ensures young { IsYoung result }
     {
         if !self.seat.holds(pin) {
             return Err(Refusal::NotPinned(self.seat.word()));
         }
-        enter(rt, &front.hall).read(pin, query)
+        enter(rt, &front.hall).read(&mut self.caller, pin, query)
     }
 
     /// Loads the newest moment, which is at least each that this desk saw or told.

@@ -2,7 +2,7 @@
 
 use crate::asks::{Place, query, request};
 use crate::moves::{Act, Hand, Said, Told, alone, answered, answered_at, put, refused, taken};
-use oe_hall::{Desk, Front, Naming, Turn};
+use oe_hall::{Desk, Front, Naming, Purger, Turn};
 use oe_requests::{Answer, Query, Request};
 use oe_values::Moment;
 use std::process::Abort;
@@ -124,7 +124,7 @@ fn unpinned<J: Naming>(
 fn read<J: Naming, H: Wait + Abort>(
     rt: &H,
     front: &Front<J>,
-    desk: &Desk<J>,
+    desk: &mut Desk<J>,
     hand: &Hand,
     query: &Query,
 ) -> Said {
@@ -137,7 +137,19 @@ fn read<J: Naming, H: Wait + Abort>(
     }
 }
 
-/// Asks a desk, with what a hand holds.
+/// Asks the purger.
+pub(crate) fn purged<J: Naming, H: Wait + Abort>(
+    rt: &H,
+    front: &Front<J>,
+    purger: &mut Purger<J>,
+    newest: u64,
+) -> Said {
+    let reached = purger.purge(rt, front, moment(rt, newest));
+    let commits = reached.get();
+    answered_at(Told::Moment(commits), Answer::Purged(reached), commits)
+}
+
+/// Asks a desk, with what a hand holds. It does not purge.
 pub(crate) fn asked<J: Naming, H: Wait + Abort>(
     rt: &H,
     front: &Front<J>,
@@ -158,10 +170,6 @@ pub(crate) fn asked<J: Naming, H: Wait + Abort>(
         Act::Pin => alone(pinned(rt, front, desk, hand)),
         Act::Read(look) => read(rt, front, desk, hand, &query(rt, at, look)),
         Act::Unpin => alone(unpinned(rt, front, desk, hand)),
-        Act::Purge(newest) => {
-            let reached = front.purge(rt, moment(rt, newest));
-            let commits = reached.get();
-            answered_at(Told::Moment(commits), Answer::Purged(reached), commits)
-        }
+        Act::Purge(_) => panic!(rt; "a desk does not purge"),
     }
 }

@@ -1,12 +1,19 @@
 //! Drives in which each terminal carries out one request.
 ghost use Rattle.std.specs.Prelude.{◌≡◌};
+ghost use Rattle.oe_theory.specs.Theorems.{opened};
+ghost use Rattle.oe_model.specs.Conditions.{IsPopulation};
+ghost use Rattle.oe_model.specs.System.{system};
+ghost use Rattle.oe_store.specs.Places.{rows};
+ghost use Rattle.oe_hall.specs.Naming.{named};
 
 use crate::asks::{Ask, request};
 use crate::scripts::PLACES;
-use crate::shows::{opened, seats};
+use crate::shows::{extents as extents_of, opened, populated, seats};
 use oe_drive::{Deeds, Driven, Gate, Plan, drive};
 use oe_hall::{Counted, Naming, Seats};
 use oe_requests::Errand;
+use oe_store::Tables;
+use oe_values::ExtentCount;
 use std::alloc::Global;
 use std::marker::Brand;
 use std::process::Abort;
@@ -39,21 +46,25 @@ fn driven<J: Naming + Send + Sync, H: Threads + Wait + Abort + Sync, G: Gate + S
     rt: &H,
     alloc: Global,
     gate: &G,
+    tables: Tables,
     seats: Seats,
-    extents: u32,
+    extents: ExtentCount,
     asks: &[Ask],
 ) -> (Counted, Deeds)
-    requires names { seats.names ≡ J.names }
+    requires population { IsPopulation (rows tables) }
+    requires names { named seats.names
+        (opened system (rows tables) extents seats.names.layout) ≡ J.names }
 {
-    let shop = opened::<J>(rt, alloc, seats, extents);
+    let (shop, purger) = opened::<J>(rt, alloc, tables, seats, extents);
     let plans = plans(rt, alloc, asks);
     if plans.len() < 1 || plans.len() > 63 {
         panic!(rt; "no terminal, or too many");
     }
-    match drive(rt, alloc, gate, shop, plans) {
+    match drive(rt, alloc, gate, shop, purger, plans) {
         Ok(driven) => {
             let Driven {
                 core,
+                history: _,
                 counted,
                 deeds,
             } = driven;
@@ -72,6 +83,8 @@ pub(crate) fn driven_at<H: Threads + Wait + Abort + Sync, G: Gate + Sync>(
     extents: u32,
     asks: &[Ask],
 ) -> (Counted, Deeds) {
+    let extents = extents_of(rt, extents);
     let seats = seats(rt, alloc, 7, PLACES[0].layout);
-    driven::<Brand, H, G>(rt, alloc, gate, seats, extents, asks)
+    let tables = populated(rt, alloc);
+    driven::<Brand, H, G>(rt, alloc, gate, tables, seats, extents, asks)
 }

@@ -1,10 +1,10 @@
 //! Who plays a script: the desks of a shop, and a core.
 
 use crate::asks::{Place, query, request};
-use crate::desks::{asked, moment};
+use crate::desks::{asked, moment, purged};
 use crate::moves::{Act, Hands, Move, Said, Told};
 use oe_core::Core;
-use oe_hall::{Desk, Front, Naming};
+use oe_hall::{Desk, Front, Naming, Purger};
 use oe_requests::{Answer, Refusal, Step};
 use oe_values::Terminal;
 use std::process::Abort;
@@ -75,6 +75,7 @@ pub(crate) fn play<J: Naming, H: Wait + Abort>(
     rt: &H,
     front: &Front<J>,
     desks: &mut [Desk<J>],
+    purger: &mut Purger<J>,
     core: &mut Core,
     hands: &mut Hands,
     at: &Place,
@@ -90,7 +91,10 @@ pub(crate) fn play<J: Naming, H: Wait + Abort>(
         };
         let terminal = desk.terminal();
         let hand = hands.hand(next.1);
-        let said = asked(rt, front, desk, hand, at, next.2);
+        let said = match next.2 {
+            Act::Purge(newest) => purged(rt, front, purger, newest),
+            act => asked(rt, front, desk, hand, at, act),
+        };
         place = compared(rt, core, terminal, at, place, next, &said);
     }
     unreachable!()

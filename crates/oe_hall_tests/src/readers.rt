@@ -1,15 +1,22 @@
 //! Desks that pay and read in threads of their own, beside a third thread that purges.
 ghost use Rattle.std.specs.Prelude.{◌≡◌};
+ghost use Rattle.oe_theory.specs.Theorems.{opened};
+ghost use Rattle.oe_model.specs.Conditions.{IsPopulation};
+ghost use Rattle.oe_model.specs.System.{system};
+ghost use Rattle.oe_store.specs.Places.{rows};
+ghost use Rattle.oe_hall.specs.Naming.{named};
 
 use crate::asks::{Ask, Look, Place};
 use crate::desks::{asked, moment};
 use crate::moves::{Act, Hand, Told};
 use crate::scripts::PLACES;
-use crate::shows::{seated, seats};
+use crate::shows::{extents, populated, seated, seats};
 use oe_core::Core;
 use oe_hall::crossing::front_crosses;
-use oe_hall::{Desk, Front, Naming, Seats};
+use oe_hall::{Closed, Desk, Front, Naming, Purger, Seats};
 use oe_requests::{Answer, Condition, Step, Verdict};
+use oe_store::Tables;
+use oe_values::ExtentCount;
 use std::alloc::Global;
 use std::marker::Brand;
 use std::process::Abort;
@@ -86,22 +93,27 @@ fn pay_and_read<J: Naming, H: Wait + Abort>(
 }
 
 // Purges two hundred times, as far as the pins let it.
-fn purge<J: Naming, H: Wait + Abort>(rt: &H, front: &Front<J>) {
+fn purge<J: Naming, H: Wait + Abort>(rt: &H, front: &Front<J>, purger: &mut Purger<J>) {
     for _ in 0..200u32 {
-        let _reached = front.purge(rt, moment(rt, 999_999_999_999));
+        let _reached = purger.purge(rt, front, moment(rt, 999_999_999_999));
         thread::yield_now();
     }
 }
 
-// Runs two readers at once, each in a thread of its own, and the purger.
+// Runs two readers and the purger at once, each in a thread of its own.
 fn all_at_once<J: Naming + Send + Sync, H: Threads + Wait + Abort + Sync>(
     rt: &H,
     front: &Front<J>,
     desks: &mut [Desk<J>],
+    purger: &mut Purger<J>,
 ) -> bool {
     let walk = desks.iter_mut();
     thread::scope(thread::scope_env(), rt, move |scope| {
         front_crosses::<J>();
+        let work = move || purge(rt, front, purger);
+        if scope.spawn(work).is_err() {
+            return false;
+        }
         for (desk, place) in walk.zip(PLACES.iter()) {
             if scope
                 .spawn(move || pay_and_read(rt, front, desk, place))
@@ -110,7 +122,6 @@ fn all_at_once<J: Naming + Send + Sync, H: Threads + Wait + Abort + Sync>(
                 return false;
             }
         }
-        purge(rt, front);
         true
     })
 }
@@ -144,15 +155,24 @@ fn count_held(core: &mut Core) -> u32 {
 fn day<J: Naming + Send + Sync, H: Threads + Wait + Abort + Sync>(
     rt: &H,
     alloc: Global,
+    tables: Tables,
     seats: Seats,
+    extents: ExtentCount,
 ) -> (u64, u32)
-    requires names { seats.names ≡ J.names }
+    requires population { IsPopulation (rows tables) }
+    requires names { named seats.names
+        (opened system (rows tables) extents seats.names.layout) ≡ J.names }
 {
-    let (shop, mut desks) = seated::<J>(rt, alloc, seats, 4_096, [1, 2, 3]);
-    let is_run = all_at_once(rt, shop.front(), desks.as_mut_slice());
+    let (shop, mut desks, mut purger) = seated::<J>(rt, alloc, tables, seats, extents, [1, 2, 3]);
+    let is_run = all_at_once(rt, shop.front(), desks.as_mut_slice(), &mut purger);
     assert!(rt; is_run);
-    match shop.close(desks) {
-        Ok((mut core, counted)) => {
+    match shop.close(desks, purger) {
+        Ok(closed) => {
+            let Closed {
+                mut core,
+                counted,
+                history: _,
+            } = closed;
             let held = count_held(&mut core);
             core.discard();
             (counted.committed, held)
@@ -163,6 +183,9 @@ fn day<J: Naming + Send + Sync, H: Threads + Wait + Abort + Sync>(
 
 #[test]
 fn purger_beside_readers(rt: HostRuntime) {
+    let extents = extents(&rt, 4_096);
     let seats = seats(&rt, rt.alloc(), 7, PLACES[0].layout);
-    assert!(rt; day::<Brand, HostRuntime>(&rt, rt.alloc(), seats) == (200, 11));
+    let tables = populated(&rt, rt.alloc());
+    let told = day::<Brand, HostRuntime>(&rt, rt.alloc(), tables, seats, extents);
+    assert!(rt; told == (200, 11));
 }

@@ -1,7 +1,10 @@
 //! Small shops, and scripts that their desks and a core play alike.
-ghost use Rattle.std.specs.Prelude.{◌≡◌, ◌≢◌, ◌+◌, ℕ, length, None, Some};
+ghost use Rattle.std.specs.Prelude.{◌≡◌, ◌≢◌, ◌+◌, ℕ, length, [], None, Some};
+ghost use Rattle.oe_theory.specs.Theorems.{opened};
 ghost use Rattle.oe_hall.specs.Desks.{seat_for};
+ghost use Rattle.oe_hall.specs.Naming.{named};
 ghost use Rattle.oe_model.specs.Conditions.{IsPopulation};
+ghost use Rattle.oe_model.specs.System.{system};
 ghost use Rattle.oe_store.specs.Places.{rows};
 
 use crate::asks::Place;
@@ -10,12 +13,12 @@ use crate::plays::play;
 use crate::scripts;
 use crate::tables::is_same;
 use oe_core::Core;
-use oe_hall::{Counted, Desk, Naming, NotQuiet, Seats, Shop};
+use oe_hall::{Closed, Counted, Desk, Naming, NotQuiet, Purger, Seats, Shop};
 use oe_model::populations::population_is_one;
 use oe_population::populate;
 use oe_rows::{Layout, Scale};
 use oe_store::Tables;
-use oe_values::{Number, Terminal};
+use oe_values::{ExtentCount, Number, Terminal};
 use std::alloc::Global;
 use std::marker::Brand;
 use std::process::Abort;
@@ -39,7 +42,7 @@ pub(crate) struct Show {
 }
 
 /// A population of two warehouses with ten customers in each district, and twenty items.
-fn populated(rt: &impl Abort, alloc: Global) -> Tables
+pub(crate) fn populated(rt: &impl Abort, alloc: Global) -> Tables
     ensures { IsPopulation (rows result) }
 {
     let scale = Scale {
@@ -66,19 +69,27 @@ fn core_on(rt: &impl Abort, alloc: Global, extents: u32, layout: Layout) -> Core
     }
 }
 
-/// Opens a shop on that population.
+/// Gives that number of extents.
+pub(crate) fn extents(rt: &impl Abort, number: u32) -> ExtentCount {
+    Number::new(number).expect(rt, "extents")
+}
+
+/// Opens a shop on a population.
 pub(crate) fn opened<J: Naming>(
     rt: &impl Abort,
     alloc: Global,
+    tables: Tables,
     seats: Seats,
-    extents: u32,
-) -> Shop<J>
-    requires names { seats.names ≡ J.names }
-    ensures new { result.given ≡ 0 }
-    ensures free { (t : ℕ) → seat_for result t ≢ Some None }
+    extents: ExtentCount,
+) -> (Shop<J>, Purger<J>)
+    requires population { IsPopulation (rows tables) }
+    requires names { named seats.names
+        (opened system (rows tables) extents seats.names.layout) ≡ J.names }
+    ensures new { result.0.given ≡ 0 }
+    ensures free { (t : ℕ) → seat_for result.0 t ≢ Some None }
+    ensures silent { result.1.mine ≡ [] }
 {
-    let extents = Number::new(extents).expect(rt, "extents");
-    match Shop::open(alloc, populated(rt, alloc), extents, seats) {
+    match Shop::open(alloc, tables, extents, seats) {
         Ok(shop) => shop,
         Err(_) => panic!(rt; "no memory"),
     }
@@ -107,30 +118,45 @@ fn desk<J: Naming>(rt: &impl Abort, shop: &mut Shop<J>, number: u32) -> Desk<J>
 pub(crate) fn seated<J: Naming>(
     rt: &impl Abort,
     alloc: Global,
+    tables: Tables,
     seats: Seats,
-    extents: u32,
+    extents: ExtentCount,
     terminals: [u32; 3],
-) -> (Shop<J>, Vec<Desk<J>>)
-    requires names { seats.names ≡ J.names }
+) -> (Shop<J>, Vec<Desk<J>>, Purger<J>)
+    requires population { IsPopulation (rows tables) }
+    requires names { named seats.names
+        (opened system (rows tables) extents seats.names.layout) ≡ J.names }
     ensures { length result.1.items ≡ result.0.given }
 {
-    let mut shop = opened::<J>(rt, alloc, seats, extents);
+    let (mut shop, purger) = opened::<J>(rt, alloc, tables, seats, extents);
     let Ok(mut desks) = Vec::with_capacity(alloc, 3) else {
         panic!(rt; "no memory")
     };
     desks.push_reserved(desk(rt, &mut shop, terminals[0]));
     desks.push_reserved(desk(rt, &mut shop, terminals[1]));
     desks.push_reserved(desk(rt, &mut shop, terminals[2]));
-    (shop, desks)
+    (shop, desks, purger)
 }
 
 // Closes a shop whose transactions have ended: it counts what the show says, and leaves the tables
 // that the core has.
-fn ended<J: Naming>(rt: &impl Abort, shop: Shop<J>, desks: Vec<Desk<J>>, core: Core, show: &Show)
+fn ended<J: Naming>(
+    rt: &impl Abort,
+    shop: Shop<J>,
+    desks: Vec<Desk<J>>,
+    purger: Purger<J>,
+    core: Core,
+    show: &Show,
+)
     requires given { length desks.items ≡ shop.given }
 {
-    match shop.close(desks) {
-        Ok((left, counted)) => {
+    match shop.close(desks, purger) {
+        Ok(closed) => {
+            let Closed {
+                core: left,
+                counted,
+                history: _,
+            } = closed;
             assert!(rt; is_counted(&counted, show), "the counts");
             assert!(rt; is_same(left.close(), core.close()), "the tables");
         }
@@ -149,15 +175,16 @@ fn still_open<J: Naming>(
     rt: &impl Abort,
     shop: Shop<J>,
     desks: Vec<Desk<J>>,
+    purger: Purger<J>,
     open: u64,
-) -> (Shop<J>, Vec<Desk<J>>)
+) -> (Shop<J>, Vec<Desk<J>>, Purger<J>)
     requires { length desks.items ≡ shop.given }
     ensures { length result.1.items ≡ result.0.given }
 {
     if open == 0 {
-        return (shop, desks);
+        return (shop, desks, purger);
     }
-    match shop.close(desks) {
+    match shop.close(desks, purger) {
         Ok(_) => panic!(rt; "a shop was closed beside an open transaction"),
         Err(back) => {
             assert!(rt; back.open == open, "how many are open");
@@ -165,8 +192,9 @@ fn still_open<J: Naming>(
                 open: _,
                 shop,
                 desks,
+                purger,
             } = back;
-            (shop, desks)
+            (shop, desks, purger)
         }
     }
 }
@@ -175,35 +203,42 @@ fn still_open<J: Naming>(
 fn played<J: Naming, H: Wait + Abort>(
     rt: &H,
     alloc: Global,
+    tables: Tables,
     seats: Seats,
+    extents: ExtentCount,
     show: &Show,
     at: &Place,
     hands: &mut Hands,
 )
-    requires names { seats.names ≡ J.names }
+    requires population { IsPopulation (rows tables) }
+    requires names { named seats.names
+        (opened system (rows tables) extents seats.names.layout) ≡ J.names }
 {
-    let (shop, mut desks) = seated::<J>(rt, alloc, seats, show.extents, show.terminals);
+    let seated = seated::<J>(rt, alloc, tables, seats, extents, show.terminals);
+    let (shop, mut desks, mut purger) = seated;
     let mut core = core_on(rt, alloc, show.extents, at.layout);
     play(
         rt,
         shop.front(),
         desks.as_mut_slice(),
+        &mut purger,
         &mut core,
         hands,
         at,
         show.moves,
     );
-    let (shop, mut desks) = still_open(rt, shop, desks, show.open);
+    let (shop, mut desks, mut purger) = still_open(rt, shop, desks, purger, show.open);
     play(
         rt,
         shop.front(),
         desks.as_mut_slice(),
+        &mut purger,
         &mut core,
         hands,
         at,
         show.rest,
     );
-    ended(rt, shop, desks, core, show);
+    ended(rt, shop, desks, purger, core, show);
 }
 
 /// Shows a script in a shop of that name.
@@ -215,8 +250,10 @@ pub(crate) fn shown<H: Wait + Abort>(
     at: &Place,
     hands: &mut Hands,
 ) {
+    let extents = extents(rt, show.extents);
     let seats = seats(rt, alloc, name, at.layout);
-    played::<Brand, H>(rt, alloc, seats, show, at, hands);
+    let tables = populated(rt, alloc);
+    played::<Brand, H>(rt, alloc, tables, seats, extents, show, at, hands);
 }
 
 // Plays a show by the desks of a shop, and another one in another shop in between, which is handed
@@ -224,20 +261,26 @@ pub(crate) fn shown<H: Wait + Abort>(
 fn two_shops<J: Naming, H: Wait + Abort>(
     rt: &H,
     alloc: Global,
+    tables: Tables,
     seats: Seats,
-    show: &Show,
-    other: &Show,
+    extents: ExtentCount,
+    shows: (&Show, &Show),
     at: &Place,
 )
-    requires names { seats.names ≡ J.names }
+    requires population { IsPopulation (rows tables) }
+    requires names { named seats.names
+        (opened system (rows tables) extents seats.names.layout) ≡ J.names }
 {
-    let (shop, mut desks) = seated::<J>(rt, alloc, seats, show.extents, show.terminals);
+    let (show, other) = shows;
+    let seated = seated::<J>(rt, alloc, tables, seats, extents, show.terminals);
+    let (shop, mut desks, mut purger) = seated;
     let mut core = core_on(rt, alloc, show.extents, at.layout);
     let mut hands = Hands::empty();
     play(
         rt,
         shop.front(),
         desks.as_mut_slice(),
+        &mut purger,
         &mut core,
         &mut hands,
         at,
@@ -248,13 +291,14 @@ fn two_shops<J: Naming, H: Wait + Abort>(
         rt,
         shop.front(),
         desks.as_mut_slice(),
+        &mut purger,
         &mut core,
         &mut hands,
         at,
         show.rest,
     );
     hands.put_down(rt);
-    ended(rt, shop, desks, core, show);
+    ended(rt, shop, desks, purger, core, show);
 }
 
 // Shows a script alone.
@@ -283,8 +327,11 @@ fn what_is_another_desks_comes_back(rt: HostRuntime) {
 #[test]
 fn what_is_another_shops_comes_back(rt: HostRuntime) {
     let at = &scripts::PLACES[0];
+    let shows = (&scripts::HOME, &scripts::AWAY);
+    let extents = extents(&rt, scripts::HOME.extents);
     let seats = seats(&rt, rt.alloc(), 7, at.layout);
-    two_shops::<Brand, HostRuntime>(&rt, rt.alloc(), seats, &scripts::HOME, &scripts::AWAY, at);
+    let tables = populated(&rt, rt.alloc());
+    two_shops::<Brand, HostRuntime>(&rt, rt.alloc(), tables, seats, extents, shows, at);
 }
 
 #[test]

@@ -39,7 +39,7 @@ use Rattle.oe_script.proofs.LineFacts.{one_command}
 use Rattle.oe_headline.specs.Deeds.{Deed, No_form, Opening, Shown, Steps, Entry, Takes, Was, Passed}
 use Rattle.oe_headline.specs.Laws.{IsReachedState, IsConsistentState, IsOfFour, IsAudited, Audits_hold, HasMore}
 use Rattle.oe_headline.specs.Laws.{More_audits_hold}
-use Rattle.oe_headline.proofs.AnswerFacts.{answer_once}
+use Rattle.oe_runs.proofs.AnswerFacts.{answer_once}
 use Rattle.oe_headline.proofs.DeedFacts.{lines_are_deeds}
 use Rattle.oe_headline.proofs.PassFacts.{passed_split, passed_reached, worlds_are_reached, next_reached, opened_reached}
 

@@ -1,5 +1,4 @@
 pub mod BesideFacts
-pub mod AnswerFacts
 pub mod DeedFacts
 pub mod PassFacts
 pub mod AuditFacts

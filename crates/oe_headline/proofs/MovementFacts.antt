@@ -13,7 +13,8 @@ use Rattle.oe_headline.specs.Laws.{IsOneRun, Movements_hold}
 of_versions : (es : List Entry) (w : World system) (r : IsOneRun es w) (m : ℕ)
     → Movements r.scale.customers (at system w m)
 of_versions es w r m =
-    (r.ran.movements r.scale.customers (population_has_movements r.scale r.rows r.says.form.0 r.populated) m).movements
+    (r.ran.last.movements r.scale.customers (population_has_movements r.scale r.rows r.says.form.0 r.populated)
+    m).movements
 
 pub movements_hold : Movements_hold
 movements_hold = record {

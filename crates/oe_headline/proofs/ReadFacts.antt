@@ -31,7 +31,7 @@ use Rattle.oe_script.proofs.LineFacts.{one_command}
 use Rattle.oe_headline.specs.Deeds.{Entry, steps_of, answers_of}
 use Rattle.oe_headline.specs.Laws.{Tells, IsRead, IsOneRun, Reads_are_of_moments}
 use Rattle.oe_headline.proofs.MomentFacts.{version_at}
-use Rattle.oe_headline.proofs.AnswerFacts.{answer_once, rejected_once}
+use Rattle.oe_runs.proofs.AnswerFacts.{answer_once, rejected_once}
 
 -- what the machine answers
 data Asked (w : World system) (m : ℕ) (q : Query) (a : theory.Answer system) (v : World system) : Type 0 where

@@ -1,5 +1,5 @@
 -- Bases, and where a rewind leads.
-use Rattle.std.proofs.Common.{◌≡◌, ℕ, zero, suc, ◌-◌, ◌≤◌, ◌<◌, Some, List, [], ◌∷◌, length, drop, refl, sym, ap, ◌∙◌}
+use Rattle.std.proofs.Common.{◌≡◌, ℕ, suc, ◌≤◌, ◌<◌, Some, List, [], ◌∷◌, refl, sym, ap, ◌∙◌}
 use Rattle.std.proofs.Common.{subst, inl, inr, arith}
 use Rattle.oe_theory.specs.World.{World, total, version, horizon, newest, at, tables}
 use Rattle.oe_theory.specs.Next as theory
@@ -15,6 +15,7 @@ use Rattle.oe_requests.specs.declared.answers.Answer.{Answer}
 use Rattle.oe_requests.specs.declared.answers.Answer.TheVariants as answer
 use Rattle.oe_requests.specs.declared.steps.Step.{Step}
 use Rattle.oe_requests.specs.declared.steps.Step.TheVariants as step
+use Rattle.oe_model.specs.Rows.{Rows}
 use Rattle.oe_model.specs.System.{system}
 use Rattle.oe_lines.specs.Rings.{layout_of}
 use Rattle.oe_model.proofs.SystemLaws.{laws}
@@ -24,34 +25,35 @@ use Rattle.oe_lines.specs.declared.commands.Command.TheVariants as command
 use Rattle.oe_lines.specs.declared.commands.MomentChoice.{MomentChoice}
 use Rattle.oe_lines.specs.declared.commands.MomentChoice.TheVariants as moment
 use Rattle.oe_core.specs.Steps.{step_in, answer_in}
-use Rattle.oe_runs.specs.Run.{AreWhole}
+use Rattle.oe_runs.specs.Run.{AreUnpurged, AreWhole}
+use Rattle.oe_runs.proofs.RunFacts.{first_at}
 use Rattle.oe_script.specs.Script as script
 use Rattle.oe_script.specs.Script.{State, moment_in, Answers, Asks, LineAnswer}
 use Rattle.oe_script.proofs.LineFacts.{one_command}
 use Rattle.oe_headline.specs.Deeds.{Entry, steps_of, answers_of}
-use Rattle.oe_headline.specs.Moments.{AreUnpurged, IsRewound, IsRewoundTo}
+use Rattle.oe_headline.specs.Moments.{IsRewound, IsRewoundTo}
 use Rattle.oe_headline.specs.Laws.{IsOneRun, Rewinds_restore}
-use Rattle.oe_headline.proofs.AnswerFacts.{answer_once}
+use Rattle.oe_runs.proofs.AnswerFacts.{answer_once}
 use Rattle.oe_headline.proofs.MomentFacts.{purged_step, by_other, total_none, version_at}
 
 -- WHAT A RUN GOES ON FROM
 
 -- along a run
-unpurged : (w v : World system) (is : List Step) (ys : List Answer) → AreWhole w is ys v → AreUnpurged ys
+unpurged : (b : Rows) (w v : World system) (is : List Step) (ys : List Answer) → AreWhole b w is ys v → AreUnpurged ys
     → (v.base ≡ w.base) × (v.counts ≡ w.counts)
-unpurged w v [] [] (good, same) h =
+unpurged b w v [] [] (good, same) h =
     (ap (λ (z : World system). z.base) (sym same), ap (λ (z : World system). z.counts) (sym same))
-unpurged w v [] (x ∷ ys) r h = absurd r
-unpurged w v (i ∷ is) [] r h = absurd r
-unpurged w v (i ∷ is) (x ∷ ys) (good, (mid, next, ends, past, rest)) h =
+unpurged b w v [] (x ∷ ys) r h = absurd r
+unpurged b w v (i ∷ is) [] r h = absurd r
+unpurged b w v (i ∷ is) (x ∷ ys) (good, (mid, next, ends, past, rest)) h =
     let here = by_other w mid (step_in i) (answer_in i x) next (λ m e. h.0 m (answer_once i x (answer.Purged m) e)) in
-    let more = unpurged mid v is ys rest h.1 in
+    let more = unpurged b mid v is ys rest h.1 in
     (more.0 ∙ here.0, more.1 ∙ here.1)
 
 of_population : (es : List Entry) (w : World system) (r : IsOneRun es w) → AreUnpurged (answers_of r.after)
     → (w.base ≡ r.rows) × (horizon system w ≡ 0)
 of_population es w r h =
-    let same = unpurged (opened system r.rows r.ring.extents (layout_of r.ring)) w (steps_of r.after)
+    let same = unpurged r.rows (opened system r.rows r.ring.extents (layout_of r.ring)) w (steps_of r.after)
     (answers_of r.after) r.ran.whole h
     in
     (same.0, ap (total system.terminal_limit) same.1 ∙ total_none system.terminal_limit)
@@ -134,16 +136,7 @@ answered w made n line text s m asks (inl (d, other, a)) =
     go (x, w', next, t, same) = rewind_told w (moment_in w m) x w' text s made t same
         (step_rewinds w _ _ w' (moment_in w m) next refl)
 
--- moment 0 is the base, where nothing was purged
-drop_all : {A : Type 0} (n : ℕ) (xs : List A) → length xs ≤ n → drop n xs ≡ []
-drop_all zero [] h = refl
-drop_all (suc n) [] h = refl
-drop_all zero (x ∷ xs) h = absurd (omega (arith, h))
-drop_all (suc n) (x ∷ xs) h = drop_all n xs (omega (arith, h))
-
-first_at : (w : World system) → at system w 0 ≡ w.base
-first_at w = ap (version system w.base) (drop_all (newest system w - 0) w.history (omega arith))
-
+-- where nothing was purged
 to_population : (es : List Entry) (w : World system) (r : IsOneRun es w) (n : ℕ) (line text : List ℕ) (s : State)
     → AreUnpurged (answers_of r.after)
     → Asks (Some w) line (command.Rewind (moment.At 0)) → LineAnswer (Some w) n line text s

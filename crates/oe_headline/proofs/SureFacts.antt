@@ -29,7 +29,7 @@ use Rattle.oe_script.proofs.LineFacts.{one_command}
 use Rattle.oe_headline.specs.Deeds.{Deed, No_form, Opening, Shown, Steps, Entry, step_of, IsUpTo, Takes, Was, Passed}
 use Rattle.oe_headline.specs.Deeds.{lines_of, texts_of}
 use Rattle.oe_headline.specs.Laws.{HasMemory, HaveMemory, IsOutputOf, Answers_are_determined}
-use Rattle.oe_headline.proofs.AnswerFacts.{answer_once}
+use Rattle.oe_runs.proofs.AnswerFacts.{answer_once}
 
 -- STEPS
 

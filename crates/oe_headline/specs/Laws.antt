@@ -34,7 +34,7 @@ use Rattle.oe_lines.specs.declared.commands.Command.TheVariants as command
 use Rattle.oe_lines.specs.declared.commands.MomentChoice.{MomentChoice}
 use Rattle.oe_lines.specs.declared.commands.MomentChoice.TheVariants as moment
 use Rattle.oe_movements.specs.Movements.{Movements}
-use Rattle.oe_runs.specs.Run.{Ran}
+use Rattle.oe_runs.specs.Run.{Ran, AreUnpurged}
 use Rattle.oe_texts.specs.Answer.{answer_line, audit_line}
 use Rattle.oe_script.specs.declared.session.ScriptFault.TheVariants as fault
 use Rattle.oe_ports.specs.Ports.{Source, Sink}
@@ -43,7 +43,7 @@ use Rattle.oe_script.specs.Script.{State, moment_in, Asks, LineAnswer, RunOfLine
 use Rattle.oe_headline.specs.Deeds.{Deed, No_form, Opening, Shown, Steps, Entry, Passed, lines_of, texts_of, steps_of}
 use Rattle.oe_headline.specs.Deeds.{answers_of}
 use Rattle.oe_headline.specs.Without.{is_rolled_back, Without}
-use Rattle.oe_headline.specs.Moments.{IsVersion, AreUnpurged, IsRewound, IsRewoundTo}
+use Rattle.oe_headline.specs.Moments.{IsVersion, IsRewound, IsRewoundTo}
 
 -- each run of lines is lines one after another, and each line is known as a deed; and the other way round
 pub record Lines_are_deeds : Type 0 where

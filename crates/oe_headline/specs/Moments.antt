@@ -1,9 +1,8 @@
 -- What the version of a moment is, what a base is, and what a rewind is answered.
-use Rattle.std.specs.Prelude.{◌≡◌, ◌≢◌, ℕ, suc, ◌≤◌, ◌<◌, ◌⊎◌, List, [], ◌∷◌, ◌++◌, length, Some}
+use Rattle.std.specs.Prelude.{◌≡◌, ℕ, suc, ◌≤◌, ◌<◌, ◌⊎◌, List, [], ◌∷◌, ◌++◌, length, Some}
 use Rattle.oe_theory.specs.World.{World, Commit, IsCommit, counts_after, horizon, newest, at, tables}
 use Rattle.oe_theory.specs.Next.{IsQuiet, count_open}
 use Rattle.oe_requests.specs.declared.refusals.Refusal.TheVariants as refusal
-use Rattle.oe_requests.specs.declared.answers.Answer.{Answer}
 use Rattle.oe_requests.specs.declared.answers.Answer.TheVariants as answer
 use Rattle.oe_model.specs.Rows.{Rows}
 use Rattle.oe_model.specs.System.{system}
@@ -28,11 +27,6 @@ pub record IsVersion (base : Rows) (w : World system) (m : ℕ) (r : Rows) : Typ
   pub gone : length forgotten ≡ horizon system w
   pub number : length (kept ++ forgotten) ≡ m
   pub left : Leaves (λ _. 0) base (kept ++ forgotten) r
-
--- no answer is that something was purged
-abbrev pub AreUnpurged : List Answer → Type 0
-AreUnpurged [] = Unit {0}
-AreUnpurged (x ∷ ys) = ((m : ℕ) → x ≢ answer.Purged m) × AreUnpurged ys
 
 -- the state is a world whose tables are these, and whose newest moment is that
 abbrev pub StandsAt : ℕ → Rows → State → Type 0

@@ -1,8 +1,8 @@
 -- Among the rows of a list are all of its number, in the keys' order, and each row stays listed.
 use Rattle.std.proofs.Common.{◌≡◌, refl, sym, ◌∙◌, ap, subst, Bool, true, false, cond, ℕ, List, [], ◌∷◌, get_or, Option}
-use Rattle.std.proofs.Common.{Some, None, Result, Ok, Err}
+use Rattle.std.proofs.Common.{Some, None, Result, Ok, Err, inl}
 use Rattle.std.specs.Result.{OnOk, OnErr}
-use Rattle.std.specs.Prelude.{T, ◌&&◌, is_some, filter}
+use Rattle.std.specs.Prelude.{T, ◌&&◌, ◌↔◌, is_some, not, filter}
 use Rattle.std.specs.Option.{OnSome, option_copied_mut}
 use Rattle.std.specs.Borrow.{MutBor}
 use Rattle.std.specs.List.{AllByRecursion, filter_map, cons_option}
@@ -19,7 +19,7 @@ use Rattle.oe_table.specs.Table.{place, rows_of}
 use Rattle.oe_table.specs.Shelf.{IsAscending}
 use Rattle.oe_table.proofs.TableFacts.{tied}
 use Rattle.oe_model.proofs.EntryFacts.{EachOf, each_of, entries_at}
-use Rattle.oe_index.specs.Listed.{Keys, with_row, found, IsListed, ListsMore, Unlists, AreListed}
+use Rattle.oe_index.specs.Listed.{Keys, with_row, found, IsListed, ListsMore, ListsAtMost, Unlists, AreListed}
 
 both : (a b : Bool) → T a → T b → T (a && b)
 both true b p q = q
@@ -31,6 +31,33 @@ never e = cc
 pub both_true : (a b : Bool) → (a && b) ≡ true → (a ≡ true) × (b ≡ true)
 both_true true b e = (refl, e)
 both_true false b e = never (sym e)
+
+and_true : (a b : Bool) → a ≡ true → b ≡ true → (a && b) ≡ true
+and_true true b p q = q
+and_true false b p q = p
+
+pub always_ok : {A E P : Type 0} (r : Result A E) → P → OnOk r P
+always_ok (Ok x) p = p
+always_ok (Err x) p = tt
+
+-- lists stand on exactly where they stood and a test holds
+pub stands-if : {P Q : Type 0} (a stays b : Bool) → b ≡ (a && stays) → (stays ≡ true) ↔ Q → (a ≡ true → Q → P)
+    → (P → Q) → (b ≡ true) ↔ ((a ≡ true) × P)
+stands-if a stays b is told to from = (
+  (λ h. let t = both_true a stays (sym is ∙ h) in (t.0, to t.0 (told.0 t.1))),
+  (λ h. is ∙ and_true a stays h.0 (told.1 (from h.1))),
+)
+
+pub none-told : {X : Type 0} (o : Option X) (b : Bool) → is_some o ≡ not b → (b ≡ true) ↔ (o ≡ None)
+none-told None true e = ((λ h. refl), (λ h. refl))
+none-told None false e = never (sym e)
+none-told (Some x) true e = never e
+none-told (Some x) false e = ((λ h. never (sym h)), (λ h. let no : ⊥ = cc in absurd no))
+
+-- lists that are as they were
+pub lists-same : {K : Type 0} (cmp : K → K → Ordering) (ls : List (Keys K)) (number : ℕ) (key : K)
+    → ListsAtMost cmp ls ls number key
+lists-same cmp ls number key = record { kept = λ n k h. h; only = λ n k h. inl h }
 
 cond-none : {X : Type 0} (c : Bool) (o : Option X) → o ≡ None → cond c o None ≡ o
 cond-none true o e = refl

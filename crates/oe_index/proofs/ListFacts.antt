@@ -1,7 +1,8 @@
 -- Lists of keys, of which one is given a key, or loses one.
 use Rattle.std.proofs.Common.{◌≡◌, refl, sym, ◌∙◌, ap, subst, Bool, true, false, cond, ℕ, suc, zero, ◌<◌, List, [], ◌∷◌}
 use Rattle.std.proofs.Common.{◌++◌, length, get_or, set, replicate, arith, Option, Some, None, Result, Ok, Err}
-use Rattle.std.specs.Prelude.{◌↔◌, ◌≤◌, IsSome}
+use Rattle.std.proofs.Common.{inl, inr}
+use Rattle.std.specs.Prelude.{◌↔◌, ◌⊎◌, ◌≤◌, IsSome}
 use Rattle.std.specs.Result.{OnOk, OnErr, is_ok}
 use Rattle.std.specs.List.Sorted.{IsStrictlySortedBy}
 use Rattle.std.specs.Ordering.{is_eq}
@@ -22,6 +23,14 @@ use Rattle.oe_index.specs.Listed.{Keys, IsListed, Unlists, AreLists}
 some-cond : {X : Type 0} (b : Bool) (w : X) (o : Option X) → IsSome o → IsSome (cond b (Some w) o)
 some-cond true w o h = refl
 some-cond false w o h = h
+
+none-there : {P : Type 0} → false ≡ true → P
+none-there h = absurd (let no : ⊥ = cc in no)
+
+cond-some : {X P : Type 0} (b : Bool) → (b ≡ true → P) → (w : X) (o : Option X) → IsSome (cond b (Some w) o)
+    → IsSome o ⊎ P
+cond-some true own w o h = inr (own refl)
+cond-some false own w o h = inl h
 
 module _ {K : Type 0} (cmp : K → K → Ordering) where
   pub lists-none : (ls : List (Keys K)) → ls ≡ [] → AreLists cmp ls
@@ -53,6 +62,23 @@ module _ {K : Type 0} (cmp : K → K → Ordering) where
       → IsListed cmp old i k → IsListed cmp new i k
   listed-padded old new n is i k h = subst (λ (l : Keys K). IsSome (place cmp l k))
       (sym (ap (λ ls. get_or ls i []) is ∙ get_or-padded old n i)) h
+
+  pub only-padded : (old new : List (Keys K)) (n : ℕ) → new ≡ old ++ replicate n [] → (i : ℕ) (k : K)
+      → IsListed cmp new i k → IsListed cmp old i k
+  only-padded old new n is i k h = subst (λ (l : Keys K). IsSome (place cmp l k))
+      (ap (λ ls. get_or ls i []) is ∙ get_or-padded old n i) h
+
+  -- past the last list none is listed
+  pub none-padded : (old new : List (Keys K)) (n : ℕ) → new ≡ old ++ replicate n [] → (i : ℕ) (k : K)
+      → length old ≤ i → IsListed cmp new i k → ⊥
+  none-padded old new n is i k past h = none-there
+      (subst (λ (l : Keys K). IsSome (place cmp l k)) (get_or_past old i [] past) (only-padded old new n is i k h))
+
+  -- what was listed before lists were put at the end
+  pub less-before : (old new : List (Keys K)) (n : ℕ) → new ≡ old ++ replicate n [] → (number : ℕ) (key : K) (i : ℕ)
+      (k : K) → IsListed cmp new i k ⊎ ((i ≡ number) × (k ≡ key)) → IsListed cmp old i k ⊎ ((i ≡ number) × (k ≡ key))
+  less-before old new n is number key i k (inl h) = inl (only-padded old new n is i k h)
+  less-before old new n is number key i k (inr own) = inr own
 
   pub list-ascends : (ls : List (Keys K)) (i : ℕ) → AreLists cmp ls → IsAscending cmp (get_or ls i [])
   unfolding IsStrictlySortedBy
@@ -104,6 +130,43 @@ module _ {K : Type 0} (cmp : K → K → Ordering) where
             let other : n ≡ i → ⊥ = λ same. eqb-false i n e (sym same) in
             subst (λ (l : Keys K). IsSome (place cmp l k)) (sym (get_or-set_other ls i n new [] other)) h
 
+    in_old : IsAntisymmetric cmp → (k : K) → IsSome (place cmp new k) → IsSome (place cmp s k) ⊎ (k ≡ key)
+    in_old exact k h = by r ok err
+      where
+        by : (q : Result A E) → OnOk q (new ≡ put_at cmp s key w) → OnErr q (new ≡ s)
+            → IsSome (place cmp s k) ⊎ (k ≡ key)
+        by (Ok x) e f = cond-some (is_eq (cmp key k)) (λ at. sym (exact key k (tied (cmp key k) at))) w (place cmp s k)
+            (subst IsSome (ap (λ (l : Keys K). place cmp l k) e ∙ lookup-put cmp total s key w k) h)
+        by (Err x) e f = inl (subst (λ (l : Keys K). IsSome (place cmp l k)) f h)
+
+    pub only-put : IsAntisymmetric cmp → i < length ls → (n : ℕ) (k : K) → IsListed cmp (set ls i new) n k
+        → IsListed cmp ls n k ⊎ ((n ≡ i) × (k ≡ key))
+    only-put exact within n k h = by (eqb n i) refl
+      where
+        go : n ≡ i → IsSome (place cmp s k) ⊎ (k ≡ key) → IsListed cmp ls n k ⊎ ((n ≡ i) × (k ≡ key))
+        go same (inl was) = inl (subst (λ (l : Keys K). IsSome (place cmp l k))
+            (there [] ∙ ap (λ j. get_or ls j []) (sym same)) was)
+        go same (inr own) = inr (same, own)
+
+        by : (b : Bool) → eqb n i ≡ b → IsListed cmp ls n k ⊎ ((n ≡ i) × (k ≡ key))
+        by true e =
+            let same : n ≡ i = eqb-true n i e in
+            go same (in_old exact k (subst (λ (l : Keys K). IsSome (place cmp l k))
+            (ap (λ j. get_or (set ls i new) j []) same ∙ get_or-set_same ls i new [] within) h))
+        by false e =
+            let other : n ≡ i → ⊥ = eqb-false n i e in
+            inl (subst (λ (l : Keys K). IsSome (place cmp l k)) (get_or-set_other ls i n new [] other) h)
+
+    pub not-put : i < length ls → OnErr r (place cmp s key ≡ None)
+        → OnErr r (IsListed cmp (set ls i new) i key → ⊥)
+    not-put within none = by r err none
+      where
+        by : (q : Result A E) → OnErr q (new ≡ s) → OnErr q (place cmp s key ≡ None)
+            → OnErr q (IsListed cmp (set ls i new) i key → ⊥)
+        by (Ok x) e n = e
+        by (Err x) e n = λ h. none-there
+            (subst IsSome (ap (λ (l : Keys K). place cmp l key) (get_or-set_same ls i new [] within ∙ e) ∙ n) h)
+
     pub listed-own : i < length ls → OnOk r (IsListed cmp (set ls i new) i key)
     listed-own within = by r ok
       where
@@ -113,9 +176,6 @@ module _ {K : Type 0} (cmp : K → K → Ordering) where
             ∙ lookup-put cmp total s key w key))
             (rw ((eq_by_cmp_equiv total).refl key) refl)
         by (Err x) e = e
-
-none-there : {P : Type 0} → false ≡ true → P
-none-there h = absurd (let no : ⊥ = cc in no)
 
 -- a search for a key finds it where it is listed
 pub is-found : {K : Type 0} (cmp : K → K → Ordering) → IsTotalOrder cmp → (s : Keys K) (key : K) (r : Result ℕ ℕ)

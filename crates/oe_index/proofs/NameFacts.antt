@@ -17,7 +17,7 @@ use Rattle.oe_model.specs.Keys.{district_of_customer}
 use Rattle.oe_model.specs.Choice.{named, namesakes}
 use Rattle.oe_model.proofs.MapFacts.{is_same}
 use Rattle.oe_index.specs.Listed.{Keys, found, IsListed, ListsMore, Unlists, AreListed, is_name, HasOtherName}
-use Rattle.oe_index.specs.Numbers.{list_number, list_of_name, is_list_of}
+use Rattle.oe_index.specs.Numbers.{list_number, list_of_name, is_list_of, ForgetsName}
 use Rattle.oe_index.specs.Own.{named_of}
 use Rattle.oe_index.proofs.FoundFacts.{never, both_true, all-found}
 
@@ -110,6 +110,27 @@ other-name last (Some x) there other = (
   λ e. never
       (sym ((eq_by_cmp_equiv nat_list_cmp_total).refl last) ∙ ap (λ l. eq_by_cmp (slice_cmp nat_cmp) l last) e
       ∙ other),
+)
+
+-- a customer is off a list, unless that is its own
+pub forgets-none : (m : FinMap customer_cmp Customer) (ls : List (Keys CustomerKey)) (number other : ℕ)
+    (key : CustomerKey) → number ≡ other → true ≡ is_list_of number key (get m key)
+    → ForgetsName m ls ls other key
+forgets-none m ls number other key same own n k =
+    ((λ h. (h, λ e. sym (own ∙ ap (λ i. is_list_of i key (get m key)) same))), (λ h. h.0))
+
+pub forgets-it : (m : FinMap customer_cmp Customer) (old new : List (Keys CustomerKey)) (number other : ℕ)
+    (key : CustomerKey) → number ≡ other → Unlists customer_cmp old new number key
+    → false ≡ is_list_of number key (get m key) → ForgetsName m old new other key
+forgets-it m old new number other key same off not_own n k = (
+  (λ h. let t = (off n k).0 h in (t.0, λ e. absurd (t.1 (e.0 ∙ sym same, e.1)))),
+  (λ h.
+      (off n k).1 (
+        h.0,
+        λ e.
+            never (sym (h.1 (e.0 ∙ same, e.1))
+            ∙ sym (not_own ∙ ap (λ i. is_list_of i key (get m key)) same)),
+      )),
 )
 
 same_number : (a b : ℕ) → a ≡ b → (a == b) ≡ true

@@ -1,6 +1,7 @@
 -- Among the rows of a list are all orders of a customer.
 use Rattle.std.proofs.Common.{◌≡◌, refl, sym, ◌∙◌, ap, subst, Bool, true, false, cond, ℕ, List, [], ◌∷◌, get_or, Option}
-use Rattle.std.proofs.Common.{Some, None, rules}
+use Rattle.std.proofs.Common.{Some, None, Result, Ok, Err, rules}
+use Rattle.std.specs.Result.{OnErr}
 use Rattle.std.specs.Prelude.{filter, ◌==◌, is_some, not}
 use Rattle.std.specs.Option.{unwrap_or}
 use Rattle.std.specs.List.{filter_map, cons_option}
@@ -87,3 +88,10 @@ no-place t key none off = by (place order_cmp t key) refl
     by (Some (Some x)) at =
         let there : get (rows_of order_cmp t) key ≡ Some x = get-rows_of order_total t key ∙ ap row_in at in
         let clash : None ≡ Some x = sym none ∙ there in cc
+
+-- where a key had no place, it was not blanked
+pub kept-place : {A E : Type 0} (r : Result A E) (P : Type 0) (t : List (OrderKey × Option Order)) (key : OrderKey)
+    → OnErr r (place order_cmp t key ≡ None) → ((IsBlanked order_cmp t key → ⊥) → P) → OnErr r P
+kept-place (Ok x) P t key none same = none
+kept-place (Err x) P t key none same = same (λ b. let no : None ≡ Some None = sym none ∙ b in let clash : ⊥ = cc in
+    clash)

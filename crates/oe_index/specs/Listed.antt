@@ -1,5 +1,5 @@
 -- Keys in lists under numbers, and the rows that are found by a list.
-use Rattle.std.specs.Prelude.{◌≡◌, ◌≢◌, ◌↔◌, ℕ, ⊤, Bool, true, false, List, [], ◌∷◌, Option, None, Some, IsSome}
+use Rattle.std.specs.Prelude.{◌≡◌, ◌≢◌, ◌↔◌, ◌⊎◌, ℕ, ⊤, Bool, true, false, List, [], ◌∷◌, Option, None, Some, IsSome}
 use Rattle.std.specs.Prelude.{slice_index_or}
 use Rattle.std.specs.Ordering.{eq_by_cmp, nat_cmp}
 use Rattle.std.specs.Cmp.Lexicographic.{slice_cmp}
@@ -12,6 +12,17 @@ use Rattle.oe_rows.specs.declared.customers.Customer.{Customer}
 -- a list of keys
 abbrev pub Keys : Type 0 → Type 0
 Keys K = List (K × Option (Unit {0}))
+
+-- a table whose rows are found by lists too: its places, the keys that are listed under each number, and whether the
+-- lists stand; else they were given up
+pub record Indexed (K X : Type 0) : Type 0 where
+  pub places : List (K × Option X)
+  pub lists : List (Keys K)
+  pub is_listed : Bool
+
+-- the lists are as before, and stand where they did
+abbrev pub KeepsLists : {K X : Type 0} → Indexed K X → Indexed K X → Type 0
+KeepsLists old new = (new.lists ≡ old.lists) × (new.is_listed ≡ old.is_listed)
 
 -- a list of one key
 abbrev pub alone : {K : Type 0} → K → Keys K
@@ -40,6 +51,11 @@ module _ {K : Type 0} (cmp : K → K → Ordering) where
   -- each key that was listed is listed
   abbrev pub ListsMore : List (Keys K) → List (Keys K) → Type 0
   ListsMore old new = (n : ℕ) (k : K) → IsListed old n k → IsListed new n k
+
+  -- the key may be in the list under the number, and else each key is listed as before
+  pub record ListsAtMost (old new : List (Keys K)) (number : ℕ) (key : K) : Type 0 where
+    pub kept : ListsMore old new
+    pub only : (n : ℕ) (k : K) → IsListed new n k → IsListed old n k ⊎ ((n ≡ number) × (k ≡ key))
 
   -- the key is off the list under the number, and else each key is listed as before
   abbrev pub Unlists : List (Keys K) → List (Keys K) → ℕ → K → Type 0

@@ -1,11 +1,15 @@
 -- The numbers of lists: of the customers of a district and last name, and of a customer's orders.
-use Rattle.std.specs.Prelude.{ℕ, ◌+◌, ◌-◌, ◌*◌, ◌%◌, ◌==◌, Bool, false, List, [], ◌∷◌, Option, None, Some}
+use Rattle.std.specs.Prelude.{◌≡◌, ◌↔◌, true, ℕ, ◌+◌, ◌-◌, ◌*◌, ◌%◌, ◌==◌, Bool, false, List, []}
+use Rattle.std.specs.Prelude.{◌∷◌, Option, None, Some}
+use Rattle.std.specs.FinMap.{FinMap, get}
+use Rattle.oe_rows.specs.Key.{customer_cmp}
 use Rattle.oe_rows.specs.declared.keys.DistrictKey.{DistrictKey}
 use Rattle.oe_rows.specs.declared.keys.CustomerKey.{CustomerKey}
 use Rattle.oe_rows.specs.declared.keys.OrderKey.{OrderKey}
 use Rattle.oe_rows.specs.declared.customers.Customer.{Customer}
 use Rattle.oe_rows.specs.declared.orders.Order.{Order}
 use Rattle.oe_model.specs.Keys.{district_of_customer, customer_of_order}
+use Rattle.oe_index.specs.Listed.{Keys, IsListed}
 
 -- a number below 1,009 of a name's bytes, from the number of the bytes before them
 abbrev pub name_number_from : ℕ → List ℕ → ℕ
@@ -30,6 +34,15 @@ list_of_name k x = list_number (district_of_customer k) x.name.last
 abbrev pub is_list_of : ℕ → CustomerKey → Option Customer → Bool
 is_list_of n k None = false
 is_list_of n k (Some x) = list_of_name k x == n
+
+-- the customer is off the list of that number, unless that is the list of its own C_LAST, and else each customer is
+-- listed as before
+abbrev pub ForgetsName : FinMap customer_cmp Customer → List (Keys CustomerKey) → List (Keys CustomerKey) → ℕ
+    → CustomerKey → Type 0
+ForgetsName m old new number key =
+    (n : ℕ) (k : CustomerKey)
+    → IsListed customer_cmp new n k
+    ↔ (IsListed customer_cmp old n k × ((n ≡ number) × (k ≡ key) → is_list_of number key (get m key) ≡ true))
 
 -- the number of the list of a customer's orders
 abbrev pub owner_number : CustomerKey → ℕ

@@ -7,9 +7,9 @@
 //! and leave it in the list of the name before, until `forget_name` takes it off there: so `swap`
 //! and `put_back`, which may not take memory, find it listed where they put that name back. Where
 //! they put one under which it is not listed, they give the lists up. Only `put_new`, and
-//! `set_names` and `replace` for another last name, take memory; where that is refused the table is
-//! as before.
-ghost use Rattle.std.specs.Prelude.{◌≡◌, Some, None, OnOk, OnErr, IfOk, IsSome, []};
+//! `set_names` and `replace` for another last name, take memory; where that is refused the rows are
+//! as before. Each call tells which keys are listed after it, and whether the lists stand.
+ghost use Rattle.std.specs.Prelude.{◌≡◌, ◌↔◌, true, Some, None, OnOk, OnErr, IfOk, IfSome, IsSome, IsTrue, []};
 ghost use Rattle.std.specs.Option.{option_copied};
 ghost use Rattle.std.specs.FinMap.{entries};
 ghost use Rattle.std.specs.FinMap as map;
@@ -20,9 +20,11 @@ ghost use Rattle.oe_rows.specs.Before.{with_customer};
 ghost use Rattle.oe_rows.specs.Credit.{with_entry};
 ghost use Rattle.oe_rows.specs.declared.customers.Customer.{Customer};
 ghost use Rattle.oe_model.specs.Choice.{namesakes};
+ghost use Rattle.oe_model.specs.Keys.{district_of_customer};
 ghost use Rattle.oe_model.specs.Rename.{with_names};
 ghost use Rattle.oe_table.specs.Table.{rows_of, GivesUpBlanked, SetsPlace, RewritesRow};
-ghost use Rattle.oe_index.specs.Listed.{HasOtherName};
+ghost use Rattle.oe_index.specs.Listed.{IsListed, ListsAtMost, KeepsLists, HasOtherName};
+ghost use Rattle.oe_index.specs.Numbers.{list_number, list_of_name, ForgetsName};
 ghost use Rattle.oe_index.specs.Own.{named_of};
 
 use crate::flags::are_both;
@@ -37,7 +39,8 @@ use oe_values::{NoMemory, Text};
 use std::alloc::Global;
 use std::marker::Model;
 
-/// The CUSTOMER rows by their keys, seen as a table of shelves: as the list of its places.
+/// The CUSTOMER rows by their keys, seen as a table of shelves, as the list of its places, with the
+/// lists of keys, and whether these stand.
 #[derive(Drop)]
 pub struct Customers {
     rows: Shelves<CustomerKey, Customer>,
@@ -46,17 +49,16 @@ pub struct Customers {
 }
 
 impl Model for Customers {
-    ghost use Rattle.std.specs.Prelude.{List, Option};
     ghost use Rattle.oe_rows.specs.Key.{customer_cmp};
     ghost use Rattle.oe_rows.specs.declared.keys.CustomerKey.{CustomerKey};
     ghost use Rattle.oe_rows.specs.declared.customers.Customer.{Customer};
     ghost use Rattle.oe_table.specs.Table.{rows_of};
-    ghost use Rattle.oe_index.specs.Listed.{AreListed};
+    ghost use Rattle.oe_index.specs.Listed.{Indexed, AreListed};
     ghost use Rattle.oe_index.specs.Numbers.{list_of_name};
 
-    ghost Value = { List (CustomerKey × Option Customer) };
+    ghost Value = { Indexed CustomerKey Customer };
 
-    ghost view = { λ t. t.rows };
+    ghost view = { λ t. record { places = t.rows; lists = t.lists; is_listed = t.is_listed } };
 
     ghost invariant = { λ t.
         AreListed customer_cmp list_of_name t.is_listed t.lists (rows_of customer_cmp t.rows) };
@@ -65,8 +67,10 @@ impl Model for Customers {
 impl Customers {
     /// Makes a table without a place, which takes no memory.
     pub fn new(alloc: Global) -> Self
-        ensures places { result ≡ [] }
-        ensures rows { rows_of customer_cmp result ≡ map.empty }
+        ensures places { result.places ≡ [] }
+        ensures rows { rows_of customer_cmp result.places ≡ map.empty }
+        ensures lists { result.lists ≡ [] }
+        ensures listed { result.is_listed ≡ true }
     {
         Customers {
             rows: Shelves::new(alloc),
@@ -77,7 +81,7 @@ impl Customers {
 
     /// Gives the row at a key.
     pub fn get(&self, key: &CustomerKey) -> Option<&Customer>
-        ensures { option_copied result ≡ map.get (rows_of customer_cmp self.now) key.now }
+        ensures { option_copied result ≡ map.get (rows_of customer_cmp self.now.places) key.now }
     {
         self.rows.get(key)
     }
@@ -90,14 +94,22 @@ impl Customers {
         self.rows.reserve(key, more)
     }
 
-    /// Puts a row at a key that has none. `NoMemory` comes where there was none for the key's place
-    /// or for its list; the table is then as before, and the row is dropped.
+    /// Puts a row at a key that has none, and lists the customer under its C_LAST. `NoMemory` comes
+    /// where there was none for the key's place or for its list; the rows are then as before, and
+    /// the row is dropped.
     pub fn put_new(&mut self, key: CustomerKey, row: Customer) -> Result<(), NoMemory>
-        requires { map.get (rows_of customer_cmp self.old) key ≡ None }
-        ensures ok { OnOk result (SetsPlace customer_cmp self.old self.new key (Some row)) }
+        requires { map.get (rows_of customer_cmp self.old.places) key ≡ None }
+        ensures ok { OnOk result
+            (SetsPlace customer_cmp self.old.places self.new.places key (Some row)) }
         ensures rows { OnOk result
-            (rows_of customer_cmp self.new ≡ map.insert (rows_of customer_cmp self.old) key row) }
-        ensures err { OnErr result (self.new ≡ self.old) }
+            (rows_of customer_cmp self.new.places
+            ≡ map.insert (rows_of customer_cmp self.old.places) key row) }
+        ensures lists { ListsAtMost customer_cmp self.old.lists self.new.lists
+            (list_of_name key row) key }
+        ensures listed { OnOk result
+            (IsListed customer_cmp self.new.lists (list_of_name key row) key) }
+        ensures stand { self.new.is_listed ≡ self.old.is_listed }
+        ensures err { OnErr result (self.new.places ≡ self.old.places) }
     {
         if let Err(refusal) = list(&mut self.lists, &key, &row.name.last) {
             return Err(refusal);
@@ -109,11 +121,14 @@ impl Customers {
     /// takes no memory: where the customer is not listed under the new C_LAST, all lists are given
     /// up.
     pub fn swap(&mut self, key: &CustomerKey, row: Customer) -> Customer
-        requires { IsSome (map.get (rows_of customer_cmp self.old) key.now) }
-        ensures before { map.get (rows_of customer_cmp self.old) key.now ≡ Some result }
-        ensures places { SetsPlace customer_cmp self.old self.new key.now (Some row) }
-        ensures rows { rows_of customer_cmp self.new
-            ≡ map.insert (rows_of customer_cmp self.old) key.now row }
+        requires { IsSome (map.get (rows_of customer_cmp self.old.places) key.now) }
+        ensures before { map.get (rows_of customer_cmp self.old.places) key.now ≡ Some result }
+        ensures places { SetsPlace customer_cmp self.old.places self.new.places key.now (Some row) }
+        ensures rows { rows_of customer_cmp self.new.places
+            ≡ map.insert (rows_of customer_cmp self.old.places) key.now row }
+        ensures lists { self.new.lists ≡ self.old.lists }
+        ensures stand { IsTrue self.new.is_listed ↔ (IsTrue self.old.is_listed
+            × IsListed customer_cmp self.old.lists (list_of_name key.now row) key.now) }
     {
         let stays = is_under(&self.lists, &self.rows, key, &row.name.last);
         self.is_listed = are_both(self.is_listed, stays);
@@ -124,15 +139,21 @@ impl Customers {
     /// `NoMemory` comes only where its C_LAST is another and there was none for that one's list;
     /// the table is then as before, and the row is dropped.
     pub fn replace(&mut self, key: &CustomerKey, row: Customer) -> Result<Customer, NoMemory>
-        requires { IsSome (map.get (rows_of customer_cmp self.old) key.now) }
+        requires { IsSome (map.get (rows_of customer_cmp self.old.places) key.now) }
         ensures before { IfOk result
-            (λ c. map.get (rows_of customer_cmp self.old) key.now ≡ Some c) }
-        ensures places { OnOk result (SetsPlace customer_cmp self.old self.new key.now (Some row)) }
-        ensures rows { OnOk result (rows_of customer_cmp self.new
-            ≡ map.insert (rows_of customer_cmp self.old) key.now row) }
-        ensures err { OnErr result (self.new ≡ self.old) }
+            (λ c. map.get (rows_of customer_cmp self.old.places) key.now ≡ Some c) }
+        ensures places { OnOk result
+            (SetsPlace customer_cmp self.old.places self.new.places key.now (Some row)) }
+        ensures rows { OnOk result (rows_of customer_cmp self.new.places
+            ≡ map.insert (rows_of customer_cmp self.old.places) key.now row) }
+        ensures lists { ListsAtMost customer_cmp self.old.lists self.new.lists
+            (list_of_name key.now row) key.now }
+        ensures listed { OnOk result (IsTrue self.new.is_listed
+            → IsListed customer_cmp self.new.lists (list_of_name key.now row) key.now) }
+        ensures stand { self.new.is_listed ≡ self.old.is_listed }
+        ensures err { OnErr result (self.new.places ≡ self.old.places) }
         ensures renamed { OnErr result
-            (HasOtherName row.name.last (map.get (rows_of customer_cmp self.old) key.now)) }
+            (HasOtherName row.name.last (map.get (rows_of customer_cmp self.old.places) key.now)) }
     {
         if let Err(refusal) = list_renamed(&mut self.lists, &self.rows, key, &row.name.last) {
             return Err(refusal);
@@ -148,14 +169,20 @@ impl Customers {
         last: &Text<0, 16>,
         first: &Text<0, 16>,
     ) -> Result<(), NoMemory>
-        requires { IsSome (map.get (rows_of customer_cmp self.old) key.now) }
+        requires { IsSome (map.get (rows_of customer_cmp self.old.places) key.now) }
         ensures ok { OnOk result
-            ((c : Customer) → map.get (rows_of customer_cmp self.old) key.now ≡ Some c
-            → RewritesRow customer_cmp self.old self.new key.now
+            ((c : Customer) → map.get (rows_of customer_cmp self.old.places) key.now ≡ Some c
+            → RewritesRow customer_cmp self.old.places self.new.places key.now
             (with_names last.now first.now c)) }
-        ensures err { OnErr result (self.new ≡ self.old) }
+        ensures lists { ListsAtMost customer_cmp self.old.lists self.new.lists
+            (list_number (district_of_customer key.now) last.now) key.now }
+        ensures listed { OnOk result (IsTrue self.new.is_listed
+            → IsListed customer_cmp self.new.lists
+            (list_number (district_of_customer key.now) last.now) key.now) }
+        ensures stand { self.new.is_listed ≡ self.old.is_listed }
+        ensures err { OnErr result (self.new.places ≡ self.old.places) }
         ensures renamed { OnErr result
-            (HasOtherName last.now (map.get (rows_of customer_cmp self.old) key.now)) }
+            (HasOtherName last.now (map.get (rows_of customer_cmp self.old.places) key.now)) }
     {
         if let Err(refusal) = list_renamed(&mut self.lists, &self.rows, key, last) {
             return Err(refusal);
@@ -169,7 +196,11 @@ impl Customers {
     /// Takes a customer off the list of a C_LAST that nobody finds it by any more. Where its own
     /// C_LAST has the same list, it stays listed there.
     pub fn forget_name(&mut self, key: &CustomerKey, last: &Text<0, 16>)
-        ensures { self.new ≡ self.old }
+        ensures places { self.new.places ≡ self.old.places }
+        ensures lists { ForgetsName (rows_of customer_cmp self.old.places)
+            self.old.lists self.new.lists
+            (list_number (district_of_customer key.now) last.now) key.now }
+        ensures stand { self.new.is_listed ≡ self.old.is_listed }
     {
         let number = list_number(&key.district_key(), last);
         if is_own_list(&self.rows, key, number) {
@@ -180,10 +211,12 @@ impl Customers {
 
     /// Sets the account of the row at a key that has a row.
     pub fn set_account(&mut self, key: &CustomerKey, account: &Account)
-        requires { IsSome (map.get (rows_of customer_cmp self.old) key.now) }
-        ensures { (c : Customer) → map.get (rows_of customer_cmp self.old) key.now ≡ Some c
-            → RewritesRow customer_cmp self.old self.new key.now
+        requires { IsSome (map.get (rows_of customer_cmp self.old.places) key.now) }
+        ensures row { (c : Customer)
+            → map.get (rows_of customer_cmp self.old.places) key.now ≡ Some c
+            → RewritesRow customer_cmp self.old.places self.new.places key.now
             (record c { account = account.now }) }
+        ensures lists { KeepsLists self.old self.new }
     {
         let customer = self.rows.row_mut(key).unwrap();
         customer.account = *account;
@@ -192,10 +225,12 @@ impl Customers {
     /// Sets the account of the row at a key that has a row, and puts an entry before C_DATA, where
     /// what passes 500 bytes is discarded (clause 2.5.2.2).
     pub fn set_bad_credit(&mut self, key: &CustomerKey, account: &Account, entry: &Text<0, 90>)
-        requires { IsSome (map.get (rows_of customer_cmp self.old) key.now) }
-        ensures { (c : Customer) → map.get (rows_of customer_cmp self.old) key.now ≡ Some c
-            → RewritesRow customer_cmp self.old self.new key.now
+        requires { IsSome (map.get (rows_of customer_cmp self.old.places) key.now) }
+        ensures row { (c : Customer)
+            → map.get (rows_of customer_cmp self.old.places) key.now ≡ Some c
+            → RewritesRow customer_cmp self.old.places self.new.places key.now
             (with_entry account.now entry.now c) }
+        ensures lists { KeepsLists self.old self.new }
     {
         let debtor = self.rows.row_mut(key).unwrap();
         debtor.account = *account;
@@ -205,9 +240,15 @@ impl Customers {
     /// Puts columns before an update back on the row at a key that has a row. It takes no memory:
     /// where C_LAST is among them and the customer is not listed under it, all lists are given up.
     pub fn put_back(&mut self, key: &CustomerKey, columns: CustomerBefore)
-        requires { IsSome (map.get (rows_of customer_cmp self.old) key.now) }
-        ensures { (c : Customer) → map.get (rows_of customer_cmp self.old) key.now ≡ Some c
-            → RewritesRow customer_cmp self.old self.new key.now (with_customer columns c) }
+        requires { IsSome (map.get (rows_of customer_cmp self.old.places) key.now) }
+        ensures row { (c : Customer)
+            → map.get (rows_of customer_cmp self.old.places) key.now ≡ Some c
+            → RewritesRow customer_cmp self.old.places self.new.places key.now
+            (with_customer columns c) }
+        ensures lists { self.new.lists ≡ self.old.lists }
+        ensures stand { IsTrue self.new.is_listed ↔ (IsTrue self.old.is_listed
+            × IfSome columns.name.last (λ last. IsListed customer_cmp self.old.lists
+            (list_number (district_of_customer key.now) last) key.now)) }
     {
         let stays = is_under_before(&self.lists, key, &columns.name.last);
         self.is_listed = are_both(self.is_listed, stays);
@@ -217,15 +258,16 @@ impl Customers {
 
     /// Gives up the places of all blanked keys, which stay listed. It takes no memory.
     pub fn sweep(&mut self)
-        ensures places { GivesUpBlanked customer_cmp self.old self.new }
-        ensures rows { rows_of customer_cmp self.new ≡ rows_of customer_cmp self.old }
+        ensures places { GivesUpBlanked customer_cmp self.old.places self.new.places }
+        ensures rows { rows_of customer_cmp self.new.places ≡ rows_of customer_cmp self.old.places }
+        ensures lists { KeepsLists self.old self.new }
     {
         self.rows.sweep();
     }
 
     /// Gives the rows with their keys, in the keys' order.
     pub fn iter(&self) -> Rows<'_, CustomerKey, Customer>
-        ensures { result ≡ entries (rows_of customer_cmp self.now) }
+        ensures { result ≡ entries (rows_of customer_cmp self.now.places) }
     {
         self.rows.iter()
     }
@@ -233,7 +275,7 @@ impl Customers {
     /// Gives the keys that have a place, in their order, each with its row or, where it was
     /// blanked, `None`.
     pub fn places(&self) -> Candidates<'_, CustomerKey, Customer>
-        ensures { result ≡ self.now }
+        ensures { result ≡ self.now.places }
     {
         self.rows.places()
     }
@@ -247,14 +289,16 @@ impl Customers {
         requires { IsLeBy customer_cmp from to }
         ensures { result
             ≡ entries_between customer_cmp (Included from) (Included to)
-            (entries (rows_of customer_cmp self.now)) }
+            (entries (rows_of customer_cmp self.now.places)) }
     {
         self.rows.range_inclusive(from, to)
     }
 
     /// Tells whether the lists stand, so that a walk over namesakes is not the other walk. It is a
     /// hint, on which no answer rests.
-    pub fn is_listed(&self) -> bool {
+    pub fn is_listed(&self) -> bool
+        ensures { result ≡ self.now.is_listed }
+    {
         self.is_listed
     }
 
@@ -268,9 +312,10 @@ impl Customers {
         others: Rows<'a, CustomerKey, Customer>,
     ) -> Found<'a, CustomerKey, Customer>
         requires { named_of district.now last.now others
-            ≡ namesakes district.now last.now (rows_of customer_cmp self.now) }
+            ≡ namesakes district.now last.now (rows_of customer_cmp self.now.places) }
         ensures { named_of district.entry.now last.entry.now result
-            ≡ namesakes district.entry.now last.entry.now (rows_of customer_cmp self.entry.now) }
+            ≡ namesakes district.entry.now last.entry.now
+            (rows_of customer_cmp self.entry.now.places) }
     {
         let number = list_number(district, last);
         Found {

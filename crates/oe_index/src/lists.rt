@@ -5,7 +5,7 @@
 //! is listed as before.
 ghost use Rattle.std.specs.Prelude.{◌≡◌, ◌↔◌, ◌<◌, ◌≤◌, ℕ, [], ◌++◌, replicate, vec_len, OnOk, OnErr, IsTrue, slice_index_or};
 ghost use Rattle.oe_table.specs.Shelf.{IsAscending};
-ghost use Rattle.oe_index.specs.Listed.{IsListed, ListsMore, Unlists};
+ghost use Rattle.oe_index.specs.Listed.{IsListed, ListsAtMost, Unlists};
 
 use crate::key_lists::{KeyList, KeyWalk};
 use oe_values::{NoMemory, ShelvedKey};
@@ -88,9 +88,10 @@ impl<K: ShelvedKey> Lists<K> {
     where
         K: Copy + Drop,
         requires { number < 1_000_000 }
-        ensures kept { ListsMore K.cmp self.old self.new }
+        ensures lists { ListsAtMost K.cmp self.old self.new number key }
         ensures listed { OnOk result (IsListed K.cmp self.new number key) }
         ensures unlisted { OnErr result (¬ IsListed K.cmp self.old number key) }
+        ensures refused { OnErr result (¬ IsListed K.cmp self.new number key) }
     {
         if let Err(refusal) = reach(&mut self.lists, self.alloc, number) {
             return Err(refusal);

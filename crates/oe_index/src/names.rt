@@ -7,7 +7,7 @@ ghost use Rattle.std.specs.FinMap as map;
 ghost use Rattle.oe_rows.specs.Key.{customer_cmp};
 ghost use Rattle.oe_table.specs.Table.{rows_of};
 ghost use Rattle.oe_model.specs.Keys.{district_of_customer};
-ghost use Rattle.oe_index.specs.Listed.{IsListed, ListsMore, is_name};
+ghost use Rattle.oe_index.specs.Listed.{IsListed, ListsAtMost, is_name};
 ghost use Rattle.oe_index.specs.Numbers.{list_number, is_list_of};
 
 use crate::lists::Lists;
@@ -23,7 +23,8 @@ pub(crate) fn list(
     key: &CustomerKey,
     last: &Text<0, 16>,
 ) -> Result<(), NoMemory>
-    ensures kept { ListsMore customer_cmp lists.old lists.new }
+    ensures lists { ListsAtMost customer_cmp lists.old lists.new
+        (list_number (district_of_customer key.now) last.now) key.now }
     ensures listed { OnOk result (IsListed customer_cmp lists.new
         (list_number (district_of_customer key.now) last.now) key.now) }
 {
@@ -48,7 +49,8 @@ pub(crate) fn list_renamed(
     key: &CustomerKey,
     last: &Text<0, 16>,
 ) -> Result<(), NoMemory>
-    ensures kept { ListsMore customer_cmp lists.old lists.new }
+    ensures lists { ListsAtMost customer_cmp lists.old lists.new
+        (list_number (district_of_customer key.now) last.now) key.now }
     ensures listed { OnOk result
         (is_name last.now (map.get (rows_of customer_cmp rows.now) key.now) ≡ false
         → IsListed customer_cmp lists.new

@@ -8,8 +8,9 @@
 //! stays listed, so that an order of the same customer fills its place again without memory; one
 //! that is removed is off its list. Only `put_new` takes memory, for a key's place and for its
 //! customer's list, where it has none or is not in that list; it is refused only for a key without
-//! a place, and the table is then as before.
-ghost use Rattle.std.specs.Prelude.{◌≡◌, true, Some, None, Ok, OnOk, OnErr, IsSome, []};
+//! a place, and the rows are then as before. Each call tells which keys are listed after it, and
+//! whether the lists stand.
+ghost use Rattle.std.specs.Prelude.{◌≡◌, ◌↔◌, true, Some, None, Ok, OnOk, OnErr, IsSome, IsTrue, []};
 ghost use Rattle.std.specs.Option.{option_copied};
 ghost use Rattle.std.specs.FinMap.{entries};
 ghost use Rattle.std.specs.FinMap as map;
@@ -21,7 +22,7 @@ ghost use Rattle.oe_rows.specs.declared.orders.Order.{Order};
 ghost use Rattle.oe_model.specs.Keys.{customer_of_order};
 ghost use Rattle.oe_model.specs.Queries.{orders_of};
 ghost use Rattle.oe_table.specs.Table.{place, rows_of, GivesUpBlanked, IsBlanked, LosesPlace, SetsPlace, RewritesRow};
-ghost use Rattle.oe_index.specs.Listed.{IsListed, ListsMore, Unlists};
+ghost use Rattle.oe_index.specs.Listed.{IsListed, ListsAtMost, KeepsLists, Unlists};
 ghost use Rattle.oe_index.specs.Numbers.{list_of_owner};
 ghost use Rattle.oe_index.specs.Own.{own_of, is_owner};
 
@@ -36,7 +37,8 @@ use oe_values::{Carrier, CustomerNumber, NoMemory};
 use std::alloc::Global;
 use std::marker::Model;
 
-/// The ORDER rows by their keys, seen as a table of shelves: as the list of its places.
+/// The ORDER rows by their keys, seen as a table of shelves, as the list of its places, with the
+/// lists of keys, and whether these stand.
 #[derive(Drop)]
 pub struct Orders {
     rows: Shelves<OrderKey, Order>,
@@ -45,17 +47,16 @@ pub struct Orders {
 }
 
 impl Model for Orders {
-    ghost use Rattle.std.specs.Prelude.{List, Option};
     ghost use Rattle.oe_rows.specs.Key.{order_cmp};
     ghost use Rattle.oe_rows.specs.declared.keys.OrderKey.{OrderKey};
     ghost use Rattle.oe_rows.specs.declared.orders.Order.{Order};
     ghost use Rattle.oe_table.specs.Table.{rows_of};
-    ghost use Rattle.oe_index.specs.Listed.{AreListed};
+    ghost use Rattle.oe_index.specs.Listed.{Indexed, AreListed};
     ghost use Rattle.oe_index.specs.Numbers.{list_of_owner};
 
-    ghost Value = { List (OrderKey × Option Order) };
+    ghost Value = { Indexed OrderKey Order };
 
-    ghost view = { λ t. t.rows };
+    ghost view = { λ t. record { places = t.rows; lists = t.lists; is_listed = t.is_listed } };
 
     ghost invariant = { λ t.
         AreListed order_cmp list_of_owner t.is_listed t.lists (rows_of order_cmp t.rows) };
@@ -71,13 +72,16 @@ fn list(
     key: &OrderKey,
     row: &Order,
 ) -> Result<(), NoMemory>
-    ensures kept { ListsMore order_cmp lists.old lists.new }
+    ensures lists { ListsAtMost order_cmp lists.old lists.new
+        (list_of_owner key.now row.now) key.now }
     ensures listed { OnOk result (is_listed.new ≡ true
         → IsListed order_cmp lists.new (list_of_owner key.now row.now) key.now) }
     ensures same { IsListed order_cmp lists.old (list_of_owner key.now row.now) key.now
         → (is_listed.new ≡ is_listed.old) × (result ≡ Ok tt) }
     ensures given_up { ¬ IsBlanked order_cmp rows.now key.now → is_listed.new ≡ is_listed.old }
     ensures only_less { is_listed.new ≡ true → is_listed.old ≡ true }
+    ensures stand { IsListed order_cmp lists.new (list_of_owner key.now row.now) key.now
+        → is_listed.new ≡ is_listed.old }
     ensures refused { OnErr result (¬ IsBlanked order_cmp rows.now key.now) }
 {
     let owner = key.district_key().customer(row.customer);
@@ -102,8 +106,10 @@ fn unlist(lists: &mut Lists<OrderKey>, key: &OrderKey, row: &Order)
 impl Orders {
     /// Makes a table without a place, which takes no memory.
     pub fn new(alloc: Global) -> Self
-        ensures places { result ≡ [] }
-        ensures rows { rows_of order_cmp result ≡ map.empty }
+        ensures places { result.places ≡ [] }
+        ensures rows { rows_of order_cmp result.places ≡ map.empty }
+        ensures lists { result.lists ≡ [] }
+        ensures listed { result.is_listed ≡ true }
     {
         Orders {
             rows: Shelves::new(alloc),
@@ -115,21 +121,29 @@ impl Orders {
 
     /// Gives the row at a key; a blanked key and one without a place have none.
     pub fn get(&self, key: &OrderKey) -> Option<&Order>
-        ensures { option_copied result ≡ map.get (rows_of order_cmp self.now) key.now }
+        ensures { option_copied result ≡ map.get (rows_of order_cmp self.now.places) key.now }
     {
         self.rows.get(key)
     }
 
     /// Puts a row at a key that has none. `NoMemory` comes only for a key without a place, where
-    /// there was none for the place or for the customer's list; the table is then as before. A
-    /// blanked key that is listed under the customer takes no memory, and no list is given up.
+    /// there was none for the place or for the customer's list; the rows are then as before. The
+    /// lists stand on exactly where the order is listed under its customer. A blanked key that is
+    /// listed there takes no memory.
     pub fn put_new(&mut self, key: OrderKey, row: Order) -> Result<(), NoMemory>
-        requires { map.get (rows_of order_cmp self.old) key ≡ None }
-        ensures ok { OnOk result (SetsPlace order_cmp self.old self.new key (Some row)) }
+        requires { map.get (rows_of order_cmp self.old.places) key ≡ None }
+        ensures ok { OnOk result
+            (SetsPlace order_cmp self.old.places self.new.places key (Some row)) }
         ensures rows { OnOk result
-            (rows_of order_cmp self.new ≡ map.insert (rows_of order_cmp self.old) key row) }
-        ensures err { OnErr result (self.new ≡ self.old) }
-        ensures no_place { OnErr result (place order_cmp self.old key ≡ None) }
+            (rows_of order_cmp self.new.places
+            ≡ map.insert (rows_of order_cmp self.old.places) key row) }
+        ensures lists { ListsAtMost order_cmp self.old.lists self.new.lists
+            (list_of_owner key row) key }
+        ensures stand { OnOk result (IsTrue self.new.is_listed ↔ (IsTrue self.old.is_listed
+            × IsListed order_cmp self.new.lists (list_of_owner key row) key)) }
+        ensures err { OnErr result (self.new.places ≡ self.old.places) }
+        ensures err_stand { OnErr result (self.new.is_listed ≡ self.old.is_listed) }
+        ensures no_place { OnErr result (place order_cmp self.old.places key ≡ None) }
     {
         if let Err(refusal) = list(&mut self.lists, &mut self.is_listed, &self.rows, &key, &row) {
             return Err(refusal);
@@ -141,11 +155,15 @@ impl Orders {
     /// Puts another row in the place of the one at a key that has a row, and answers that one.
     /// Where it is another customer's, all lists are given up.
     pub fn swap(&mut self, key: &OrderKey, row: Order) -> Order
-        requires { IsSome (map.get (rows_of order_cmp self.old) key.now) }
-        ensures before { map.get (rows_of order_cmp self.old) key.now ≡ Some result }
-        ensures places { SetsPlace order_cmp self.old self.new key.now (Some row) }
-        ensures rows { rows_of order_cmp self.new
-            ≡ map.insert (rows_of order_cmp self.old) key.now row }
+        requires { IsSome (map.get (rows_of order_cmp self.old.places) key.now) }
+        ensures before { map.get (rows_of order_cmp self.old.places) key.now ≡ Some result }
+        ensures places { SetsPlace order_cmp self.old.places self.new.places key.now (Some row) }
+        ensures rows { rows_of order_cmp self.new.places
+            ≡ map.insert (rows_of order_cmp self.old.places) key.now row }
+        ensures lists { self.new.lists ≡ self.old.lists }
+        ensures stand { IsTrue self.new.is_listed ↔ (IsTrue self.old.is_listed
+            × IsTrue (is_owner row.customer
+            (map.get (rows_of order_cmp self.old.places) key.now))) }
     {
         let stays = self.has_owner(key, row.customer);
         self.is_listed = are_both(self.is_listed, stays);
@@ -155,7 +173,7 @@ impl Orders {
 
     // Whether the order of a key is the customer's of that number.
     fn has_owner(&self, key: &OrderKey, customer: CustomerNumber) -> bool
-        ensures { result ≡ is_owner customer (map.get (rows_of order_cmp self.now) key.now) }
+        ensures { result ≡ is_owner customer (map.get (rows_of order_cmp self.now.places) key.now) }
     {
         match self.get(key) {
             Some(row) => row.customer == customer,
@@ -165,10 +183,11 @@ impl Orders {
 
     /// Sets the carrier of the row at a key that has a row.
     pub fn set_carrier(&mut self, key: &OrderKey, carrier: Carrier)
-        requires { IsSome (map.get (rows_of order_cmp self.old) key.now) }
-        ensures { (o : Order) → map.get (rows_of order_cmp self.old) key.now ≡ Some o
-            → RewritesRow order_cmp self.old self.new key.now
+        requires { IsSome (map.get (rows_of order_cmp self.old.places) key.now) }
+        ensures row { (o : Order) → map.get (rows_of order_cmp self.old.places) key.now ≡ Some o
+            → RewritesRow order_cmp self.old.places self.new.places key.now
             (record o { carrier = Some carrier }) }
+        ensures lists { KeepsLists self.old self.new }
     {
         let order = self.rows.row_mut(key).unwrap();
         order.carrier = Some(carrier);
@@ -177,9 +196,12 @@ impl Orders {
     /// Puts columns before an update back on the row at a key that has a row. Where O_C_ID is among
     /// them, all lists are given up.
     pub fn put_back(&mut self, key: &OrderKey, columns: OrderBefore)
-        requires { IsSome (map.get (rows_of order_cmp self.old) key.now) }
-        ensures { (o : Order) → map.get (rows_of order_cmp self.old) key.now ≡ Some o
-            → RewritesRow order_cmp self.old self.new key.now (with_order columns o) }
+        requires { IsSome (map.get (rows_of order_cmp self.old.places) key.now) }
+        ensures row { (o : Order) → map.get (rows_of order_cmp self.old.places) key.now ≡ Some o
+            → RewritesRow order_cmp self.old.places self.new.places key.now (with_order columns o) }
+        ensures lists { self.new.lists ≡ self.old.lists }
+        ensures stand { IsTrue self.new.is_listed ↔ (IsTrue self.old.is_listed
+            × (columns.customer ≡ None)) }
     {
         let same_owner = columns.customer.is_none();
         self.is_listed = are_both(self.is_listed, same_owner);
@@ -189,11 +211,12 @@ impl Orders {
 
     /// Takes the row at a key that has one. The key keeps its place, blanked, and stays listed.
     pub fn blank(&mut self, key: &OrderKey) -> Order
-        requires { IsSome (map.get (rows_of order_cmp self.old) key.now) }
-        ensures before { map.get (rows_of order_cmp self.old) key.now ≡ Some result }
-        ensures places { SetsPlace order_cmp self.old self.new key.now None }
-        ensures rows { rows_of order_cmp self.new
-            ≡ map.remove (rows_of order_cmp self.old) key.now }
+        requires { IsSome (map.get (rows_of order_cmp self.old.places) key.now) }
+        ensures before { map.get (rows_of order_cmp self.old.places) key.now ≡ Some result }
+        ensures places { SetsPlace order_cmp self.old.places self.new.places key.now None }
+        ensures rows { rows_of order_cmp self.new.places
+            ≡ map.remove (rows_of order_cmp self.old.places) key.now }
+        ensures lists { KeepsLists self.old self.new }
     {
         self.rows.blank(key)
     }
@@ -201,11 +224,14 @@ impl Orders {
     /// Takes the row at a key that has one, and the key's place. The key is off its customer's
     /// list: no walk meets it again.
     pub fn remove(&mut self, key: &OrderKey) -> Order
-        requires { IsSome (map.get (rows_of order_cmp self.old) key.now) }
-        ensures before { map.get (rows_of order_cmp self.old) key.now ≡ Some result }
-        ensures places { LosesPlace order_cmp self.old self.new key.now }
-        ensures rows { rows_of order_cmp self.new
-            ≡ map.remove (rows_of order_cmp self.old) key.now }
+        requires { IsSome (map.get (rows_of order_cmp self.old.places) key.now) }
+        ensures before { map.get (rows_of order_cmp self.old.places) key.now ≡ Some result }
+        ensures places { LosesPlace order_cmp self.old.places self.new.places key.now }
+        ensures rows { rows_of order_cmp self.new.places
+            ≡ map.remove (rows_of order_cmp self.old.places) key.now }
+        ensures lists { Unlists order_cmp self.old.lists self.new.lists
+            (list_of_owner key.now result) key.now }
+        ensures stand { self.new.is_listed ≡ self.old.is_listed }
     {
         let row = self.rows.remove(key);
         unlist(&mut self.lists, key, &row);
@@ -214,15 +240,16 @@ impl Orders {
 
     /// Gives up the places of all blanked keys, which stay listed. It takes no memory.
     pub fn sweep(&mut self)
-        ensures places { GivesUpBlanked order_cmp self.old self.new }
-        ensures rows { rows_of order_cmp self.new ≡ rows_of order_cmp self.old }
+        ensures places { GivesUpBlanked order_cmp self.old.places self.new.places }
+        ensures rows { rows_of order_cmp self.new.places ≡ rows_of order_cmp self.old.places }
+        ensures lists { KeepsLists self.old self.new }
     {
         self.rows.sweep();
     }
 
     /// Gives the rows with their keys, in the keys' order.
     pub fn iter(&self) -> Rows<'_, OrderKey, Order>
-        ensures { result ≡ entries (rows_of order_cmp self.now) }
+        ensures { result ≡ entries (rows_of order_cmp self.now.places) }
     {
         self.rows.iter()
     }
@@ -230,7 +257,7 @@ impl Orders {
     /// Gives the keys that have a place, in their order, each with its row or, where it was
     /// blanked, `None`.
     pub fn places(&self) -> Candidates<'_, OrderKey, Order>
-        ensures { result ≡ self.now }
+        ensures { result ≡ self.now.places }
     {
         self.rows.places()
     }
@@ -240,7 +267,7 @@ impl Orders {
         requires { IsLeBy order_cmp from to }
         ensures { result
             ≡ entries_between order_cmp (Included from) (Included to)
-            (entries (rows_of order_cmp self.now)) }
+            (entries (rows_of order_cmp self.now.places)) }
     {
         self.rows.range_inclusive(from, to)
     }
@@ -253,9 +280,9 @@ impl Orders {
         others: Rows<'a, OrderKey, Order>,
     ) -> Found<'a, OrderKey, Order>
         requires { own_of customer.now others
-            ≡ orders_of customer.now (rows_of order_cmp self.now) }
+            ≡ orders_of customer.now (rows_of order_cmp self.now.places) }
         ensures { own_of customer.entry.now result
-            ≡ orders_of customer.entry.now (rows_of order_cmp self.entry.now) }
+            ≡ orders_of customer.entry.now (rows_of order_cmp self.entry.now.places) }
     {
         let number = owner_number(customer);
         Found {

@@ -157,9 +157,10 @@ at_address_there a h moment p e =
     let lt = unlike a.extent 65_535 (omega (arith, h.extent)) in
     rw (lt, le-leb _ _ h.extent, le-leb _ _ h.offset) e
 
-committed_there : (a : RecordAddress) (moment : ℕ) → moment ≤ 999_999_999_999
+committed_there : (a : RecordAddress) (moment : ℕ) → 1 ≤ moment → moment ≤ 999_999_999_999
     → at_address a moment ≡ Some (Committed a moment)
-committed_there a moment h = rw (unlike moment 18_446_744_073_709_551_615 (omega arith), le-leb _ _ h) refl
+committed_there a moment l h =
+    rw (unlike moment 18_446_744_073_709_551_615 (omega arith), le-leb _ _ l, le-leb _ _ h) refl
 
 AreNumbers : LinkNumbers → Type 0
 AreNumbers n = (n.0 < 256 ^ 2) × ((n.1.0 < 256 ^ 2) × (n.1.1 < 256 ^ 8))
@@ -173,8 +174,8 @@ previous_there (Own a) h = (
       (Own a) refl,
 )
 previous_there (Committed a moment) h = (
-  (omega (arith, h.0.extent), (omega (arith, h.0.offset), omega (arith, h.1))),
-  at_address_there a h.0 moment (Committed a moment) (committed_there a moment h.1),
+  (omega (arith, h.0.extent), (omega (arith, h.0.offset), omega (arith, h.1.1))),
+  at_address_there a h.0 moment (Committed a moment) (committed_there a moment h.1.0 h.1.1),
 )
 
 -- that a link stands for these numbers, and is in its ranges
@@ -188,8 +189,11 @@ at_address_back a moment h =
     chosen P (moment == 18_446_744_073_709_551_615) _ _
     (λ b y e. only P (Own a) y
     (h, ap (λ (m : ℕ). (a.extent, (a.offset, m))) (sym (eqb-true moment 18_446_744_073_709_551_615 b))) e)
-    (λ _. chosen P (nat_le moment 999_999_999_999) _ _
-    (λ b y e. only P (Committed a moment) y ((h, leb-true _ _ b), refl) e) (λ _ y e. none P y e))
+    (λ _. chosen P (nat_le 1 moment && nat_le moment 999_999_999_999) _ _
+    (λ b y e.
+    let t = both (nat_le 1 moment) (nat_le moment 999_999_999_999) b in
+    only P (Committed a moment) y ((h, (leb-true _ _ t.0, leb-true _ _ t.1)), refl) e)
+    (λ _ y e. none P y e))
 
 nothing_back : (extent offset moment : ℕ) → extent ≡ 65_535 → (p : Previous) → nothing_at offset moment ≡ Some p
     → IsLinkOf (extent, (offset, moment)) p

@@ -1,5 +1,6 @@
 -- What leads from a record to the previous one of its row, as three numbers: extent, offset and moment.
 use Rattle.std.specs.Prelude.{◌==◌, ◌≤◌, ◌&&◌, ⊤, ℕ, nat_le, List, ◌++◌, Option, Some, None, if◌then◌else◌}
+use Rattle.std.specs.Int.{IsInRange}
 use Rattle.oe_extent.specs.Images.{number, number_at}
 use Rattle.oe_fronts.specs.Fronts.{pair_at}
 use Rattle.oe_layout.specs.declared.links.RecordAddress.{RecordAddress}
@@ -28,10 +29,11 @@ pub record IsRecordAddress (a : RecordAddress) : Type 0 where
   pub extent : a.extent ≤ 4_095
   pub offset : a.offset ≤ 4_095
 
+-- a commit's moment is 1 or later
 abbrev pub IsPrevious : Previous → Type 0
 IsPrevious Nothing = ⊤
 IsPrevious (Own a) = IsRecordAddress a
-IsPrevious (Committed a moment) = IsRecordAddress a × (moment ≤ 999_999_999_999)
+IsPrevious (Committed a moment) = IsRecordAddress a × IsInRange 1 999_999_999_999 moment
 
 -- ---- read
 
@@ -47,7 +49,7 @@ read_as f (Some x) = with_rest x.1 (f x.0)
 abbrev pub at_address : RecordAddress → ℕ → Option Previous
 at_address a moment =
     if moment == 18_446_744_073_709_551_615 then Some (Own a)
-    else (if nat_le moment 999_999_999_999 then Some (Committed a moment) else None)
+    else (if nat_le 1 moment && nat_le moment 999_999_999_999 then Some (Committed a moment) else None)
 
 abbrev pub nothing_at : ℕ → ℕ → Option Previous
 nothing_at offset moment = if offset == 65_535 && moment == 0 then Some Nothing else None

@@ -1,7 +1,8 @@
 -- Undo records where they lie as bytes.
-use Rattle.std.specs.Prelude.{◌≡◌, ℕ, List, Option, Some, None}
+use Rattle.std.specs.Prelude.{◌≡◌, ℕ, List, Option, Some, None, option_map, option_and_then}
 use Rattle.oe_rows.specs.declared.keys.Key.{Key}
 use Rattle.oe_rows.specs.declared.keys.Key.TheVariants as key
+use Rattle.oe_rows.specs.declared.keys.CustomerKey.{CustomerKey}
 use Rattle.oe_rows.specs.declared.keys.NewOrderKey.{NewOrderKey}
 use Rattle.oe_rows.specs.declared.keys.Table.{Table}
 use Rattle.oe_rows.specs.declared.keys.Table.TheVariants as table
@@ -67,6 +68,12 @@ table_changed kind.ChangedStock = table.Stock
 abbrev pub deleted_new_order : model.Record → Option NewOrderKey
 deleted_new_order (model.DeletedNewOrder k v) = Some k
 deleted_new_order b = None
+
+-- the customer whose C_LAST before the change a record tells, with that name
+abbrev pub last_before : model.Record → Option (CustomerKey × List ℕ)
+last_before (model.UpdatedCustomer k v) = option_map (λ x. (k, x.name.last)) v
+last_before (model.ChangedCustomer k v) = option_and_then (λ x. option_map (λ last. (k, last)) x.name.last) v
+last_before b = None
 
 -- the key of a queue entry, where a record of that kind is of its delete
 abbrev pub queue_key : Key → Option NewOrderKey

@@ -1,5 +1,6 @@
 //! What leads from a record to the previous one of its row.
-ghost use Rattle.std.specs.Prelude.{◌≡◌, ◌≤◌};
+ghost use Rattle.std.specs.Prelude.{◌≡◌, ◌≤◌, ◌↔◌, IsSome, IfSome};
+ghost use Rattle.std.specs.Int.{IsInRange};
 ghost use Rattle.std.specs.Option.{option_map};
 ghost use Rattle.oe_layout.specs.declared.parts.TheConstants.{LINK_BYTES};
 ghost use Rattle.oe_layout.specs.Links.{link_numbers, previous_image, at_address, nothing_at, previous_of, previous_at};
@@ -8,6 +9,7 @@ use crate::parts::LINK_BYTES;
 use oe_extent::numbers::read_number;
 use oe_image::Imaged;
 use oe_values::numbers::{Moment, Number};
+use std::marker::Model;
 
 /// Where a record lies in the ring: the number of an extent, from 0 to 4,095, and the offset of the
 /// record's first byte there, from 0 to 4,095.
@@ -15,6 +17,67 @@ use oe_values::numbers::{Moment, Number};
 pub struct RecordAddress {
     pub extent: Number<0, 4_095>,
     pub offset: Number<0, 4_095>,
+}
+
+/// The moment that a commit made, from 1 to 999,999,999,999: moment 0 is before the first commit.
+#[derive(Clone, Copy, PartialEq, Eq)]
+pub struct CommitMoment {
+    commits: u64,
+}
+
+impl Model for CommitMoment {
+    ghost use Rattle.std.specs.Prelude.{ℕ};
+    ghost use Rattle.std.specs.Int.{IsInRange};
+
+    ghost Value = { ℕ };
+
+    ghost view = { λ m. m.commits };
+
+    ghost invariant = { λ m. IsInRange 1 999_999_999_999 m.commits };
+
+    ghost inverse = { λ n. record { commits = n } };
+}
+
+impl CommitMoment {
+    /// Makes the moment that the commit of this number made, where it is in the range.
+    #[inline]
+    pub fn new(commits: u64) -> Option<Self>
+        ensures variant { IsSome result ↔ IsInRange 1 999_999_999_999 commits }
+        ensures value { IfSome result (λ m. m ≡ commits) }
+    {
+        if commits == 0 || commits > 999_999_999_999 {
+            return None;
+        }
+        Some(CommitMoment { commits })
+    }
+
+    /// Makes it of a moment, which is not the first.
+    #[inline]
+    pub fn of(moment: Moment) -> Self
+        requires { 1 ≤ moment }
+        ensures { result ≡ moment }
+    {
+        CommitMoment {
+            commits: moment.get(),
+        }
+    }
+
+    /// Gives the number of commits up to it.
+    #[inline]
+    pub fn get(self) -> u64
+        ensures value { result ≡ self }
+        ensures range { IsInRange 1 999_999_999_999 result }
+    {
+        self.commits
+    }
+
+    /// Gives the moment.
+    #[inline]
+    pub fn moment(self) -> Moment
+        ensures { result ≡ self }
+    {
+        Moment::new(self.commits).unwrap()
+    }
 }
 
 /// The previous record of the same row.
@@ -25,7 +88,7 @@ pub enum Previous {
     /// Of the same transaction.
     Own(RecordAddress),
     /// Of a transaction whose commit made that moment.
-    Committed(RecordAddress, Moment),
+    Committed(RecordAddress, CommitMoment),
 }
 
 impl Previous {
@@ -73,7 +136,7 @@ fn at_address(address: RecordAddress, moment: u64) -> Option<Previous>
     if moment == u64::MAX {
         return Some(Previous::Own(address));
     }
-    match Moment::new(moment) {
+    match CommitMoment::new(moment) {
         Some(moment) => Some(Previous::Committed(address, moment)),
         None => None,
     }

@@ -1,5 +1,5 @@
 //! Undo records whose rows or columns are lent from where they lie, to be written.
-ghost use Rattle.std.specs.Prelude.{◌≡◌, ◌≤◌, ◌+◌, length};
+ghost use Rattle.std.specs.Prelude.{◌≡◌, ◌≤◌, ◌+◌, ◌↔◌, length, IsTrue};
 ghost use Rattle.oe_extent.specs.Images.{Writes};
 ghost use Rattle.oe_extent.specs.Strings.{IsFramed};
 ghost use Rattle.oe_layout.specs.declared.parts.TheConstants.{OTHER_BYTES, MOST_CONTENTS, MOST_BYTES};
@@ -7,7 +7,7 @@ ghost use Rattle.oe_layout.specs.Kinds.{kind_of};
 ghost use Rattle.oe_model.specs.Changes.{record_key};
 ghost use Rattle.oe_image.specs.Rows.{stock};
 ghost use Rattle.oe_model.specs.Lengths.{record_length, stock_length};
-ghost use Rattle.oe_layout.specs.Records.{contents, record_image, record_of_lent};
+ghost use Rattle.oe_layout.specs.Records.{contents, record_image, record_of_lent, IsOfLayout};
 
 use crate::kinds::RecordKind;
 use crate::links::Previous;
@@ -24,8 +24,8 @@ use oe_rows::items::Stock;
 use oe_rows::orders::{Order, OrderLine};
 use oe_rows::warehouses::Warehouse;
 use oe_rows::{
-    CustomerKey, DistrictKey, HistoryKey, Key, NewOrderKey, OrderKey, OrderLineKey, StockKey,
-    WarehouseKey,
+    CustomerKey, DistrictKey, HistoryKey, Key, Layout, NewOrderKey, OrderKey, OrderLineKey,
+    StockKey, WarehouseKey,
 };
 
 /// The undo record of a change, as it is written: its key, with the row before an update where that
@@ -77,6 +77,13 @@ impl<'a> LentRecord<'a> {
             LentRecord::ChangedOrderLine(_, _) => RecordKind::ChangedOrderLine,
             LentRecord::ChangedStock(_, _) => RecordKind::ChangedStock,
         }
+    }
+
+    /// Tells whether it may stand in a log of that layout.
+    pub fn is_of(&self, layout: Layout) -> bool
+        ensures { IsTrue result ↔ IsOfLayout layout (record_of_lent self.now) }
+    {
+        self.kind().is_of(layout)
     }
 
     /// Gives the key of the row that is changed.

@@ -4,6 +4,7 @@ ghost use Rattle.std.specs.Prelude.{◌≡◌};
 ghost use Rattle.oe_model.specs.Changes.{record_key};
 ghost use Rattle.oe_layout.specs.Kinds.{kind_of};
 ghost use Rattle.oe_layout.specs.Records.{record_of_own};
+ghost use Rattle.oe_layout.specs.Stored.{last_before};
 
 use crate::kinds::RecordKind;
 use oe_rows::before::{
@@ -18,6 +19,7 @@ use oe_rows::{
     CustomerKey, DistrictKey, HistoryKey, Key, NewOrderKey, OrderKey, OrderLineKey, StockKey,
     WarehouseKey,
 };
+use oe_values::Text;
 
 /// The undo record of a change, as it is read: its key, with the row before an update, or of each
 /// column that the update changed its value before. Before an insert there is no row, and the row
@@ -91,6 +93,21 @@ impl OwnRecord {
             OwnRecord::ChangedOrder(key, _) => Key::Order(*key),
             OwnRecord::ChangedOrderLine(key, _) => Key::OrderLine(*key),
             OwnRecord::ChangedStock(key, _) => Key::Stock(*key),
+        }
+    }
+
+    /// Gives the customer whose C_LAST before the change the record tells, with that name; none where
+    /// it tells none.
+    pub fn last_before(&self) -> Option<(CustomerKey, Text<0, 16>)>
+        ensures { result ≡ last_before (record_of_own self.now) }
+    {
+        match self {
+            OwnRecord::UpdatedCustomer(key, row) => Some((*key, row.name.last.copied())),
+            OwnRecord::ChangedCustomer(key, columns) => match &columns.name.last {
+                Some(last) => Some((*key, last.copied())),
+                None => None,
+            },
+            _ => None,
         }
     }
 }

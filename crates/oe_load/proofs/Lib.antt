@@ -5,3 +5,5 @@ pub mod FlatFacts
 pub mod TogetherFacts
 pub mod BusyFacts
 pub mod PickFacts
+pub mod OneFacts
+pub mod WholeFacts

@@ -7,3 +7,4 @@ pub mod Picks
 pub mod Scripts
 pub mod Turns
 pub mod Ends
+pub mod Laws

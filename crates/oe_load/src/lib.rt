@@ -4,6 +4,7 @@
 #![tactic(auto)]
 
 mod flats;
+mod laws;
 mod loads;
 mod origins;
 mod picks;
@@ -12,6 +13,7 @@ mod served;
 mod turns;
 mod watches;
 
+pub use laws::{scripts_are_one, turns_are_one};
 pub use loads::{LoadFault, run_load};
 pub use origins::Origin;
 pub use turns::Shortage;

@@ -331,7 +331,8 @@ fn advance(
             Ok(passed(terminal, &asked))
         }
         Advanced::Committed(_) => committed(plan, core, served, terminal, &asked, out),
-        Advanced::Refused(refusal) => {
+        Advanced::Kept(refusal) => refused(plan, core, served, terminal, &asked, &refusal, out),
+        Advanced::RolledBack(refusal) => {
             refused(plan, core, served, terminal, &asked, &refusal, out)
         }
     }

@@ -14,3 +14,4 @@ pub mod FullFacts
 pub mod StandsFacts
 pub mod LawFacts
 pub mod UsedFacts
+pub mod LayoutFacts

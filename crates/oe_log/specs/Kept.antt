@@ -11,7 +11,7 @@ use Rattle.oe_log.specs.Records.{Logged}
 use Rattle.oe_log.specs.Strings.{records_in, HoldsRecords}
 use Rattle.oe_log.specs.declared.heads.SegmentOwner.{SegmentOwner}
 use Rattle.oe_log.specs.declared.heads.TerminalHead.{TerminalHead}
-use Rattle.oe_log.specs.Log.{Open, TerminalState, Committed, SegmentLog}
+use Rattle.oe_log.specs.Log.{Open, TerminalState, Committed, SegmentLog, AreOfLayout}
 use Rattle.oe_log.specs.Stands.{model_records, DeletesNothing}
 
 -- a commit without its records
@@ -129,3 +129,9 @@ pub record IsKept (hs : List TerminalHead) (cs : List Head) (capacity : ℕ) (r 
   pub open_deletes : (t : ℕ) → (head_at hs t).deletes ≡ false
       → DeletesNothing (model_records (get_or (map records_in r.active) t []))
   pub commit_deletes : CommitsTell cs (map records_in r.committed)
+
+-- and each record is of the layout
+pub record IsLog (y : Layout) (hs : List TerminalHead) (cs : List Head) (capacity : ℕ) (r : ring.RingStrings)
+    (opens newest : ℕ) : Type 0 where
+  pub kept : IsKept hs cs capacity r opens newest
+  pub layout : AreOfLayout (stored y hs cs r)

@@ -1,12 +1,13 @@
 -- Transactions' segments as plain data, and what their calls do to them.
 use Rattle.std.specs.Prelude.{◌<◌, ◌≤◌, ℕ, suc, ◌+◌, ◌-◌, ◌==◌, cond, List, [], ◌∷◌, map, get_or, set, take, drop}
 use Rattle.std.specs.Prelude.{replicate, option_map, Option, None, Some, is_some}
-use Rattle.std.specs.List.{sum_by, count_by}
+use Rattle.std.specs.List.{sum_by, count_by, AllByRecursion}
 use Rattle.oe_values.specs.declared.numbers.TheConstants.{TERMINALS}
 use Rattle.oe_rows.specs.declared.layouts.Layout.{Layout}
 use Rattle.oe_requests.specs.declared.requests.Request.{Request}
 use Rattle.oe_requests.specs.declared.replies.Reply.{Reply}
 use Rattle.oe_extent.specs.Ring.{filled}
+use Rattle.oe_layout.specs.Records.{IsOfLayout}
 use Rattle.oe_layout.specs.declared.links.RecordAddress.{RecordAddress}
 use Rattle.oe_log.specs.Records.{Logged, lengths, StandElsewhere}
 use Rattle.oe_log.specs.declared.heads.SegmentOwner.{SegmentOwner}
@@ -167,3 +168,12 @@ IsFull v t n = ((filled (lengths (records_at v t))).1 < n) × (v.extents ≤ use
 pub record IsFresh (v : SegmentLog) (a : RecordAddress) : Type 0 where
   pub active : (t : ℕ) → StandElsewhere a (records_at v t)
   pub committed : (later : ℕ) → StandElsewhere a (get_or (committed_records v) later [])
+
+-- each of these records may stand in a log of that layout
+abbrev pub AreOf : Layout → List Logged → Type 0
+AreOf y rs = AllByRecursion (λ r. IsOfLayout y r.before) rs
+
+-- each record of a terminal or of a commit may stand in a log of its layout
+pub record AreOfLayout (v : SegmentLog) : Type 0 where
+  pub active : (t : ℕ) → AreOf v.layout (records_at v t)
+  pub committed : (later : ℕ) → AreOf v.layout (get_or (committed_records v) later [])

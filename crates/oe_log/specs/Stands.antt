@@ -1,12 +1,13 @@
 -- What segments stand for, in the words of the theory of transactions.
-use Rattle.std.specs.Prelude.{◌≡◌, ℕ, List, map, filter_map, None}
+use Rattle.std.specs.Prelude.{◌≡◌, ℕ, List, [], ◌∷◌, map, filter_map, Option, None}
 use Rattle.std.specs.List.{AllByRecursion}
+use Rattle.oe_rows.specs.declared.keys.CustomerKey.{CustomerKey}
 use Rattle.oe_rows.specs.declared.keys.NewOrderKey.{NewOrderKey}
 use Rattle.oe_model.specs.Changes.{Record}
 use Rattle.oe_model.specs.System.{system}
 use Rattle.oe_theory.specs.Undo.{Undo}
 use Rattle.oe_theory.specs.Store.{Seal}
-use Rattle.oe_layout.specs.Stored.{deleted_new_order}
+use Rattle.oe_layout.specs.Stored.{deleted_new_order, last_before}
 use Rattle.oe_log.specs.Records.{Logged}
 use Rattle.oe_log.specs.Log.{Committed, SegmentLog, records_at, count_at}
 
@@ -21,6 +22,12 @@ DeletesNothing bs = AllByRecursion (λ b. deleted_new_order b ≡ None) bs
 -- the keys of the NEW-ORDER rows that these records say were deleted
 abbrev pub deleted_keys : List Record → List NewOrderKey
 deleted_keys bs = filter_map deleted_new_order bs
+
+-- the customer whom a commit with these records has renamed, with its C_LAST before: a rename has one record
+abbrev pub renamed : List Record → Option (CustomerKey × List ℕ)
+renamed [] = None
+renamed (b ∷ []) = last_before b
+renamed (b ∷ c ∷ bs) = None
 
 -- the records of each open transaction and of each commit
 abbrev pub undo_of : SegmentLog → Undo system

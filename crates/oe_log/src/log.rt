@@ -2,8 +2,8 @@
 //!
 //! Records lie in the ring as byte strings: each terminal's open transaction has its slot, and a
 //! commit its place. Heads stand beside them: whose a segment is, and how many records it has. By
-//! the invariant each string is a record's, heads and strings are as many, and the ring and the
-//! list of commits have room for the commit of each open segment. `new` and `open_segment` may be
+//! the invariant each string is a record's of the log's layout, heads and strings are as many, and
+//! the ring and the list of commits have room for the commit of each open segment. `new` and `open_segment` may be
 //! refused memory, `push` is refused where the ring is full, and no other call is refused.
 ghost use Rattle.std.specs.Prelude.{◌≡◌, ℕ, replicate, IfOk};
 ghost use Rattle.oe_log.specs.Log.{no_segments};
@@ -72,14 +72,14 @@ pub struct Log {
 impl Model for Log {
     ghost use Rattle.std.specs.VecDeque.{deque_capacity};
     ghost use Rattle.oe_log.specs.Log.{SegmentLog};
-    ghost use Rattle.oe_log.specs.Kept.{stored, IsKept};
+    ghost use Rattle.oe_log.specs.Kept.{stored, IsLog};
 
     ghost Value = { SegmentLog };
 
     ghost view = { λ s. stored s.layout s.terminals s.commits.items s.ring };
 
-    ghost invariant = { λ s. IsKept s.terminals s.commits.items (deque_capacity s.commits)
-        s.ring s.open_count s.newest };
+    ghost invariant = { λ s. IsLog s.layout s.terminals s.commits.items
+        (deque_capacity s.commits) s.ring s.open_count s.newest };
 }
 
 /// Makes the terminals before anything was committed.

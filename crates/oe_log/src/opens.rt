@@ -3,7 +3,7 @@
 ghost use Rattle.std.specs.Prelude.{◌≡◌, ◌<◌, ◌↔◌, suc, false, [], length, option_map, None, IsSome, IsErr, IfOk, OnOk, OnErr};
 ghost use Rattle.oe_extent.specs.declared.sizes.TheConstants.{EXTENT_BYTES};
 ghost use Rattle.oe_model.specs.Lengths.{record_length};
-ghost use Rattle.oe_layout.specs.Records.{record_of_own, record_of_lent};
+ghost use Rattle.oe_layout.specs.Records.{record_of_own, record_of_lent, IsOfLayout};
 ghost use Rattle.oe_layout.specs.Stored.{deleted_new_order};
 ghost use Rattle.oe_log.specs.Records.{logged, newest_of};
 ghost use Rattle.oe_log.specs.Ticks.{ticked};
@@ -80,10 +80,12 @@ impl Log {
 
     /// Appends a record to an open segment, and answers its address, where no other record is. The
     /// row before an update is written from where it lies. `Full` exactly where the record fits
-    /// neither the rest of the segment's newest extent nor a free one. It takes no memory.
+    /// neither the rest of the segment's newest extent nor a free one. The record is of the log's
+    /// layout. It takes no memory.
     #[inline(always)]
     pub fn push(&mut self, segment: Segment, lent: &LinkedRecord<'_>) -> Result<RecordAddress, Full>
-        requires { IsSome (active_at self.old segment) }
+        requires open { IsSome (active_at self.old segment) }
+        requires layout { IsOfLayout self.old.layout (record_of_lent lent.now.record) }
         ensures pushed { IfOk result (λ a. self.new
             ≡ pushed self.old segment (logged a lent.now.previous
             (record_of_lent lent.now.record))) }

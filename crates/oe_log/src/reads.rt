@@ -4,8 +4,8 @@ ghost use Rattle.std.specs.Prelude.{◌≡◌, ◌<◌, ◌≤◌, ◌+◌, ◌�
 ghost use Rattle.oe_log.specs.Records.{HasAddress, IsRecordAt};
 ghost use Rattle.oe_model.specs.System.{system, terminal_limit};
 ghost use Rattle.oe_theory.specs.Store.{Slot, count_slots};
-ghost use Rattle.oe_log.specs.Log.{count_at, active_at, records_at, open_total, commits_of, committed_records, owner_of};
-ghost use Rattle.oe_log.specs.Stands.{model_records, deleted_keys, DeletesNothing};
+ghost use Rattle.oe_log.specs.Log.{count_at, active_at, records_at, open_total, commits_of, committed_records, owner_of, AreOfLayout};
+ghost use Rattle.oe_log.specs.Stands.{model_records, deleted_keys, renamed, DeletesNothing};
 ghost use Rattle.oe_log.specs.Ticks.{ticked};
 
 use crate::heads::SegmentOwner;
@@ -14,7 +14,8 @@ use crate::ticks::Ticks;
 use crate::walks::{Deleted, Records};
 use oe_extent::Address;
 use oe_layout::{Previous, RecordAddress, StoredRecord, linked_record};
-use oe_rows::Layout;
+use oe_rows::{CustomerKey, Layout};
+use oe_values::Text;
 use oe_values::numbers::{TERMINALS, Terminal, TransactionNumber};
 
 /// Gives a record's address as one of the ring.
@@ -46,6 +47,13 @@ impl Log {
     /// for proofs above, which see no invariant.
     pub fn terminals_are(&self)
         ensures { length self.now.terminals ≡ suc TERMINALS }
+    {
+        let _known = &self.terminals;
+    }
+
+    /// States that each record is of the log's layout.
+    pub fn is_of_layout(&self)
+        ensures { AreOfLayout self.now }
     {
         let _known = &self.terminals;
     }
@@ -163,9 +171,26 @@ impl Log {
         Deleted { records, has_any }
     }
 
-    /// Gives the records of a commit's segment, the newest first, where they lie. The commit is
-    /// given by the number of later ones. It takes no memory.
-    pub fn committed_records(&self, later: usize) -> Records<'_>
+    /// Gives the customer whom a commit renamed, with its C_LAST before; none where it renamed
+    /// nobody. The commit is given by the number of later ones. A rename has one record: no record
+    /// of another commit is read, and none is lent. It takes no memory.
+    pub fn renamed(&self, later: usize) -> Option<(CustomerKey, Text<0, 16>)>
+        requires { later < length self.now.committed }
+        ensures { result ≡ renamed (model_records (get_or (committed_records self.now) later [])) }
+    {
+        let mut records = self.committed_records(later);
+        let Some(record) = records.next() else {
+            return None;
+        };
+        if records.next().is_some() {
+            return None;
+        }
+        record.read().last_before()
+    }
+
+    // Gives the records of a commit's segment, the newest first, where they lie. Nobody above walks
+    // them: a read goes along its key's records, and each that it is lent ticks.
+    fn committed_records(&self, later: usize) -> Records<'_>
         requires { later < length self.now.committed }
         ensures { result ≡ model_records (get_or (committed_records self.now) later []) }
     {

@@ -1,7 +1,6 @@
 //! A count of records that were read, by which a read shows how many it took.
 //!
-//! A call that lends a record by its address, or the newest, ticks once; walks over all records of
-//! a commit don't. Nothing can fail, and nothing takes memory.
+//! Each call that lends a record ticks once. Nothing can fail, and nothing takes memory.
 ghost use Rattle.std.specs.Prelude.{◌≡◌};
 ghost use Rattle.oe_log.specs.Ticks.{ticked};
 

@@ -11,7 +11,7 @@ use std::marker::Model;
 
 /// The records of a segment that are left, the newest first, where they lie.
 #[derive(Drop)]
-pub struct Records<'a> {
+pub(crate) struct Records<'a> {
     pub(crate) strings: Strings<'a>,
 }
 

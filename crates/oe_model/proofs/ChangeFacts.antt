@@ -5,14 +5,12 @@ use Rattle.std.specs.Prelude.{◌≢◌, ◌⊎◌, ◌<◌, IsSome, is_some, op
 use Rattle.std.specs.List.{Contains}
 use Rattle.std.specs.declared.cmp.Ordering.{Ordering}
 use Rattle.std.specs.Cmp.{IsTotalOrder, nat_cmp_total}
-use Rattle.std.specs.Cmp.Lexicographic.{nat_list_cmp_total}
 use Rattle.std.specs.Ordering.{eq_by_cmp}
-use Rattle.std.specs.FinMap.{IsAntisymmetric, get, nat_cmp-IsAntisymmetric, slice_cmp-IsAntisymmetric}
+use Rattle.std.specs.FinMap.{IsAntisymmetric, get, nat_cmp-IsAntisymmetric}
 use Rattle.oe_rows.specs.declared.keys.Key.{Key}
 use Rattle.oe_rows.specs.declared.keys.Key.TheVariants as key
 use Rattle.oe_rows.specs.declared.rows.Row.{Row}
 use Rattle.oe_rows.specs.declared.rows.Row.TheVariants as row
-use Rattle.oe_rows.specs.declared.customers.Customer.{Customer}
 use Rattle.oe_rows.specs.declared.orders.Order.{Order}
 use Rattle.oe_requests.specs.declared.refusals.Refusal.{Refusal}
 use Rattle.oe_requests.specs.declared.refusals.Refusal.TheVariants.{NoSuchRow, RowExists, Reference, KeyColumn}

@@ -43,3 +43,4 @@ pub mod FoundFacts
 pub mod RankFacts
 pub mod MiddleFacts
 pub mod LevelFacts
+pub mod AfterFacts

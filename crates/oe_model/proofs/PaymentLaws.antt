@@ -1,5 +1,5 @@
 -- Payment's rows read and write only what their locks allow.
-use Rattle.std.proofs.Common.{◌≡◌, ℕ, refl, sym, ◌∙◌, ap, subst, List, ◌++◌, Option, Some, None, inl}
+use Rattle.std.proofs.Common.{◌≡◌, ℕ, refl, sym, ap, subst, List, ◌++◌, Option, Some, None, inl}
 use Rattle.std.specs.Prelude.{is_some}
 use Rattle.std.specs.FinMap.{get}
 use Rattle.oe_theory.specs.Machine.{Shared, Exclusive, Ask, Stop, Take, Go, Tx, Hold}

@@ -1,5 +1,5 @@
 -- A rename's program, run alone, has the whole effect, which keeps what holds between transactions.
-use Rattle.std.proofs.Common.{◌≡◌, ℕ, refl, sym, ap, subst, List, Option, Some, None}
+use Rattle.std.proofs.Common.{◌≡◌, ℕ, refl, sym, ap, subst, Some, None}
 use Rattle.std.specs.Prelude.{is_some}
 use Rattle.std.specs.FinMap.{get, insert}
 use Rattle.oe_theory.specs.Machine.{Exclusive, Go, Tx}

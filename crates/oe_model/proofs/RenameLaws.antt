@@ -7,7 +7,6 @@ use Rattle.std.specs.FinMap.{IsAntisymmetric, get, nat_cmp-IsAntisymmetric, slic
 use Rattle.oe_theory.specs.Machine.{Shared, Exclusive, Ask, Stop, Take, Go, Tx, Hold}
 use Rattle.oe_theory.specs.Laws.{IsAsked, all_held, Holds, with_asked, MayWrite, Alike}
 use Rattle.oe_rows.specs.declared.keys.CustomerKey.{CustomerKey}
-use Rattle.oe_rows.specs.declared.keys.Key.{Key}
 use Rattle.oe_rows.specs.declared.keys.Key.TheVariants as key
 use Rattle.oe_rows.specs.declared.rows.Row.TheVariants as row
 use Rattle.oe_rows.specs.declared.customers.Customer.{Customer}
@@ -21,10 +20,10 @@ use Rattle.oe_model.specs.Keys.{district_of_customer}
 use Rattle.oe_model.specs.Rows.{Rows, row_at, as_customer}
 use Rattle.oe_model.specs.Changes.{Change, UpdateCustomer}
 use Rattle.oe_model.specs.Locks.{WarehouseThere, DistrictThere, CustomerThere, CustomerNamed, StockThere, WholeItem}
-use Rattle.oe_model.specs.Locks.{There, First, Facet, Part, facet_key, part, first_if_named, governs_part}
+use Rattle.oe_model.specs.Locks.{There, First, part, first_if_named, governs_part}
 use Rattle.oe_model.specs.Positions.{Position, InRename, RenamePosition, RenameCustomer, RenameOld, RenameNew}
 use Rattle.oe_model.specs.Positions.{RenameEnd}
-use Rattle.oe_model.specs.Rename.{HasLast, renamed, names_of}
+use Rattle.oe_model.specs.Rename.{HasLast, renamed}
 use Rattle.oe_model.specs.System.{system, ask, act, taken}
 use Rattle.oe_model.proofs.PresenceFacts.{key_cases}
 use Rattle.oe_model.proofs.RowFacts.{un_customer}

@@ -39,7 +39,7 @@ use Rattle.oe_model.specs.Changes.{record_key, ChangedWarehouse, ChangedDistrict
 use Rattle.oe_model.specs.Changes.{ChangedOrder, ChangedOrderLine, ChangedStock}
 use Rattle.oe_rows.specs.declared.layouts.Layout.{Layout}
 use Rattle.oe_rows.specs.declared.layouts.Layout.TheVariants.{WholeRows, ChangedColumns}
-use Rattle.oe_model.specs.Changes.{columns_before, changed_of, record_in, with_columns, restore, put_back, redo}
+use Rattle.oe_model.specs.Changes.{columns_before, record_in, with_columns, restore, put_back, redo}
 use Rattle.oe_model.specs.Meets.{Accepts}
 use Rattle.oe_model.proofs.MapFacts.{is_self, is_same, same, map_get-insert, map_get-remove, map_get-with_row}
 

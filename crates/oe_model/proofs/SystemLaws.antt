@@ -1,7 +1,7 @@
 -- The machine's laws, put together.
 use Rattle.std.proofs.Common.{◌≡◌, ℕ, suc, ◌<◌, ◌≤◌, arith, refl, ap, subst, Bool, true, false, cond, List, []}
 use Rattle.std.proofs.Common.{◌∷◌, map}
-use Rattle.std.proofs.Common.{Option, Some, None, inl}
+use Rattle.std.proofs.Common.{Option, Some, None}
 use Rattle.std.specs.Prelude.{IsSome, is_some, nat_le}
 use Rattle.std.specs.Ordering.{nat_cmp}
 use Rattle.std.specs.Cmp.Lexicographic.{slice_cmp, nat_list_cmp_total}

@@ -28,3 +28,4 @@ pub mod Requests
 pub mod System
 pub mod Headline
 pub mod Rules
+pub mod RowsAfter

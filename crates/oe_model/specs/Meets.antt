@@ -1,5 +1,5 @@
 -- What the schema asks of rows (clauses 1.3 and 1.4), and when the tables accept a change. Ranges are by type.
-use Rattle.std.specs.Prelude.{◌≡◌, ◌≢◌, ◌≤◌, Bool, true, false, None, Some, IsSome, List, [], ◌∷◌, ◌⊎◌}
+use Rattle.std.specs.Prelude.{◌≡◌, ◌≢◌, ◌≤◌, Bool, true, false, None, Some, IsSome, List, [], ◌∷◌}
 use Rattle.std.specs.List.{Contains}
 use Rattle.std.specs.FinMap.{get}
 use Rattle.oe_rows.specs.declared.keys.DistrictKey.{DistrictKey}

@@ -1,5 +1,5 @@
 -- The server's machine: tables, locks, programs and whole effects, as the theory of transactions takes them.
-use Rattle.std.specs.Prelude.{ℕ, suc, Bool, true, false, List, [], Option, None}
+use Rattle.std.specs.Prelude.{ℕ, suc, Bool, true, false, List, [], Option}
 use Rattle.oe_theory.specs.Machine.{Machine, Ask, Plain, Ready, Tx, Hold}
 use Rattle.oe_values.specs.declared.numbers.TheConstants.{TERMINALS}
 use Rattle.oe_rows.specs.declared.keys.Key.{Key}

@@ -8,6 +8,7 @@ pub mod verdicts;
 
 ghost use Rattle.oe_model.specs.RowLaws.{Tables_are_a_map, Records_undo, Changes_are_judged};
 ghost use Rattle.oe_model.specs.Rules.{Payment_is_exact, Stock_is_exact, Text_occurs, Order_is_local, Oldest_is_least, Delivery_is_exact, Rename_is_exact, Order_is_last, Level_is_exact, Name_is_middle, Modes_conflict, Worked};
+ghost use Rattle.oe_model.specs.RowsAfter.{Payment_leaves, Order_leaves, Delivery_leaves, Sums_are_exact};
 ghost use Rattle.oe_model.specs.Headline.{System_is_lawful, Programs_end, Runs_begin, Transactions_are_atomic, Versions_are_serial, Records_bring_back, Store_is_exact, Answers_are_known, Schema_always_holds, Conditions_hold};
 
 /// The nine tables are one map from key to row.
@@ -111,6 +112,29 @@ pub fn oldest_is_least()
 /// What a delivery leaves of its customer and of its lines (clause 2.7.4.2).
 pub fn delivery_is_exact()
     ensures { Delivery_is_exact }
+{}
+
+/// Which rows a payment leaves otherwise, with each column, and that it leaves no other so (clause
+/// 2.5.2.2).
+pub fn payment_leaves()
+    ensures { Payment_leaves }
+{}
+
+/// Which rows of DISTRICT, ORDER, NEW-ORDER an order leaves otherwise, with each column, and which
+/// of the others it may (clause 2.4.2.2).
+pub fn order_leaves()
+    ensures { Order_leaves }
+{}
+
+/// Which rows a delivery leaves otherwise, with each column, and that it leaves no other so (clause
+/// 2.7.4.2).
+pub fn delivery_leaves()
+    ensures { Delivery_leaves }
+{}
+
+/// What a row more adds to the sums of conditions 6 to 10 and 12 (clauses 3.3.2.6 to 3.3.2.12).
+pub fn sums_are_exact()
+    ensures { Sums_are_exact }
 {}
 
 /// What a rename leaves of its customer, and of the others.

@@ -1,5 +1,6 @@
 -- The words that name kinds of transactions.
-use Rattle.std.specs.Prelude.{◌≡◌, ℕ, ◌==◌, List, [], ◌∷◌, ◌++◌, true, false, codes, if◌then◌else◌}
+use Rattle.std.specs.Prelude.{◌≡◌, ◌↔◌, ◌⊎◌, ℕ, ◌==◌, List, [], ◌∷◌, ◌++◌, Bool, true, false, IsTrue, codes}
+use Rattle.std.specs.Prelude.{if◌then◌else◌}
 use Rattle.oe_numbers.specs.declared.kinds.Kind.{Kind}
 use Rattle.oe_numbers.specs.declared.kinds.Kind.TheVariants as kind
 use Rattle.oe_numbers.specs.declared.kinds.Kinds.{Kinds}
@@ -13,6 +14,14 @@ kind_name kind.Level = codes "level"
 
 abbrev pub none_named : Kinds
 none_named = record { new_order = false; payment = false; status = false; delivery = false; level = false }
+
+-- a kind is among these
+abbrev pub is_named : Kinds → Kind → Bool
+is_named k kind.NewOrder = k.new_order
+is_named k kind.Payment = k.payment
+is_named k kind.Status = k.status
+is_named k kind.Delivery = k.delivery
+is_named k kind.Level = k.level
 
 -- one more is named
 abbrev pub marked : Kind → Kinds → Kinds
@@ -30,11 +39,12 @@ parts_from held (b ∷ bs) = if b == 44 then held ∷ parts_from [] bs else part
 abbrev pub parts_of : List ℕ → List (List ℕ)
 parts_of word = parts_from [] word
 
--- each part names a kind, beside those that were named before
-abbrev pub NameAll : List (List ℕ) → Kinds → Kinds → Type 0
-NameAll [] before k = k ≡ before
-NameAll (p ∷ ps) before k = (x : Kind) × (p ≡ kind_name x) × NameAll ps (marked x before) k
+-- this name is one of the parts
+abbrev pub IsPart : List ℕ → List (List ℕ) → Type 0
+IsPart name [] = ⊥
+IsPart name (p ∷ ps) = (p ≡ name) ⊎ IsPart name ps
 
--- the word names these kinds
-abbrev pub Names : List ℕ → Kinds → Type 0
-Names word k = NameAll (parts_of word) none_named k
+-- the word names these kinds: each part is a kind's name, and a kind is named exactly where a part is its name
+pub record Names (word : List ℕ) (k : Kinds) : Type 0 where
+  pub parts : (p : List ℕ) → IsPart p (parts_of word) → (x : Kind) × (p ≡ kind_name x)
+  pub kinds : (x : Kind) → IsTrue (is_named k x) ↔ IsPart (kind_name x) (parts_of word)

@@ -6,7 +6,7 @@ use oe_layout::Previous;
 use oe_log::Segment;
 use oe_rows::{Key, OrderKey};
 use oe_undo::{Holder, Link, Undo};
-use oe_values::{Moment, Terminal};
+use oe_values::{Moment, Number, Terminal};
 
 fn link(undo: &Undo, key: &OrderKey) -> Option<Link> {
     undo.link(&Key::Order(*key))
@@ -112,4 +112,40 @@ fn links_are_handed_on(rt: HostRuntime) {
     let up = given_up(&mut undo, &key);
     undo.discard();
     assert!(rt; has_place && by_turns == Some(true) && off == Some(true) && up == Some(true));
+}
+
+fn numbered(order: u32) -> Option<OrderKey> {
+    Some(OrderKey {
+        warehouse: Number::new(12)?,
+        district: Number::new(3)?,
+        order: Number::new(order)?,
+    })
+}
+
+/// Pushes a record of a district's order 45,000, and then one of its order 3. Tells whether each
+/// has its own link, and the orders beside them none.
+fn far_then_near(undo: &mut Undo) -> Option<bool> {
+    let far = numbered(45_000)?;
+    let near = numbered(3)?;
+    let beside = numbered(4)?;
+    let between = numbered(30_000)?;
+    let row = order(13)?;
+    let terminal = Terminal::new(41)?;
+    begin(undo, terminal)?;
+    push_order(undo, terminal, &far, &row)?;
+    push_order(undo, terminal, &near, &row)?;
+    Some(
+        link(undo, &far) == open_at(0, 0, terminal)
+            && link(undo, &near) == open_at(0, 38, terminal)
+            && link(undo, &beside).is_none()
+            && link(undo, &between).is_none(),
+    )
+}
+
+#[test]
+fn far_links_leave_near_ones_empty(rt: HostRuntime) {
+    let mut undo = undo(rt.alloc(), 2).expect(&rt, "a log");
+    let seen = far_then_near(&mut undo);
+    undo.discard();
+    assert!(rt; seen == Some(true));
 }

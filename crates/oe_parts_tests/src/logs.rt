@@ -24,9 +24,10 @@ fn begin(log: &mut Log, terminal: Terminal) -> Option<()> {
     Some(())
 }
 
-/// Pushes a record, where the terminal has a segment open, and answers its place.
+/// Pushes a record of the log's layout, where the terminal has a segment open, and answers its
+/// place.
 fn push(log: &mut Log, terminal: Terminal, record: &LinkedRecord<'_>) -> Place {
-    if !log.is_open(terminal) {
+    if !log.is_open(terminal) || !record.record.is_of(log.layout()) {
         return None;
     }
     match log.push(Segment::of(terminal), record) {

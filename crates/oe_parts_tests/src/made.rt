@@ -1,10 +1,10 @@
 //! Keys, rows and addresses, whose values differ. `None` where one could not be made.
-use oe_layout::{Previous, RecordAddress};
+use oe_layout::{CommitMoment, Previous, RecordAddress};
 use oe_rows::{
     Address, DistrictKey, NewOrderKey, Order, OrderKey, Stock, StockKey, Warehouse, WarehouseKey,
 };
 use oe_values::BrandText;
-use oe_values::numbers::{Amount, Moment, Number};
+use oe_values::numbers::{Amount, Number};
 use oe_values::stamps::Stamp;
 use oe_values::texts::Text;
 
@@ -115,5 +115,5 @@ pub(crate) fn address(extent: u32, offset: u32) -> Option<RecordAddress> {
 
 /// Makes a link to a record of the commit at a moment.
 pub(crate) fn committed(extent: u32, offset: u32, moment: u64) -> Option<Previous> {
-    Some(Previous::Committed(address(extent, offset)?, Moment::new(moment)?))
+    Some(Previous::Committed(address(extent, offset)?, CommitMoment::new(moment)?))
 }

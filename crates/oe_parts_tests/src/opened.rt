@@ -72,6 +72,9 @@ pub(crate) fn push_order(
         previous: Previous::Nothing,
         record: LentRecord::UpdatedOrder(*key, row),
     };
+    if !lent.record.is_of(undo.segments().layout()) {
+        return None;
+    }
     undo.push(segment, &mut lent).ok()?;
     Some(lent.previous)
 }

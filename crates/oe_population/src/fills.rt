@@ -79,10 +79,10 @@ fn fill_customers(
     scale: &Scale,
     district: DistrictKey,
 ) -> Result<(), NoMemory>
-    requires { IsFree (customers_in district scale.now) (rows_of customer_cmp table.old) }
+    requires { IsFree (customers_in district scale.now) (rows_of customer_cmp table.old.places) }
     ensures { OnOk result
         (Fills (customers_in district scale.now) (λ k. customer_of k.customer)
-        (rows_of customer_cmp table.old) (rows_of customer_cmp table.new)) }
+        (rows_of customer_cmp table.old.places) (rows_of customer_cmp table.new.places)) }
 {
     let first = CustomerKey {
         warehouse: district.warehouse,
@@ -104,7 +104,7 @@ fn fill_customers(
 pub(crate) fn customers(alloc: Global, scale: &Scale) -> Result<Customers, NoMemory>
     ensures { IfOk result
         (λ t. Fills (has_customer scale.now) (λ k. customer_of k.customer) empty
-        (rows_of customer_cmp t)) }
+        (rows_of customer_cmp t.places)) }
 {
     let mut table = Customers::new(alloc);
     for ordinal in 0..10 * scale.warehouses.get() {
@@ -209,10 +209,10 @@ pub(crate) fn new_orders(
 
 /// Puts the orders of a district.
 fn fill_orders(table: &mut Orders, scale: &Scale, district: DistrictKey) -> Result<(), NoMemory>
-    requires { IsFree (orders_in district scale.now) (rows_of order_cmp table.old) }
+    requires { IsFree (orders_in district scale.now) (rows_of order_cmp table.old.places) }
     ensures { OnOk result
         (Fills (orders_in district scale.now) (λ k. order_of scale.now k.order)
-        (rows_of order_cmp table.old) (rows_of order_cmp table.new)) }
+        (rows_of order_cmp table.old.places) (rows_of order_cmp table.new.places)) }
 {
     for before in 0..scale.customers.get() {
         let customer: CustomerNumber = number(before + 1);
@@ -232,7 +232,7 @@ fn fill_orders(table: &mut Orders, scale: &Scale, district: DistrictKey) -> Resu
 pub(crate) fn orders(alloc: Global, scale: &Scale) -> Result<Orders, NoMemory>
     ensures { IfOk result
         (λ t. Fills (has_order scale.now) (λ k. order_of scale.now k.order) empty
-        (rows_of order_cmp t)) }
+        (rows_of order_cmp t.places)) }
 {
     let mut table = Orders::new(alloc);
     for ordinal in 0..10 * scale.warehouses.get() {

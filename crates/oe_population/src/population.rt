@@ -57,7 +57,7 @@ fn fill_homes(alloc: Global, scale: &Scale) -> Result<Homes, NoMemory>
         (rows_of district_cmp t.districts)) }
     ensures customers { IfOk result
         (λ t. Fills (has_customer scale.now) (λ k. customer_of k.customer) empty
-        (rows_of customer_cmp t.customers)) }
+        (rows_of customer_cmp t.customers.places)) }
 {
     let warehouses = fills::warehouses(alloc, scale)?;
     let Ok(districts) = fills::districts(alloc, scale) else {
@@ -86,7 +86,7 @@ fn fill_deeds(alloc: Global, scale: &Scale) -> Result<Deeds, NoMemory>
         (rows_of new_order_cmp t.new_orders)) }
     ensures orders { IfOk result
         (λ t. Fills (has_order scale.now) (λ k. order_of scale.now k.order) empty
-        (rows_of order_cmp t.orders)) }
+        (rows_of order_cmp t.orders.places)) }
 {
     let histories = fills::histories(alloc, scale)?;
     let Ok(new_orders) = fills::new_orders(alloc, scale) else {

@@ -1,7 +1,8 @@
--- Which of conditions 1 to 4 fails first.
-use Rattle.std.specs.Prelude.{Bool, true, false, Option, Some, None, if◌then◌else◌}
+-- The first of conditions 1 to 4 that fails, if one does.
+use Rattle.std.specs.Prelude.{◌≡◌, ◌≤◌, ◌<◌, Bool, true, false, Option, Some, None}
 use Rattle.oe_requests.specs.declared.audits.Condition.{Condition}
 use Rattle.oe_requests.specs.declared.audits.Condition.TheVariants as condition
+use Rattle.oe_requests.specs.Condition.{condition_number}
 use Rattle.oe_audit.specs.Verdict.{condition_of}
 use Rattle.oe_model.specs.Audits as model
 use Rattle.oe_model.specs.Rows.{Rows}
@@ -15,11 +16,9 @@ names_a_row (model.Fails k) = true
 abbrev pub fails : Condition → Rows → Bool
 fails c r = names_a_row (model.verdict (condition_of c) r)
 
--- the first of conditions 1 to 4 that fails
-abbrev pub first_failing : Rows → Option Condition
-first_failing r =
-    if fails condition.First r then Some condition.First
-    else if fails condition.Second r then Some condition.Second
-    else if fails condition.Third r then Some condition.Third
-    else if fails condition.Fourth r then Some condition.Fourth
-    else None
+-- none of conditions 1 to 4 fails; or this one does, and none before it
+abbrev pub IsFirstFailing : Rows → Option Condition → Type 0
+IsFirstFailing r None = (c : Condition) → condition_number c ≤ 4 → fails c r ≡ false
+IsFirstFailing r (Some c) =
+    (condition_number c ≤ 4) × (fails c r ≡ true)
+    × ((d : Condition) → condition_number d < condition_number c → fails d r ≡ false)

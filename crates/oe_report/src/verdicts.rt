@@ -1,7 +1,7 @@
 //! Which of the conditions fails.
 ghost use Rattle.std.specs.Prelude.{◌≡◌};
 ghost use Rattle.oe_store.specs.Places.{rows};
-ghost use Rattle.oe_report.specs.Verdicts.{fails, first_failing};
+ghost use Rattle.oe_report.specs.Verdicts.{fails, IsFirstFailing};
 
 use oe_audit::condition;
 use oe_requests::{Condition, Verdict};
@@ -19,7 +19,7 @@ fn fails(number: Condition, tables: &Tables) -> bool
 
 /// Finds the first of conditions 1 to 4 (clauses 3.3.2.1 to 3.3.2.4) that fails, if one does.
 pub fn first_failing(tables: &Tables) -> Option<Condition>
-    ensures { result ≡ first_failing (rows tables.now) }
+    ensures { IsFirstFailing (rows tables.now) result }
 {
     if fails(Condition::First, tables) {
         return Some(Condition::First);

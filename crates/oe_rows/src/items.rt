@@ -22,11 +22,11 @@ pub struct Item {
 #[derive(Drop)]
 pub struct Stock {
     pub quantity: Count,
-    pub dist_info: [Text<24, 24>; 10],
     pub ytd: StockYtd,
     pub order_count: Count,
     pub remote_count: Count,
     pub data: BrandText,
+    pub dist_info: [Text<24, 24>; 10],
 }
 
 /// The columns of a STOCK row that orders change: S_QUANTITY, S_YTD, S_ORDER_CNT and S_REMOTE_CNT

@@ -1,1 +1,2 @@
+pub mod AnswerFacts
 pub mod RunFacts

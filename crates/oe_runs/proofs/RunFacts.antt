@@ -1,7 +1,8 @@
 -- What follows of a run of steps.
-use Rattle.std.proofs.Common.{◌≡◌, ℕ, zero, suc, ◌<◌, ◌≤◌, List, [], ◌∷◌, ◌++◌, take, length, get_or, sym, ap, subst}
-use Rattle.std.proofs.Common.{refl, arith}
-use Rattle.oe_theory.specs.World.{World}
+use Rattle.std.proofs.Common.{◌≡◌, ◌≢◌, ℕ, zero, suc, ◌-◌, ◌<◌, ◌≤◌, List, [], ◌∷◌, ◌++◌, take, drop, length, get_or}
+use Rattle.std.proofs.Common.{sym}
+use Rattle.std.proofs.Common.{ap, subst, ◌∙◌, refl, arith}
+use Rattle.oe_theory.specs.World.{World, version, newest, at, tables}
 use Rattle.oe_theory.specs.Next as theory
 use Rattle.oe_theory.specs.Next.{Next, Runs, Begun, begins, goes_on, commits, saves, goes_back, rolls_back, reads}
 use Rattle.oe_theory.specs.Next.{audits, purges, rewinds, stops, fails, is_busy, is_full, is_rejected, is_open}
@@ -12,7 +13,10 @@ use Rattle.oe_theory.proofs.Theorems.{run_is_reached, history_is_serial, rollbac
 use Rattle.oe_theory.proofs.Theorems.{purge_leaves_later, holds_from_base}
 use Rattle.oe_theory.proofs.StepTheorems.{endings_are_whole}
 use Rattle.oe_requests.specs.declared.steps.Step.{Step}
+use Rattle.oe_requests.specs.declared.steps.Step.TheVariants as step
 use Rattle.oe_requests.specs.declared.answers.Answer.{Answer}
+use Rattle.oe_requests.specs.declared.answers.Answer.TheVariants as answer
+use Rattle.oe_model.specs.Rows.{Rows}
 use Rattle.oe_model.specs.FurtherConditions.{More}
 use Rattle.oe_model.specs.System.{system}
 use Rattle.oe_model.proofs.SystemLaws.{laws}
@@ -22,7 +26,8 @@ use Rattle.oe_movements.specs.Kept.{HasMovements}
 use Rattle.oe_movements.proofs.KeptMoves as movements
 use Rattle.oe_movements.proofs.KeptMoves.{base_moves}
 use Rattle.oe_core.specs.Steps.{step_in, answer_in}
-use Rattle.oe_runs.specs.Run.{Served, steps_in, answers_in, PastBy, AreWhole, Ran}
+use Rattle.oe_runs.specs.Run.{Served, steps_in, answers_in, AreUnpurged, PastBy, IsPassed, AreWhole, Ran}
+use Rattle.oe_runs.proofs.AnswerFacts.{answer_once}
 
 -- one more step at the end
 served_more : (w v w' : World system) (is : List Step) (ys : List Answer) (i : Step) (a : Answer) → Served w is ys v
@@ -72,88 +77,166 @@ still_reached : (w v : World system) (i : theory.Step system) (a : theory.Answer
     → Next system w i a v → IsReached system v
 still_reached w v i a r n = run_is_reached system laws w v (i ∷ []) (a ∷ []) r (v, n, refl)
 
--- what a purge and a rewind leave
+-- moment 0 is the base
+none_left : {A : Type 0} (n : ℕ) (xs : List A) → length xs ≤ n → drop n xs ≡ []
+none_left zero [] h = refl
+none_left (suc n) [] h = refl
+none_left zero (x ∷ xs) h = absurd (omega (arith, h))
+none_left (suc n) (x ∷ xs) h = none_left n xs (omega (arith, h))
+
+pub first_at : (w : World system) → at system w 0 ≡ w.base
+first_at w = ap (version system w.base) (none_left (newest system w - 0) w.history (omega arith))
+
+-- what a step leaves of the base, and a purge and a rewind besides
 past_by : (w v : World system) (i : theory.Step system) (a : theory.Answer system) → IsReached system w
     → Next system w i a v → PastBy w a v
-past_by w _ _ _ reached (begins t q m) = tt
-past_by w _ _ _ reached (goes_on t o c p e g r room) = tt
-past_by w _ _ _ reached (commits t o reply e g r) = tt
-past_by w _ _ _ reached (saves t o e) = tt
-past_by w _ _ _ reached (goes_back t o e) = tt
-past_by w _ _ _ reached (rolls_back t o e) = tt
-past_by w _ _ _ reached (reads m q f a l u k) = tt
-past_by w _ _ _ reached (audits m c l u) = tt
-past_by w _ _ _ reached (purges m l u) = purge_leaves_later system laws w _ m reached (purges m l u)
-past_by w _ _ _ reached (rewinds m q l u) = rewind_restores system laws w _ m (rewinds m q l u)
-past_by w _ _ _ reached (stops t o e f r) = tt
-past_by w _ _ _ reached (fails t o e f g r) = tt
-past_by w _ _ _ reached (is_busy t o n m u e r g) = tt
-past_by w _ _ _ reached (is_full t o c p e g r f) = tt
-past_by w _ _ _ reached (is_rejected t q e r) = tt
-past_by w _ _ _ reached (is_open t q o r e) = tt
-past_by w _ _ _ reached (number_is_rejected t q e r c k) = tt
-past_by w _ _ _ reached (query_is_rejected m q e r) = tt
-past_by w _ _ _ reached (misses m q e r l u k) = tt
-past_by w _ _ _ reached (not_open s t e f) = tt
-past_by w _ _ _ reached (too_old s m e p l) = tt
-past_by w _ _ _ reached (future s m e p l) = tt
-past_by w _ _ _ reached (not_quiet m n e) = tt
-past_by w _ _ _ reached (lacks_memory_at_begin t q m) = tt
-past_by w _ _ _ reached (lacks_memory t o e m) = tt
+past_by w _ _ _ reached (begins t q m) = refl
+past_by w _ _ _ reached (goes_on t o c p e g r room) = refl
+past_by w _ _ _ reached (commits t o reply e g r) = refl
+past_by w _ _ _ reached (saves t o e) = refl
+past_by w _ _ _ reached (goes_back t o e) = refl
+past_by w _ _ _ reached (rolls_back t o e) = refl
+past_by w _ _ _ reached (reads m q f a l u k) = refl
+past_by w _ _ _ reached (audits m c l u) = refl
+past_by w _ _ _ reached (purges m l u) =
+    let left = purge_leaves_later system laws w _ m reached (purges m l u) in
+    (refl, left.0, left.1, left.2, left.3)
+past_by w _ _ _ reached (rewinds m q l u) =
+    let left = rewind_restores system laws w _ m (rewinds m q l u) in
+    (refl, left.0, (λ e. left.0 ∙ ap (at system w) e ∙ first_at w), left.1, left.2, left.3)
+past_by w _ _ _ reached (stops t o e f r) = refl
+past_by w _ _ _ reached (fails t o e f g r) = refl
+past_by w _ _ _ reached (is_busy t o n m u e r g) = refl
+past_by w _ _ _ reached (is_full t o c p e g r f) = refl
+past_by w _ _ _ reached (is_rejected t q e r) = refl
+past_by w _ _ _ reached (is_open t q o r e) = refl
+past_by w _ _ _ reached (number_is_rejected t q e r c k) = refl
+past_by w _ _ _ reached (query_is_rejected m q e r) = refl
+past_by w _ _ _ reached (misses m q e r l u k) = refl
+past_by w _ _ _ reached (not_open s t e f) = refl
+past_by w _ _ _ reached (too_old s m e p l) = refl
+past_by w _ _ _ reached (future s m e p l) = refl
+past_by w _ _ _ reached (not_quiet m n e) = refl
+past_by w _ _ _ reached (lacks_memory_at_begin t q m) = refl
+past_by w _ _ _ reached (lacks_memory t o e m) = refl
 
-are_whole : (w w' : World system) (is : List Step) (ys : List Answer) → IsReached system w → Served w is ys w'
-    → AreWhole w is ys w'
-are_whole w w' [] [] r h = (consistent w r, h)
-are_whole w w' [] (a ∷ ys) r h = absurd h
-are_whole w w' (i ∷ is) [] r h = absurd h
-are_whole w w' (i ∷ is) (a ∷ ys) r h = (
-  consistent w r,
+-- a world of a run that began on this base, which is its own or one before
+record Follows (base : Rows) (w : World system) : Type 0 where
+  reached : IsReached system w
+  more : More base → More w.base
+  movements : (initial : ℕ) → HasMovements initial base → HasMovements initial w.base
+
+follows : (base : Rows) (w v : World system) (i : theory.Step system) (a : theory.Answer system) → Follows base w
+    → Next system w i a v → Follows base v
+follows base w v i a f n = record {
+  reached = still_reached w v i a f.reached n;
+  more = λ m. base_more w v i a f.reached (f.more m) n;
+  movements = λ initial m. base_moves initial w v i a f.reached (f.movements initial m) n;
+}
+
+is_passed : (base : Rows) (w : World system) → Follows base w → IsPassed base w
+is_passed base w f = record {
+  serial = history_is_serial system laws w f.reached;
+  conditions = (consistent w f.reached).of_versions;
+  when_quiet = (consistent w f.reached).when_quiet;
+  more = λ more m. holds_from_base system laws More kept w f.reached (f.more more) m;
+  movements = λ initial more m.
+      holds_from_base system laws (HasMovements initial) (movements.kept initial) w f.reached
+      (f.movements initial more) m;
+}
+
+are_whole : (base : Rows) (w w' : World system) (is : List Step) (ys : List Answer) → Follows base w → Served w is ys w'
+    → AreWhole base w is ys w'
+are_whole base w w' [] [] f h = (is_passed base w f, h)
+are_whole base w w' [] (a ∷ ys) f h = absurd h
+are_whole base w w' (i ∷ is) [] f h = absurd h
+are_whole base w w' (i ∷ is) (a ∷ ys) f h = (
+  is_passed base w f,
   (
     h.0,
     h.1,
-    endings_are_whole system laws w h.0 (step_in i) (answer_in i a) r h.1,
-    past_by w h.0 (step_in i)
-        (answer_in i a) r h.1,
-    are_whole h.0 w' is ys (still_reached w h.0 (step_in i) (answer_in i a) r h.1) h.2,
+    endings_are_whole system laws w h.0 (step_in i) (answer_in i a) f.reached h.1,
+    past_by w h.0 (step_in i) (answer_in i a) f.reached h.1,
+    are_whole base h.0 w' is ys (follows base w h.0 (step_in i) (answer_in i a) f h.1) h.2,
   ),
 )
 
--- the base that a run leaves
-more_along : (w w' : World system) (is : List Step) (ys : List Answer) → IsReached system w → More w.base
-    → Served w is ys w' → More w'.base
-more_along w w' [] [] r more h = subst (λ (z : World system). More z.base) h more
-more_along w w' [] (a ∷ ys) r more h = absurd h
-more_along w w' (i ∷ is) [] r more h = absurd h
-more_along w w' (i ∷ is) (a ∷ ys) r more h =
-    more_along h.0 w' is ys (still_reached w h.0 (step_in i) (answer_in i a) r h.1)
-    (base_more w h.0 (step_in i) (answer_in i a) r more h.1) h.2
+last_of : (base : Rows) (w w' : World system) (is : List Step) (ys : List Answer) → AreWhole base w is ys w'
+    → IsPassed base w'
+last_of base w w' [] [] h = subst (IsPassed base) h.1 h.0
+last_of base w w' [] (a ∷ ys) h = absurd h
+last_of base w w' (i ∷ is) [] h = absurd h
+last_of base w w' (i ∷ is) (a ∷ ys) h = let (passed, (v, next, ends, past, rest)) = h in last_of base v w' is ys rest
 
-movements_along : (initial : ℕ) (w w' : World system) (is : List Step) (ys : List Answer) → IsReached system w
-    → HasMovements initial w.base → Served w is ys w' → HasMovements initial w'.base
-movements_along initial w w' [] [] r m h = subst (λ (z : World system). HasMovements initial z.base) h m
-movements_along initial w w' [] (a ∷ ys) r m h = absurd h
-movements_along initial w w' (i ∷ is) [] r m h = absurd h
-movements_along initial w w' (i ∷ is) (a ∷ ys) r m h =
-    movements_along initial h.0 w' is ys (still_reached w h.0 (step_in i) (answer_in i a) r h.1)
-    (base_moves initial w h.0 (step_in i) (answer_in i a) r m h.1) h.2
+-- a step that purges nothing leaves the base
+base_stays : (w v : World system) (a : theory.Answer system) → ((m : ℕ) → a ≢ theory.Purged m) → PastBy w a v
+    → v.base ≡ w.base
+base_stays w v (theory.Purged m) other h = absurd (other m refl)
+base_stays w v (theory.Rewound m) other h = h.0
+base_stays w v theory.Begun other h = h
+base_stays w v theory.More other h = h
+base_stays w v (theory.Committed m y) other h = h
+base_stays w v theory.Saved other h = h
+base_stays w v theory.Gone_back other h = h
+base_stays w v theory.Rolled_back other h = h
+base_stays w v (theory.Replied f) other h = h
+base_stays w v (theory.Audited x) other h = h
+base_stays w v (theory.Aborted e) other h = h
+base_stays w v (theory.Rejected e) other h = h
+base_stays w v (theory.Busy n u) other h = h
+base_stays w v theory.Undo_full other h = h
+base_stays w v theory.Not_open other h = h
+base_stays w v theory.Already_open other h = h
+base_stays w v (theory.Too_old m) other h = h
+base_stays w v (theory.Future m) other h = h
+base_stays w v (theory.Not_quiet n) other h = h
+base_stays w v theory.No_memory other h = h
+
+not_purged : (i : Step) (a : Answer) → ((m : ℕ) → a ≢ answer.Purged m) → (m : ℕ) → answer_in i a ≢ theory.Purged m
+not_purged i a other m e = other m (answer_once i a (answer.Purged m) e)
+
+base_kept : (base : Rows) (w w' : World system) (is : List Step) (ys : List Answer) → AreWhole base w is ys w'
+    → AreUnpurged ys → w'.base ≡ w.base
+base_kept base w w' [] [] h u = ap (λ (z : World system). z.base) (sym h.1)
+base_kept base w w' [] (a ∷ ys) h u = absurd h
+base_kept base w w' (i ∷ is) [] h u = absurd h
+base_kept base w w' (i ∷ is) (a ∷ ys) h u =
+    let (passed, (v, next, ends, past, rest)) = h in
+    base_kept base v w' is ys rest u.1 ∙ base_stays w v (answer_in i a) (not_purged i a u.0) past
+
+-- a rewind to moment 0 behind steps that purge nothing
+rewound_to_base : (base : Rows) (w w' : World system) (before : List Step) (said : List Answer)
+    → AreWhole base w (before ++ step.Rewind 0 ∷ []) (said ++ answer.Rewound 0 ∷ []) w' → AreUnpurged said
+    → tables system w' ≡ w.base
+rewound_to_base base w w' [] [] h u =
+    let (passed, (v, next, ends, past, rest)) = h in
+    ap (tables system) (sym rest.1) ∙ past.2 refl
+rewound_to_base base w w' [] (a ∷ []) h u = let (passed, (v, next, ends, past, rest)) = h in absurd rest
+rewound_to_base base w w' [] (a ∷ b ∷ said) h u = let (passed, (v, next, ends, past, rest)) = h in absurd rest
+rewound_to_base base w w' (i ∷ []) [] h u = let (passed, (v, next, ends, past, rest)) = h in absurd rest
+rewound_to_base base w w' (i ∷ j ∷ before) [] h u = let (passed, (v, next, ends, past, rest)) = h in absurd rest
+rewound_to_base base w w' (i ∷ before) (a ∷ said) h u =
+    let (passed, (v, next, ends, past, rest)) = h in
+    rewound_to_base base v w' before said rest u.1 ∙ base_stays w v (answer_in i a) (not_purged i a u.0) past
 
 pub ran_so : (w w' : World system) (is : List Step) (ys : List Answer) → IsReached system w → Served w is ys w'
     → Ran w is ys w'
 ran_so w w' is ys r h =
     let runs = runs_of w w' is ys h in
-    let reached : IsReached system w' = run_is_reached system laws w w' (steps_in is) (answers_in is ys) r runs in
+    let begun : Follows w.base w = record { reached = r; more = λ m. m; movements = λ initial m. m } in
+    let whole : AreWhole w.base w is ys w' = are_whole w.base w w' is ys begun h in
     record {
       runs = runs;
-      reached = reached;
-      whole = are_whole w w' is ys r h;
+      reached = run_is_reached system laws w w' (steps_in is) (answers_in is ys) r runs;
+      whole = whole;
+      last = last_of w.base w w' is ys whole;
       no_trace = λ before after said later t q l e g k.
           rollback_leaves_no_trace system laws w w' before after said later t q r l
           (subst (λ z. Runs system w z (said ++ Begun ∷ later) w') e
           (subst (λ z. Runs system w (steps_in is) z w') g runs)) k;
-      serial = history_is_serial system laws w' reached;
-      conditions = (consistent w' reached).of_versions;
-      when_quiet = (consistent w' reached).when_quiet;
-      more = λ more m. holds_from_base system laws More kept w' reached (more_along w w' is ys r more h) m;
-      movements = λ initial m k. holds_from_base system laws (HasMovements initial) (movements.kept initial) w' reached
-          (movements_along initial w w' is ys r m h) k;
+      base = base_kept w.base w w' is ys whole;
+      to_base = λ before said e g u.
+          rewound_to_base w.base w w' before said
+          (subst (λ z. AreWhole w.base w (before ++ step.Rewind 0 ∷ []) z w') g
+          (subst (λ z. AreWhole w.base w z ys w') e whole)) u;
     }

@@ -220,13 +220,15 @@ pub answer_of : (w w' : World system) (t : ℕ) (a : Advanced) (last : Option Re
     → (x : Answer) × IsAnswer last a x × Next system w (step_in (step.Advance t)) (answer_in (step.Advance t) x) w'
 answer_of w w' t advanced.More last h = (answer.More, refl, h.0)
 answer_of w w' t (advanced.Committed m) last (y, e, (serves, reached)) = (answer.Committed m y, (y, e, refl), serves)
-answer_of w w' t (advanced.Refused e) last h = (answer.Refused e, refl, h.0)
+answer_of w w' t (advanced.Kept e) last h = (answer.Refused e, refl, h.0.0)
+answer_of w w' t (advanced.RolledBack e) last h = (answer.Refused e, refl, h.0.0)
 
 pub not_more : (last : Option Reply) (a : Advanced) (x : Answer) → IsAnswer last a x → a ≢ advanced.More
     → x ≢ answer.More
 not_more last advanced.More x h n e = n refl
 not_more last (advanced.Committed m) x (y, k, is) n e = let same : answer.Committed m y ≡ answer.More = sym is ∙ e in cc
-not_more last (advanced.Refused r) x is n e = let same : answer.Refused r ≡ answer.More = sym is ∙ e in cc
+not_more last (advanced.Kept r) x is n e = let same : answer.Refused r ≡ answer.More = sym is ∙ e in cc
+not_more last (advanced.RolledBack r) x is n e = let same : answer.Refused r ≡ answer.More = sym is ∙ e in cc
 
 -- WHAT GOES OUT
 

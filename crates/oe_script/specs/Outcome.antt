@@ -19,7 +19,8 @@ use Rattle.oe_script.specs.Hearing.{Takes}
 abbrev pub IsAnswer : Option Reply → Advanced → Answer → Type 0
 IsAnswer last advanced.More x = x ≡ answer.More
 IsAnswer last (advanced.Committed m) x = (y : Reply) × (last ≡ Some y) × (x ≡ answer.Committed m y)
-IsAnswer last (advanced.Refused e) x = x ≡ answer.Refused e
+IsAnswer last (advanced.Kept e) x = x ≡ answer.Refused e
+IsAnswer last (advanced.RolledBack e) x = x ≡ answer.Refused e
 
 -- a step was served, and the line of its answer appended
 abbrev pub Tells : World system → Step → World system → List ℕ → List ℕ → Type 0

@@ -353,7 +353,7 @@ fn tell_advanced(core: &Core, terminal: Terminal, ended: &Advanced, out: &mut Pe
     match ended {
         Advanced::More => more(out),
         Advanced::Committed(moment) => tell_commit(core, terminal, *moment, out),
-        Advanced::Refused(refusal) => refused(out, refusal),
+        Advanced::Kept(refusal) | Advanced::RolledBack(refusal) => refused(out, refusal),
     }
 }
 

@@ -19,6 +19,7 @@ pub mod inserts;
 pub mod key_walks;
 pub mod purges;
 pub mod tables;
+mod touches;
 pub mod undo;
 pub mod updates;
 pub mod walks;

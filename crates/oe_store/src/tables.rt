@@ -42,10 +42,10 @@ impl Model for NineTables {
     ghost view = { λ t. record {
       warehouses = t.warehouses;
       districts = t.districts;
-      customers = t.customers;
+      customers = t.customers.places;
       histories = t.histories;
       new_orders = t.new_orders;
-      orders = t.orders;
+      orders = t.orders.places;
       order_lines = t.order_lines;
       items = t.items;
       stocks = t.stocks;
@@ -78,10 +78,10 @@ impl Model for Tables {
     ghost view = { λ t. record {
       warehouses = t.warehouses;
       districts = t.districts;
-      customers = t.customers;
+      customers = t.customers.places;
       histories = t.histories;
       new_orders = t.new_orders;
-      orders = t.orders;
+      orders = t.orders.places;
       order_lines = t.order_lines;
       items = t.items;
       stocks = t.stocks;
@@ -91,10 +91,10 @@ impl Model for Tables {
         (rows (record {
           warehouses = t.warehouses;
           districts = t.districts;
-          customers = t.customers;
+          customers = t.customers.places;
           histories = t.histories;
           new_orders = t.new_orders;
-          orders = t.orders;
+          orders = t.orders.places;
           order_lines = t.order_lines;
           items = t.items;
           stocks = t.stocks;

@@ -26,10 +26,10 @@ use Rattle.oe_undo.specs.Walks.{records_by, leads_later, Walks, Ends, Reads}
 use Rattle.oe_undo.proofs.ChainWalkFacts.{walk_reads, later_counted, none_has}
 
 -- each record is one of its holder's
-abbrev Stands : SegmentLog → Held → Type 0
+abbrev pub Stands : SegmentLog → Held → Type 0
 Stands u r = IsAmong r.logged (records_by u r.holder)
 
-abbrev AllStand : SegmentLog → List Held → Type 0
+abbrev pub AllStand : SegmentLog → List Held → Type 0
 AllStand u xs = AllByRecursion (Stands u) xs
 
 -- ---- all of them do
@@ -63,7 +63,7 @@ stand_commits u n i (c ∷ cs) at few look =
     let next : j + suc i ≡ suc j + i = omega arith in
     ap (λ z. get_or (committed_records u) z []) next ∙ look (suc j)))
 
-all_stand : (u : SegmentLog) → IsWhole u → AllStand u (held u)
+pub all_stand : (u : SegmentLog) → IsWhole u → AllStand u (held u)
 all_stand u whole =
     stand_both u (held_open (records_at u) (all_below system terminal_limit)) (held_commits (total_count u) u.committed)
     (stand_open u (all_below system terminal_limit))
@@ -71,7 +71,7 @@ all_stand u whole =
     let same : j + 0 ≡ j = omega arith in
     ap (λ z. get_or (committed_records u) z []) same))
 
-stand_of_key : (u : SegmentLog) (k : Key) (xs : List Held) → AllStand u xs → AllStand u (of_key k xs)
+pub stand_of_key : (u : SegmentLog) (k : Key) (xs : List Held) → AllStand u xs → AllStand u (of_key k xs)
 stand_of_key u k [] a = tt
 stand_of_key u k (x ∷ xs) a = go (is_key k (record_key x.logged.before)) (stand_of_key u k xs a.1)
   where
@@ -81,7 +81,7 @@ stand_of_key u k (x ∷ xs) a = go (is_key k (record_key x.logged.before)) (stan
 
 -- ---- the walk
 
-end_not_later : (h m : ℕ) (l : Option Link) → h ≤ m → IsEnd h l → leads_later m l ≡ false
+pub end_not_later : (h m : ℕ) (l : Option Link) → h ≤ m → IsEnd h l → leads_later m l ≡ false
 end_not_later h m None le e = refl
 end_not_later h m (Some l) le e = go l.holder e
   where

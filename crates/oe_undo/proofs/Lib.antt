@@ -1,4 +1,5 @@
 -- For the crates above: what calls make of the links.
+mod ByNumberFacts
 mod CallFacts
 mod ChainFacts
 mod ChainedFacts
@@ -11,5 +12,6 @@ mod NumberFacts
 pub mod OwnerFacts
 mod PlaceFacts
 mod SendFacts
+mod ShelfPieceFacts
 mod SpreadFacts
 pub mod WalkFacts

@@ -1,7 +1,7 @@
 -- No key's link leads to a commit of moment 0.
 use Rattle.std.proofs.Common.{◌≡◌, ℕ, zero, suc, ◌<◌, ◌≤◌, ◌==◌, ◌-◌, Bool, true, false, cond, refl, sym, ap, ◌∙◌}
 use Rattle.std.proofs.Common.{arith, List, [], ◌∷◌, length, Option, None, Some}
-use Rattle.std.specs.Prelude.{nat_lt, option_map, slice_get}
+use Rattle.std.specs.Prelude.{nat_lt, option_map, slice_get, IfSome}
 use Rattle.std.proofs.lemmas.Bool.{lt-ltb, le-ltb}
 use Rattle.oe_theory.proofs.Sets.{some_inj}
 use Rattle.oe_layout.specs.declared.links.RecordAddress.{RecordAddress}
@@ -58,6 +58,12 @@ later_link u (Some l) x whole e = go (holder_of u l.owner) refl e
 
 none_at_zero : (h t : ℕ) (a : RecordAddress) → unended h (link_from (Open t) (Committed a 0)) ≡ None
 none_at_zero h t a = ap (λ b. cond b (link_from (Open t) (Committed a 0)) None) (le-ltb h 0 (omega arith))
+
+-- and so is what it follows to
+pub none_first : (u : SegmentLog) (l : Option OwnedLink) (o : Option Link) → IsWhole u → o ≡ followed u l
+    → IfSome o (λ x. is_later 0 x.holder ≡ true)
+none_first u l None whole e = tt
+none_first u l (Some x) whole e = later_link u l x whole (sym e)
 
 pub moments_begin_at_one : Moments_begin_at_one
 moments_begin_at_one = record { none = none_at_zero; later = later_link }

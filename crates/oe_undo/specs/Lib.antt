@@ -12,6 +12,7 @@ pub mod PlacesLends
 pub mod Restored
 pub mod Shelf
 pub mod ShelfLends
+pub mod ShelfPieces
 pub mod Tables
 pub mod TablesLend
 pub mod Undo

@@ -1,10 +1,10 @@
 //! Links as they are followed: where a key's newest record lies, and whose it is by now. An
 //! `OwnedLink` is kept of each. Nothing here takes memory or can fail.
-ghost use Rattle.std.specs.Prelude.{◌≡◌};
+ghost use Rattle.std.specs.Prelude.{◌≡◌, true, IfSome};
 ghost use Rattle.oe_undo.specs.Chains.{link_from, previous_by, previous_of};
 ghost use Rattle.oe_undo.specs.Held.{is_later};
 
-use oe_layout::{Previous, RecordAddress};
+use oe_layout::{CommitMoment, Previous, RecordAddress};
 use oe_values::{Moment, Terminal};
 
 /// Whose a record is.
@@ -47,27 +47,29 @@ impl Holder {
             }),
             Previous::Committed(address, moment) => Some(Link {
                 address,
-                holder: Holder::At(moment),
+                holder: Holder::At(moment.moment()),
             }),
         }
     }
 }
 
 impl Link {
-    /// Gives what a record has as previous, where its key has this link.
+    /// Gives what a record has as previous, where its key has this link. No link has moment 0.
     fn previous(&self) -> Previous
+        requires { is_later 0 self.now.holder ≡ true }
         ensures { result ≡ previous_by self.now.holder self.now.address }
     {
         let address = self.address;
         match &self.holder {
             Holder::Open(_) => Previous::Own(address),
-            Holder::At(moment) => Previous::Committed(address, *moment),
+            Holder::At(moment) => { Previous::Committed(address, CommitMoment::of(*moment)) }
         }
     }
 }
 
 /// Gives what a record has as previous, where the key has a link or none.
 pub(crate) fn previous_of(link: Option<Link>) -> Previous
+    requires { IfSome link (λ l. is_later 0 l.holder ≡ true) }
     ensures { result ≡ previous_of link }
 {
     match link {

@@ -1,15 +1,16 @@
 //! Records pushed and taken off, each with its key's link: the record is written with the link that
 //! stands, then the link leads to it. A refused push changes nothing.
-ghost use Rattle.std.specs.Prelude.{◌≡◌, None, option_map, IsSome, IfErr, OnOk, OnErr};
+ghost use Rattle.std.specs.Prelude.{◌≡◌, true, None, option_map, IsSome, IfSome, IfErr, OnOk, OnErr};
 ghost use Rattle.std.specs.Borrow.{sem};
 ghost use Rattle.std.specs.Io.BufRead.{Rests};
 ghost use Rattle.oe_model.specs.Changes.{record_key};
 ghost use Rattle.oe_model.specs.Lengths.{record_length};
-ghost use Rattle.oe_layout.specs.Records.{record_of_lent, record_of_own};
+ghost use Rattle.oe_layout.specs.Records.{record_of_lent, record_of_own, IsOfLayout};
 ghost use Rattle.oe_layout.specs.declared.links.Previous.TheVariants.{Nothing};
 ghost use Rattle.oe_log.specs.Records.{newest_of};
 ghost use Rattle.oe_log.specs.Log.{IsFull, active_at, records_at, popped};
 ghost use Rattle.oe_undo.specs.Chains.{link_from, previous_of, IsAlone};
+ghost use Rattle.oe_undo.specs.Held.{is_later};
 ghost use Rattle.oe_undo.specs.Links.{place_of};
 ghost use Rattle.oe_undo.specs.declared.holders.Holder.TheVariants.{Open};
 ghost use Rattle.oe_undo.specs.Undo.{seen, HasPushed, IsUnpushed, GivesBack};
@@ -42,6 +43,7 @@ fn shared<T>(lent: &mut T) -> &T
 // Sets what leads to a record's previous one, by its key's link.
 #[inline(always)]
 fn lead_from(lent: &mut LinkedRecord<'_>, link: Option<Link>)
+    requires { IfSome link (λ l. is_later 0 l.holder ≡ true) }
     ensures previous { lent.new.previous ≡ previous_of link }
     ensures record { lent.new.record ≡ lent.old.record }
 {
@@ -51,9 +53,9 @@ fn lead_from(lent: &mut LinkedRecord<'_>, link: Option<Link>)
 impl Undo {
     /// Appends a record to an open segment, and has its key's link lead to it. What leads to the
     /// previous record of its row is written into it first: its key's link as it was. No other open
-    /// transaction has a record of the key, and no other record is at its address. The row before
-    /// an update is written from where it lies. A key that has a place for its link takes no
-    /// memory.
+    /// transaction has a record of the key, and no other record is at its address. The record is of
+    /// the log's layout. The row before an update is written from where it lies. A key that has a
+    /// place for its link takes no memory.
     ///
     /// `Full` exactly where the record fits neither the rest of the segment's newest extent nor a
     /// free one. `NoMemory`: the record fits, its key has no place for a link, and memory for that
@@ -63,6 +65,7 @@ impl Undo {
         requires open { IsSome (active_at self.old.log segment) }
         requires alone { IsAlone self.old.log segment
             (record_key (record_of_lent lent.old.record)) }
+        requires layout { IsOfLayout self.old.log.layout (record_of_lent lent.old.record) }
         ensures linked { link_from (Open segment) lent.new.previous
             ≡ seen self.old (record_key (record_of_lent lent.old.record)) }
         ensures record { lent.new.record ≡ lent.old.record }
@@ -97,6 +100,7 @@ impl Undo {
         requires open { IsSome (active_at self.old.log segment) }
         requires no_place { place_of self.old.links (record_key (record_of_lent lent.old.record))
             ≡ None }
+        requires layout { IsOfLayout self.old.log.layout (record_of_lent lent.old.record) }
         ensures linked { lent.new.previous ≡ Nothing }
         ensures record { lent.new.record ≡ lent.old.record }
         ensures pushed { OnOk result

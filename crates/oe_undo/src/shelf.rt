@@ -1,103 +1,159 @@
 //! The places of one shelf.
 //!
-//! By the invariant there is room in memory for as many as there are. Those behind the last that
-//! was met are empty, and stand in no memory yet. Only `reach` takes memory, and may be refused it.
-ghost use Rattle.std.specs.Prelude.{◌≡◌, ◌<◌, ◌≤◌, ◌+◌, ◌++◌, [], ◌∷◌, None, length, slice_get, vec_capacity, OnOk, OnErr};
+//! They are kept in pieces of 256. A piece that nobody met is empty and stands in no memory yet; by
+//! the invariant there is room for it. Only `reach` takes memory, and may be refused it.
+ghost use Rattle.std.specs.Prelude.{◌≡◌, ◌<◌, ◌≤◌, ◌+◌, ◌*◌, ◌++◌, ℕ, [], None, Some, length, replicate, set, slice_get, vec_capacity, OnOk, OnErr};
 ghost use Rattle.std.specs.Borrow.{sem};
 ghost use Rattle.std.specs.Option.{option_copied_mut};
 ghost use Rattle.oe_undo.specs.Shelf.{spread, content_in};
+ghost use Rattle.oe_undo.specs.ShelfPieces.{stands_at, content_of, ArePieces};
 
 use oe_values::NoMemory;
 use std::alloc::Global;
 use std::marker::Model;
 
+// How many places a piece has.
+const PIECE: usize = 256;
+
 /// The places of a shelf, numbered from 0 on: each is empty or has something in it.
 #[derive(Drop)]
 pub(crate) struct PlaceShelf<T> {
-    // The first places, up to the last that was met.
+    // For each piece where it starts among the met places, if it was met.
+    starts: Vec<Option<u32>>,
+    // The places of the met pieces, in the order in which those were met.
     met: Vec<Option<T>>,
-    // How many there are.
+    // How many places there are.
     count: usize,
 }
 
 impl<T> Model for PlaceShelf<T> {
     ghost use Rattle.std.specs.Prelude.{List, Option};
-    ghost use Rattle.std.specs.Prelude.{◌≤◌, length, vec_capacity};
-    ghost use Rattle.oe_undo.specs.Shelf.{spread};
+    ghost use Rattle.std.specs.Prelude.{◌≤◌, ◌*◌, length, vec_capacity};
+    ghost use Rattle.oe_undo.specs.ShelfPieces.{ArePieces, IsEmptyFrom, numbered};
 
     ghost Value = { List (Option T) };
 
-    ghost view = { λ s. spread s.count s.met.items };
+    ghost view = { λ s. numbered s.count s.starts.items s.met.items };
 
-    ghost invariant = { λ s. (length s.met.items ≤ s.count) × (s.count ≤ vec_capacity s.met) };
+    ghost invariant = { λ s. ArePieces s.starts.items s.met.items
+        × IsEmptyFrom s.count s.starts.items s.met.items
+        × (s.count ≤ 256 * length s.starts.items)
+        × (256 * length s.starts.items ≤ vec_capacity s.met)
+        × (length s.starts.items ≤ 16_777_216) };
 }
 
-// Puts empty places behind the others until there is one of that number, for which there is room.
+// Where the place of that number stands among the met ones, if its piece was met.
+#[inline(always)]
+fn stands_at(starts: &[Option<u32>], number: usize) -> Option<usize>
+    ensures { result ≡ stands_at starts.now number }
+{
+    let start = (*starts.get(number / PIECE)?)?;
+    Some(start as usize + number % PIECE)
+}
+
+// The content of the place of that number; none where its piece was not met.
+#[inline(always)]
+fn content_of<T: Copy>(starts: &[Option<u32>], met: &[Option<T>], number: usize) -> Option<T>
+    requires { ArePieces starts.now met.now }
+    ensures { result ≡ content_of starts.now met.now number }
+{
+    match stands_at(starts, number) {
+        Some(at) => met[at],
+        None => None,
+    }
+}
+
+// Puts an empty piece behind the others, for which there is room, and answers where it starts.
 #[inline(never)]
-fn extend<T: Copy>(met: &mut Vec<Option<T>>, number: usize)
-    requires room { number < vec_capacity met.old }
-    requires fewer { length met.old.items ≤ number }
-    ensures items { met.new.items ≡ spread (number + 1) met.old.items }
+fn append<T: Copy>(starts: &mut Vec<Option<u32>>, met: &mut Vec<Option<T>>, piece: usize) -> usize
+    requires there { piece < length starts.old.items }
+    requires room { length met.old.items + 256 ≤ vec_capacity met.old }
+    requires small { length met.old.items < 4_294_967_296 }
+    ensures start { result ≡ length met.old.items }
+    ensures starts { starts.new.items ≡ set starts.old.items piece (Some result) }
+    ensures met { met.new.items ≡ met.old.items ++ replicate 256 None }
     ensures capacity { vec_capacity met.old ≤ vec_capacity met.new }
 {
-    let Ok(()) = met.resize(number + 1, None) else {
+    let start = met.len();
+    let Ok(()) = met.resize(start + PIECE, None) else {
         unreachable!()
     };
+    starts[piece] = Some(start as u32);
+    start
 }
 
-// Puts an empty place behind the others, for which there is room.
+// Meets the place of that number, for whose piece there is room, and answers where it stands.
 #[inline(always)]
-fn append<T: Copy>(met: &mut Vec<Option<T>>)
-    requires room { length met.old.items < vec_capacity met.old }
-    ensures items { met.new.items ≡ met.old.items ++ None ∷ [] }
+fn meet<T: Copy>(starts: &mut Vec<Option<u32>>, met: &mut Vec<Option<T>>, number: usize) -> usize
+    requires pieces { ArePieces starts.old.items met.old.items }
+    requires there { number < 256 * length starts.old.items }
+    requires room { 256 * length starts.old.items ≤ vec_capacity met.old }
+    requires few { length starts.old.items ≤ 16_777_216 }
+    ensures pieces { ArePieces starts.new.items met.new.items }
+    ensures place { stands_at starts.new.items number ≡ Some result }
+    ensures contents { (n : ℕ) → content_of starts.new.items met.new.items n
+        ≡ content_of starts.old.items met.old.items n }
+    ensures length { length starts.new.items ≡ length starts.old.items }
     ensures capacity { vec_capacity met.old ≤ vec_capacity met.new }
 {
-    let Ok(()) = met.push(None) else {
-        unreachable!()
-    };
+    match stands_at(starts, number) {
+        Some(at) => at,
+        None => append(starts, met, number / PIECE) + number % PIECE,
+    }
 }
 
-// For how many more places memory is taken with the first ones, so that those that follow soon want
+// For how many more pieces memory is taken with the first ones, so that those that follow soon want
 // no more, and none is moved.
-fn spare(count: usize, number: usize) -> usize
-    ensures { result ≤ number }
+fn spare(there: usize, pieces: usize) -> usize
+    ensures { result ≤ pieces }
 {
-    if count == 0 { number / 2 } else { 0 }
+    if there == 0 { pieces / 2 } else { 0 }
 }
 
-// Meets the place of that number, for which there is room.
-#[inline(always)]
-fn meet<T: Copy>(met: &mut Vec<Option<T>>, number: usize)
-    requires room { number < vec_capacity met.old }
-    ensures items { met.new.items ≡ spread (number + 1) met.old.items }
-    ensures capacity { vec_capacity met.old ≤ vec_capacity met.new }
+// Takes memory for so many items in all; `NoMemory` where it was refused.
+fn reserve<T>(items: &mut Vec<T>, room: usize) -> Result<(), NoMemory>
+    requires { length items.old.items ≤ room }
+    ensures items { items.new.items ≡ items.old.items }
+    ensures room { OnOk result (room ≤ vec_capacity items.new) }
+    ensures capacity { vec_capacity items.old ≤ vec_capacity items.new }
 {
-    if met.len() == number {
-        return append(met);
-    }
-    if met.len() < number {
-        extend(met, number);
-    }
-}
-
-// Sees to it that there is room for the place of that number, behind as many as there are;
-// `NoMemory` where memory for it was refused.
-#[inline(always)]
-fn make_room<T>(met: &mut Vec<Option<T>>, count: usize, number: usize) -> Result<(), NoMemory>
-    requires met { length met.old.items ≤ count }
-    requires behind { count ≤ number }
-    requires small { number < 4_294_967_296 }
-    ensures items { met.new.items ≡ met.old.items }
-    ensures room { OnOk result (number < vec_capacity met.new) }
-    ensures capacity { vec_capacity met.old ≤ vec_capacity met.new }
-{
-    if number < met.capacity() {
-        return Ok(());
-    }
-    let more = number + 1 - met.len() + spare(count, number);
-    if let Err(_refused) = met.reserve(more) {
+    let more = room - items.len();
+    if let Err(_refused) = items.reserve(more) {
         return Err(NoMemory);
     }
+    Ok(())
+}
+
+// Sees to it that there are so many pieces, and room for their places; `NoMemory` where memory was
+// refused.
+#[inline(always)]
+fn reach_pieces<T>(
+    starts: &mut Vec<Option<u32>>,
+    met: &mut Vec<Option<T>>,
+    pieces: usize,
+) -> Result<(), NoMemory>
+    requires met { length met.old.items ≤ 256 * length starts.old.items }
+    requires room { 256 * length starts.old.items ≤ vec_capacity met.old }
+    requires few { pieces ≤ 16_777_216 }
+    ensures starts { OnOk result (starts.new.items ≡ spread pieces starts.old.items) }
+    ensures err { OnErr result (starts.new.items ≡ starts.old.items) }
+    ensures met { met.new.items ≡ met.old.items }
+    ensures room { 256 * length starts.new.items ≤ vec_capacity met.new }
+{
+    let there = starts.len();
+    if pieces <= there {
+        return Ok(());
+    }
+    let wanted = pieces + spare(there, pieces);
+    if let Err(refused) = reserve(met, PIECE * wanted) {
+        return Err(refused);
+    }
+    if let Err(refused) = reserve(starts, wanted) {
+        return Err(refused);
+    }
+    let Ok(()) = starts.resize(pieces, None) else {
+        unreachable!()
+    };
     Ok(())
 }
 
@@ -109,6 +165,7 @@ impl<T> PlaceShelf<T> {
         ensures { result ≡ [] }
     {
         PlaceShelf {
+            starts: Vec::new(alloc),
             met: Vec::new(alloc),
             count: 0,
         }
@@ -122,10 +179,7 @@ impl<T> PlaceShelf<T> {
         T: Copy,
         ensures { result ≡ content_in (slice_get self.now number) }
     {
-        match self.met.get(number) {
-            Some(place) => *place,
-            None => None,
-        }
+        content_of(&self.starts, &self.met, number)
     }
 
     /// Gives the place of that number, where there is one, to be set there. It takes no memory.
@@ -139,8 +193,8 @@ impl<T> PlaceShelf<T> {
         if self.count <= number {
             return None;
         }
-        meet(&mut self.met, number);
-        Some(&mut self.met[number])
+        let at = meet(&mut self.starts, &mut self.met, number);
+        Some(&mut self.met[at])
     }
 
     /// Makes places, which are empty, up to that number, where there are fewer; `NoMemory` where
@@ -155,7 +209,8 @@ impl<T> PlaceShelf<T> {
         if number < self.count {
             return Ok(());
         }
-        if let Err(refused) = make_room(&mut self.met, self.count, number) {
+        let pieces = number / PIECE + 1;
+        if let Err(refused) = reach_pieces(&mut self.starts, &mut self.met, pieces) {
             return Err(refused);
         }
         self.count = number + 1;

@@ -134,6 +134,16 @@ impl Undo {
         followed_in(&self.segments, &self.moments, self.links.link(key))
     }
 
+    /// Reads the place of a key's link early, as `Tables::touch_stock` does rows. What it gives has
+    /// no meaning.
+    #[inline]
+    pub fn touch(&self, key: &Key) -> u32 {
+        match self.links.link(key) {
+            Some(link) => link.address.offset.get(),
+            None => 0,
+        }
+    }
+
     /// States that each key's link leads along the key's records. It does nothing: it is for proofs
     /// above, which see no invariant.
     #[inline(always)]

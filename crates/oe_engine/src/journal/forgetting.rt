@@ -4,7 +4,13 @@
 //! that putting it back takes no memory: with the last of them it is taken off. Nothing takes
 //! memory or can fail.
 ghost use Rattle.std.specs.Prelude.{◌≡◌, ◌≤◌};
-ghost use Rattle.oe_undo.specs.Held.{horizon};
+ghost use Rattle.std.specs.FinMap.{get};
+ghost use Rattle.oe_index.specs.Numbers.{name_number};
+ghost use Rattle.oe_layout.specs.Records.{record_of_own};
+ghost use Rattle.oe_store.specs.Places.{rows};
+ghost use Rattle.oe_undo.specs.Held.{held, of_key, horizon};
+ghost use Rattle.oe_undo.specs.Restored.{later_of};
+ghost use Rattle.oe_engine.specs.Forgetting.{tells_name, one_tells, other_last, name_lost};
 
 use oe_index::name_number;
 use oe_layout::OwnRecord;
@@ -32,8 +38,10 @@ pub(crate) fn forget_name(
 }
 
 /// Gives the customer and the C_LAST that a record's undo takes away; none where it takes none.
-pub(crate) fn name_lost(tables: &Tables, record: &OwnRecord) -> Option<(CustomerKey, Text<0, 16>)> {
-    match &last_before(record) {
+pub(crate) fn name_lost(tables: &Tables, record: &OwnRecord) -> Option<(CustomerKey, Text<0, 16>)>
+    ensures { result ≡ name_lost (rows tables.now) (record_of_own record.now) }
+{
+    match &record.last_before() {
         Some((key, before)) => other_last(tables, key, before),
         None => None,
     }
@@ -45,7 +53,10 @@ fn other_last(
     tables: &Tables,
     key: &CustomerKey,
     before: &Text<0, 16>,
-) -> Option<(CustomerKey, Text<0, 16>)> {
+) -> Option<(CustomerKey, Text<0, 16>)>
+    ensures { result
+        ≡ other_last key.now before.now (get (rows tables.now).customers key.now) }
+{
     match tables.customer(*key) {
         Some(row) if row.name.last != *before => Some((*key, row.name.last.copied())),
         _ => None,
@@ -70,6 +81,8 @@ pub(crate) fn forget_lost(
 /// a customer or left it.
 fn had_later(undo: &Undo, key: &CustomerKey, last: &Text<0, 16>, moment: Moment) -> bool
     requires { horizon undo.now.log ≤ moment }
+    ensures { result ≡ one_tells (name_number last.now)
+        (later_of moment (of_key (Key.Customer key.now) (held undo.now.log))) }
 {
     undo.is_chained();
     let mut ticks = Ticks::new();
@@ -88,21 +101,11 @@ fn had_later(undo: &Undo, key: &CustomerKey, last: &Text<0, 16>, moment: Moment)
     false
 }
 
-/// Gives the customer and the C_LAST before the change of a record; none where the record has none.
-pub(crate) fn last_before(record: &OwnRecord) -> Option<(CustomerKey, Text<0, 16>)> {
-    match record {
-        OwnRecord::UpdatedCustomer(key, row) => Some((*key, row.name.last.copied())),
-        OwnRecord::ChangedCustomer(key, columns) => match &columns.name.last {
-            Some(last) => Some((*key, last.copied())),
-            None => None,
-        },
-        _ => None,
-    }
-}
-
 /// Tells whether a record has a C_LAST of that list before its change.
-fn has_name(record: &OwnRecord, last: &Text<0, 16>) -> bool {
-    match last_before(record) {
+fn has_name(record: &OwnRecord, last: &Text<0, 16>) -> bool
+    ensures { result ≡ tells_name (name_number last.now) (record_of_own record.now) }
+{
+    match record.last_before() {
         Some((_, before)) => name_number(&before) == name_number(last),
         None => false,
     }

@@ -15,7 +15,7 @@ ghost use Rattle.oe_undo.specs.Held.{horizon};
 ghost use Rattle.oe_undo.specs.Undo.{seen};
 ghost use Rattle.oe_engine.specs.GivesUp.{IsDeleted, GivesUpThose, GivesUpDeleted};
 
-use crate::journal::forgetting::{forget_name, last_before};
+use crate::journal::forgetting::forget_name;
 use crate::journal::names::has_ended;
 use oe_requests::Refusal;
 use oe_rows::{Key, NewOrderKey};
@@ -82,21 +82,13 @@ fn forget_names(tables: &mut Tables, undo: &Undo, moment: Moment, count: usize, 
 }
 
 /// Takes the customer whom a commit renamed off the list of the last name before, as far as nothing
-/// after the moment has a name of that list. The commit is given by the number of later ones. A
-/// rename has one record: of other commits none is read.
+/// after the moment has a name of that list. The commit is given by the number of later ones.
 fn forget_renamed(tables: &mut Tables, undo: &Undo, later: usize, moment: Moment)
     requires later { later < length undo.now.log.committed }
     requires moment { horizon undo.now.log ≤ moment }
     ensures { tables.new ≡ tables.old }
 {
-    let mut records = undo.segments().committed_records(later);
-    let Some(record) = records.next() else {
-        return;
-    };
-    if records.next().is_some() {
-        return;
-    }
-    if let Some((key, last)) = last_before(&record.read()) {
+    if let Some((key, last)) = undo.segments().renamed(later) {
         forget_name(tables, undo, &key, &last, moment);
     }
 }

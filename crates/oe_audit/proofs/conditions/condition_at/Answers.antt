@@ -3,7 +3,6 @@ use Rattle.oe_store.specs.Places.{rows}
 use Rattle.oe_versions.specs.Versions.{VersionState, rows_of}
 use Rattle.oe_audit.specs.AsOf.{ArePassed}
 use Rattle.oe_audit.specs.Verdict.{condition_of, verdict_of}
-use Rattle.oe_audit.proofs.PassedFacts.{passed_at}
 use Rattle.oe_audit.proofs.QuietFacts.{audited_now}
 use Rattle.oe_audit.proofs.conditions.condition_at.Goals as goal
 
@@ -17,4 +16,4 @@ returns-then-is_settled-clause-verdict c =
 pub found-requires : goal.found-requires
 found-requires c =
     subst (λ (v : VersionState). ArePassed (rows_of v) (rows c.args.tables.now)) (sym c.in-Ok.ensures.version)
-    (passed_at c.args.tables.now c.args.undo.now.log c.args.moment c.requires)
+    c.requires

@@ -15,15 +15,15 @@ loop-ended-init c = begins_work (world_of c.args.core.now) (world_of c.begin.new
 
 pub loop-ended-smaller : goal.loop-ended-smaller
 loop-ended-smaller c = falls (world_of c.loop-ended.core) (world_of c.advance.new.self) c.args.terminal
-    c.loop-ended.invariant.live c.in-More.ensures.0
+    c.loop-ended.invariant.live c.in-More.ensures.advances.0
 
 pub loop-ended-preserved : goal.loop-ended-preserved
 loop-ended-preserved c = goes_on_at_work (between system (world_of c.args.core.now)) c.args.terminal
     c.args.request.now (world_of c.loop-ended.core) (world_of c.advance.new.self) c.loop-ended.invariant
-    c.in-More.ensures.0
+    c.in-More.ensures.advances.0
 
 pub returns-in_default-advance : goal.returns-in_default-advance
 returns-in_default-advance c = ends_work (between system (world_of c.args.core.now)) c.args.terminal
     c.args.request.now (world_of c.loop-ended.core) (world_of c.advance.new.self) c.advance.result
-    (last_reply c.advance.new.self c.args.terminal) c.loop-ended.invariant c.advance.ensures
+    (last_reply c.advance.new.self c.args.terminal) c.loop-ended.invariant c.advance.ensures.advances
     c.in_default-advance.not-More

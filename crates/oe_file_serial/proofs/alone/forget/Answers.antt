@@ -6,8 +6,8 @@ use Rattle.oe_file_serial.proofs.alone.forget.Goals as goal
 
 pub returns-clause-free : goal.returns-clause-free
 returns-clause-free c = (purge_keeps (world_of c.args.core.now) (world_of c.purge-purged.new.self) c.newest.result
-    (answer_in (step.Purge c.newest.result) c.purge-purged.result) c.requires c.purge-purged.ensures.0).0
+    (answer_in (step.Purge c.newest.result) c.purge-purged.result) c.requires c.purge-purged.ensures.carries.0).0
 
 pub returns-clause-same : goal.returns-clause-same
 returns-clause-same c = (purge_keeps (world_of c.args.core.now) (world_of c.purge-purged.new.self) c.newest.result
-    (answer_in (step.Purge c.newest.result) c.purge-purged.result) c.requires c.purge-purged.ensures.0).1
+    (answer_in (step.Purge c.newest.result) c.purge-purged.result) c.requires c.purge-purged.ensures.carries.0).1

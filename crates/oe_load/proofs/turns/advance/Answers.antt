@@ -12,14 +12,20 @@ returns-in-More c =
       omega (arith, c.get-number.ensures.low, c.get-number.ensures.value),
       omega (arith, c.get-number.ensures.high, c.get-number.ensures.value),
     )
-    c.in-More.ensures.0
+    c.in-More.ensures.advances.0
     (subst (λ l. IsPassing c.args.terminal l c.passed.result) c.wanted-asked.ensures c.passed.ensures)
     c.next_line.ensures.items c.next_line.ensures.len
 
 pub returns-in-Committed : goal.returns-in-Committed
 returns-in-Committed c =
-    c.committed.ensures (world_of c.args.core.now) _ c.in-Committed.ensures.0 c.in-Committed.ensures.2.0
+    c.committed.ensures (world_of c.args.core.now) _ c.in-Committed.ensures.advances.0
+    c.in-Committed.ensures.advances.2.0 c.wanted-asked.ensures
+
+pub returns-in-Kept : goal.returns-in-Kept
+returns-in-Kept c = c.refused.ensures (world_of c.args.core.now) c.in-Kept.ensures.advances.0.0
     c.wanted-asked.ensures
 
-pub returns-in-Refused : goal.returns-in-Refused
-returns-in-Refused c = c.refused.ensures (world_of c.args.core.now) c.in-Refused.ensures.0 c.wanted-asked.ensures
+pub returns-in-RolledBack : goal.returns-in-RolledBack
+returns-in-RolledBack c =
+    c.refused-in-RolledBack.ensures (world_of c.args.core.now) c.in-RolledBack.ensures.advances.0.0
+    c.wanted-asked.ensures

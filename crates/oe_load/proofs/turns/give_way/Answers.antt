@@ -12,6 +12,6 @@ returns-in-RolledBack c = λ k does.
       omega (arith, c.get-number.ensures.low, c.get-number.ensures.value),
       omega (arith, c.get-number.ensures.high, c.get-number.ensures.value),
     )
-    c.in-RolledBack.ensures.0
+    c.in-RolledBack.ensures.carries.0
     (subst (λ l. IsBreaking c.args.terminal l c.broken.result) c.wanted_in_cycle-asked.ensures c.broken.ensures)
     c.rollback_line.ensures.items c.rollback_line.ensures.len

@@ -12,4 +12,4 @@ abbrev pub invariant-loop-ordinal : goal.invariant-loop-ordinal
 invariant-loop-ordinal l =
     Fills (λ k. (counts_to l.ordinal (district_count (district_of_customer k)) && is_any_district
     (district_of_customer k)) && counts_to l.scale.customers k.customer) (λ k. customer_of k.customer) empty (rows_of
-    customer_cmp l.table)
+    customer_cmp l.table.places)

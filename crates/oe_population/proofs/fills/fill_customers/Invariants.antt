@@ -10,4 +10,4 @@ use Rattle.oe_population.proofs.fills.fill_customers.Given as goal
 abbrev pub invariant-loop-before : goal.invariant-loop-before
 invariant-loop-before l =
     Fills (λ k. is_district l.fn.district (district_of_customer k) && counts_to l.before (k.customer))
-    (λ k. customer_of k.customer) (rows_of customer_cmp l.fn.table) (rows_of customer_cmp l.table)
+    (λ k. customer_of k.customer) (rows_of customer_cmp l.fn.table.places) (rows_of customer_cmp l.table.places)

@@ -9,4 +9,4 @@ use Rattle.oe_population.proofs.fills.fill_orders.Given as goal
 
 abbrev pub invariant-loop-before : goal.invariant-loop-before
 invariant-loop-before l = Fills (λ k. is_district l.fn.district (district_of_order k) && counts_to l.before (k.order))
-    (λ k. order_of l.scale k.order) (rows_of order_cmp l.fn.table) (rows_of order_cmp l.table)
+    (λ k. order_of l.scale k.order) (rows_of order_cmp l.fn.table.places) (rows_of order_cmp l.table.places)

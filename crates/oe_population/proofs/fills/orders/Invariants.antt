@@ -11,4 +11,4 @@ use Rattle.oe_population.proofs.fills.orders.Given as goal
 abbrev pub invariant-loop-ordinal : goal.invariant-loop-ordinal
 invariant-loop-ordinal l =
     Fills (λ k. (counts_to l.ordinal (district_count (district_of_order k)) && is_any_district (district_of_order k)) &&
-    counts_to l.scale.customers k.order) (λ k. order_of l.scale k.order) empty (rows_of order_cmp l.table)
+    counts_to l.scale.customers k.order) (λ k. order_of l.scale k.order) empty (rows_of order_cmp l.table.places)

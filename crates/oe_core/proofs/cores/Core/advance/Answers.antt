@@ -1,4 +1,4 @@
-use Rattle.std.proofs.Common.{Some, refl, sym, ap, subst, ◌∙◌, ◌≡◌, slice_set}
+use Rattle.std.proofs.Common.{Some, None, refl, arith, sym, ap, subst, ◌∙◌, ◌≡◌, slice_set}
 use Rattle.std.specs.Prelude.{IsSome, IfSome}
 use Rattle.oe_theory.specs.Next.{Advance, More, Committed}
 use Rattle.oe_engine.specs.View.{view_of}
@@ -6,25 +6,30 @@ use Rattle.oe_engine.specs.View as engine
 use Rattle.oe_engine.specs.Calls.{committed}
 use Rattle.oe_engine.specs.Programs.{reply_at}
 use Rattle.oe_requests.specs.declared.steps.Step.TheVariants as step
-use Rattle.oe_core.specs.Core.{Moves}
+use Rattle.oe_core.specs.Core.{Moves, last_reply, reply_left, in_slot}
+use Rattle.oe_theory.proofs.Sets.{set_idle}
+use Rattle.oe_core.proofs.LastFacts.{still_open, both_slots}
 use Rattle.oe_core.specs.Works.{WorkState}
 use Rattle.oe_requests.specs.declared.requests.Request.{Request}
 use Rattle.oe_core.specs.Steps.{refusal_in}
+use Rattle.oe_core.proofs.SlotFacts.{set_twice}
 use Rattle.oe_core.proofs.MoveFacts.{carries, nothing_open, HasOpen, lent_tx, lent_here}
 use Rattle.oe_core.proofs.AdvanceFacts.{holds_taken, recalls_here, went_on_here, taken_is, taken_is_open, has_reply}
 use Rattle.oe_core.proofs.AdvanceFacts.{committed_here}
-use Rattle.oe_core.proofs.AdvanceFacts.{left_here, told_last, kept_here, given_up_here}
+use Rattle.oe_core.proofs.AdvanceFacts.{left_here, told_last, kept_here, given_up_here, kept_world, is_abort}
 use Rattle.oe_core.proofs.cores.Core.advance.Goals.{In-Some-at_mut, In-Ready, After-self-in-More-1}
-use Rattle.oe_core.proofs.cores.Core.advance.Goals.{After-self-in-Ready-1, Then-keeps_open, After-roll_back}
+use Rattle.oe_core.proofs.cores.Core.advance.Goals.{After-self-in-Ready-1, Then-keeps_open, After-self-in-Refused-1}
 use Rattle.oe_core.proofs.cores.Core.advance.Goals as goal
 
-pub returns-in_default : goal.returns-in_default
-returns-in_default c =
-    rw (← c.self.view_is)
-    (carries (nothing_open
-    (record { engine = c.self.inside.engine; txs = c.self.inside.txs; works = c.self.inside.works })
-    c.self.invariant (Advance c.args.terminal) c.args.terminal refl
-    (lent_tx c.self.invariant refl c.at.ensures.high c.at.ensures.value c.in_default.is)))
+pub returns-in_default-clause-advances : goal.returns-in_default-clause-advances
+returns-in_default-clause-advances c =
+    rw (← c.self.view_is) (
+      carries (nothing_open
+          (record { engine = c.self.inside.engine; txs = c.self.inside.txs; works = c.self.inside.works })
+          c.self.invariant (Advance c.args.terminal) c.args.terminal refl
+          (lent_tx c.self.invariant refl c.at.ensures.high c.at.ensures.value c.in_default.is)),
+      refl,
+    )
 
 -- the transaction in its slot
 is_there : (c : In-Some-at_mut)
@@ -51,15 +56,16 @@ went_on : (c : After-self-in-More-1)
           (Some c.next.new.self);
     })
 went_on c =
-    went_on_here (is_there (goal.at.returns-in-More c).In-Some-at_mut) c.next.new.self c.next.new.engine _
+    went_on_here (is_there (goal.at.returns-in-More-clause-advances c).In-Some-at_mut) c.next.new.self
+    c.next.new.engine _
     c.in-More.ensures.progresses c.in-More.ensures.left
     refl
 
 pub invariant_of-self : goal.invariant_of-self
 invariant_of-self c = (went_on c).orderly
 
-pub returns-in-More : goal.returns-in-More
-returns-in-More c = rw (← c.self.view_is) (carries (went_on c))
+pub returns-in-More-clause-advances : goal.returns-in-More-clause-advances
+returns-in-More-clause-advances c = rw (← c.self.view_is) (carries (went_on c))
 
 -- it was ready: its program has its reply, and its transaction commits
 has_its_reply : (c : In-Ready)
@@ -91,10 +97,10 @@ committed_now : (c : After-self-in-Ready-1)
       works = slice_set c.self.inside.works c.args.terminal (Some c.next.new.self);
     })
 committed_now c =
-    let here = is_there (goal.at.returns-in-Ready c).In-Some-at_mut in
+    let here = is_there (goal.at.returns-in-Ready-clause-advances c).In-Some-at_mut in
     let ready = c.in-Ready.ensures.progresses in
     let reply : reply_at c.next.new.self.position ≡ Some ready.0.0 =
-    has_its_reply (goal.at.returns-in-Ready c).In-Ready here in
+    has_its_reply (goal.at.returns-in-Ready-clause-advances c).In-Ready here in
     committed_here here c.open_tx-open.result (taken_is here c.open_tx-open.result c.open_tx-open.ensures.value)
     ready.0.0 c.commit.result c.next.new.engine c.commit.new.engine _ _ (Some c.next.new.self)
     ready.0.1 ready.1 c.commit.ensures.moment
@@ -110,15 +116,15 @@ committed_now c =
 pub invariant_of-self-in-Ready : goal.invariant_of-self-in-Ready
 invariant_of-self-in-Ready c = (committed_now c).orderly
 
-pub returns-in-Ready : goal.returns-in-Ready
-returns-in-Ready c =
-    let here = is_there (goal.at.returns-in-Ready c).In-Some-at_mut in
+pub returns-in-Ready-clause-advances : goal.returns-in-Ready-clause-advances
+returns-in-Ready-clause-advances c =
+    let here = is_there (goal.at.returns-in-Ready-clause-advances c).In-Some-at_mut in
     rw (← c.self.view_is)
     (told_last (committed_now c)
     (left_here here c.next.new.self c.in-Ready.ensures.progresses.0.0 c.commit.new.engine _ _
     c.open_tx-open.ensures.after
     refl
-    (has_its_reply (goal.at.returns-in-Ready c).In-Ready here)))
+    (has_its_reply (goal.at.returns-in-Ready-clause-advances c).In-Ready here)))
 
 -- it was refused, and the transaction stays open where it stands
 kept : (c : Then-keeps_open)
@@ -132,7 +138,8 @@ kept : (c : Then-keeps_open)
     })
 kept c =
     let refused = c.in-Refused.ensures.progresses in
-    kept_here (is_there (goal.at.returns-then-keeps_open c).In-Some-at_mut) c.next.new.self c.next.new.engine _
+    kept_here (is_there (goal.at.returns-then-keeps_open-clause-advances c).In-Some-at_mut) c.next.new.self
+    c.next.new.engine _
     c.in-Refused.refusal
     (sym c.keeps_open.ensures ∙ c.if-keeps_open.true) refused.0 refused.1 refused.2 c.in-Refused.ensures.left
     refl
@@ -140,8 +147,13 @@ kept c =
 pub invariant_of-self-then-keeps_open : goal.invariant_of-self-then-keeps_open
 invariant_of-self-then-keeps_open c = (kept c).orderly
 
-pub returns-then-keeps_open : goal.returns-then-keeps_open
-returns-then-keeps_open c = rw (← c.self.view_is) (carries (kept c))
+pub returns-then-keeps_open-clause-advances : goal.returns-then-keeps_open-clause-advances
+returns-then-keeps_open-clause-advances c =
+    rw (← c.self.view_is) (
+      carries (kept c),
+      kept_world _ _ c.args.terminal c.in-Refused.refusal (sym c.keeps_open.ensures ∙ c.if-keeps_open.true)
+          (kept c).next,
+    )
 
 -- it was refused: the transaction is taken out of its slot, and rolled back
 pub roll_back-requires : goal.roll_back-requires
@@ -150,26 +162,58 @@ roll_back-requires c =
     c.open_tx-open-in-Refused.ensures.value c.next.new.engine
     c.in-Refused.ensures.progresses.1 c.in-Refused.ensures.progresses.2
 
-given_up : (c : After-roll_back)
+given_up : (c : After-self-in-Refused-1)
     → Moves (record { engine = c.self.inside.engine; txs = c.self.inside.txs; works = c.self.inside.works })
     (Advance c.args.terminal) (refusal_in (step.Advance c.args.terminal) c.in-Refused.refusal)
     (record {
       engine = c.roll_back.new.engine;
       txs = c.open_tx-open-in-Refused.new.txs;
-      works = slice_set c.self.inside.works c.args.terminal (Some c.next.new.self);
+      works = slice_set (slice_set c.self.inside.works c.args.terminal (Some c.next.new.self)) c.args.terminal None;
     })
 given_up c =
-    let here = is_there (goal.at.returns-else-keeps_open c).In-Some-at_mut in
+    let here = is_there (goal.at.returns-else-keeps_open-clause-advances c).In-Some-at_mut in
     let refused = c.in-Refused.ensures.progresses in
     let out = c.open_tx-open-in-Refused in
     given_up_here here out.result (taken_is here out.result out.ensures.value) c.next.new.engine c.roll_back.new.engine
-    _ _ (Some c.next.new.self) c.in-Refused.refusal
+    _ _ None c.in-Refused.refusal
     (sym c.keeps_open.ensures ∙ c.if-keeps_open.false) refused.0 refused.1 refused.2 c.roll_back.ensures.rolled_back
     c.roll_back.ensures.name out.ensures.after
-    refl
+    (set_twice c.self.inside.works c.args.terminal (Some c.next.new.self) None)
 
 pub invariant_of-self-in-Refused : goal.invariant_of-self-in-Refused
 invariant_of-self-in-Refused c = (given_up c).orderly
 
-pub returns-else-keeps_open : goal.returns-else-keeps_open
-returns-else-keeps_open c = rw (← c.self.view_is) (carries (given_up c))
+pub returns-else-keeps_open-clause-advances : goal.returns-else-keeps_open-clause-advances
+returns-else-keeps_open-clause-advances c =
+    let here = is_there (goal.at.returns-else-keeps_open-clause-advances c).In-Some-at_mut in
+    rw (← c.self.view_is) (
+      carries (given_up c),
+      is_abort _ _ _ _ here c.in-Refused.refusal (sym c.keeps_open.ensures ∙ c.if-keeps_open.false)
+          c.in-Refused.ensures.progresses.0,
+    )
+
+-- while a transaction is open its terminal has no last reply
+pub returns-in-More-clause-replies : goal.returns-in-More-clause-replies
+returns-in-More-clause-replies c =
+    let here = is_there (goal.at.returns-in-More-clause-replies c).In-Some-at_mut in
+    rw (← c.self.view_is)
+    (still_open c.self.inside.engine c.next.new.engine c.self.inside.txs c.self.inside.works c.args.terminal
+    c.in-Some.tx
+    (Some c.next.new.self) here.tx (omega (arith, here.low, here.orderly.work_slots)))
+
+pub returns-else-keeps_open-clause-replies : goal.returns-else-keeps_open-clause-replies
+returns-else-keeps_open-clause-replies c =
+    let here = is_there (goal.at.returns-else-keeps_open-clause-replies c).In-Some-at_mut in
+    let txs = c.self.inside.txs in
+    let works = c.self.inside.works in
+    let t = c.args.terminal in
+    rw (← c.self.view_is)
+    ((λ i. last_reply (record {
+      engine = c.roll_back.new.engine;
+      txs = c.open_tx-open-in-Refused.ensures.after i;
+      works = set_twice works t (Some c.next.new.self) None i;
+    }))
+    ∙ (both_slots c.self.inside.engine c.roll_back.new.engine txs works t None None
+    (omega (arith, here.low, here.orderly.tx_slots)) (omega (arith, here.low, here.orderly.work_slots))
+    ∙ set_idle t None (last_reply (record { engine = c.self.inside.engine; txs = txs; works = works }))
+    (ap (λ o. reply_left o (in_slot works t)) here.tx)))

@@ -16,7 +16,8 @@ returns-in-Some c =
 
 pub put_tx-requires : goal.put_tx-requires
 put_tx-requires c = slice_of c.self.inside.txs c.args.terminal None None (search rules)
-    (no_tx c.self.inside.engine c.args.terminal _ _ (c.self.invariant.works c.args.terminal) c.in-Ok.ensures.closed)
+    (no_tx c.self.inside.engine c.args.terminal _ _ (c.self.invariant.works c.args.terminal)
+    (rw c.touch.ensures at c.in-Ok.ensures.closed))
 
 -- the transaction has begun
 begun : (c : After-begin_work)
@@ -26,9 +27,10 @@ begun : (c : After-begin_work)
 begun c =
     begun_here _ c.self.invariant c.args.terminal c.put_tx.ensures.low c.put_tx.ensures.high c.args.request.now
     c.ranges_hold.ensures c.in-Ok.tx c.begin.new.self _ _
-    (ap (rejection c.args.request.now) (sym c.tables.ensures) ∙ sym c.in_default.ensures) c.in-Ok.ensures.counted
-    c.in-Ok.ensures.closed c.begin.ensures.idle c.in-Ok.ensures.begun c.begin.ensures.name
-    c.in-Ok.ensures.handle
+    (ap (rejection c.args.request.now) (sym c.tables.ensures) ∙ sym c.in_default.ensures)
+    (rw c.touch.ensures at c.in-Ok.ensures.counted) (rw c.touch.ensures at c.in-Ok.ensures.closed)
+    (rw c.touch.ensures at c.begin.ensures.idle) (rw c.touch.ensures at c.in-Ok.ensures.begun)
+    (rw c.touch.ensures at c.begin.ensures.name) (rw c.touch.ensures at c.in-Ok.ensures.handle)
     c.put_tx.ensures.after c.begin_work.ensures
 
 pub invariant_of-self : goal.invariant_of-self
@@ -39,8 +41,8 @@ returns-in-Ok c = rw (← c.self.view_is) (carries (begun c))
 
 pub returns-in-Err : goal.returns-in-Err
 returns-in-Err c =
-    rw (← c.self.view_is, c.in-Err.ensures.err)
+    rw (← c.self.view_is, c.in-Err.ensures.err, c.touch.ensures)
     (carries (not_begun _ c.self.invariant c.args.terminal (search rules) (search rules) c.args.request.now
     c.ranges_hold.ensures
     (ap (rejection c.args.request.now) (sym c.tables.ensures) ∙ sym c.in_default.ensures) c.in-Err.refusal
-    c.in-Err.ensures.cause))
+    (rw c.touch.ensures at c.in-Err.ensures.cause)))

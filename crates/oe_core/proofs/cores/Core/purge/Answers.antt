@@ -7,8 +7,8 @@ invariant_of-self c =
     (unchanged c.purge.new.self c.in-Err.ensures.err
     (purge_refused _ c.self.invariant c.args.moment c.in-Err.cause c.in-Err.ensures.cause)).orderly
 
-pub returns-in-Err : goal.returns-in-Err
-returns-in-Err c =
+pub returns-in-Err-clause-carries : goal.returns-in-Err-clause-carries
+returns-in-Err-clause-carries c =
     rw (← c.self.view_is)
     (carries (unchanged c.purge.new.self c.in-Err.ensures.err
     (purge_refused _ c.self.invariant c.args.moment c.in-Err.cause c.in-Err.ensures.cause)))
@@ -18,8 +18,8 @@ invariant_of-self-2 c =
     (purged_here _ c.self.invariant c.purge.new.self c.args.moment c.in_default.ensures.kept c.in_default.ensures.purged
     c.purge.ensures.name).orderly
 
-pub returns : goal.returns
-returns c =
+pub returns-clause-carries : goal.returns-clause-carries
+returns-clause-carries c =
     rw (← c.self.view_is)
     (carries (purged_here _ c.self.invariant c.purge.new.self c.args.moment c.in_default.ensures.kept
     c.in_default.ensures.purged c.purge.ensures.name))

@@ -10,8 +10,8 @@ invariant_of-self c =
     (nothing_taken _ c.self.invariant (Rollback c.args.terminal) c.args.terminal refl c.in_default.ensures.value _
     c.take_tx.ensures.after).orderly
 
-pub returns-in_default : goal.returns-in_default
-returns-in_default c =
+pub returns-in_default-clause-carries : goal.returns-in_default-clause-carries
+returns-in_default-clause-carries c =
     rw (← c.self.view_is)
     (carries (nothing_taken _ c.self.invariant (Rollback c.args.terminal) c.args.terminal refl
     c.in_default.ensures.value _ c.take_tx.ensures.after))
@@ -36,5 +36,5 @@ rolled_back c =
 pub invariant_of-self-2 : goal.invariant_of-self-2
 invariant_of-self-2 c = (rolled_back c).orderly
 
-pub returns : goal.returns
-returns c = rw (← c.self.view_is) (carries (rolled_back c))
+pub returns-clause-carries : goal.returns-clause-carries
+returns-clause-carries c = rw (← c.self.view_is) (carries (rolled_back c))

@@ -23,7 +23,7 @@ invariant_of-self c =
     let below : calls.IsBelow (option_map mode_of c.args.mode) (v.held c.args.terminal c.args.name) =
     below_as _ _ lower in
     let unused = rw (← c.self.view_is) at c.requires.unused in
-    let none : IsUnused c.args.name (v.undo.active c.args.terminal) = unused below in
+    let none : IsUnused c.args.name (v.undo.active c.args.terminal) v.rows = unused below in
     record {
       sound = record {
         kept = locks_kept c.self.inside.tables c.self.inside.undo.log c.self.inside.locks c.give_back.new.self

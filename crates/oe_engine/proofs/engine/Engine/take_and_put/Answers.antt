@@ -32,9 +32,10 @@ restore-requires-clause-unused g c = λ h.
     let below : IsBelow (v.held c.args.terminal c.args.lock.now.name)
     ((view_of c.put.new.self).held c.args.terminal c.args.lock.now.name) =
     subst (λ o. IsBelow o ((view_of c.put.new.self).held c.args.terminal c.args.lock.now.name)) before h in
-    subst (λ (z : View). IsUnused c.args.lock.now.name (z.undo.active c.args.terminal)) (sym now)
+    subst (λ (z : View). IsUnused c.args.lock.now.name (z.undo.active c.args.terminal) z.rows) (sym now)
     (unused_if_lower (v.held c.args.terminal) c.args.lock.now.name c.args.terminal (suc (v.counts c.args.terminal))
-    (not_exclusive _ _ below) (v.undo.active c.args.terminal) (safe.owned c.args.terminal))
+    (not_exclusive _ _ below) (v.undo.active c.args.terminal) v.rows (safe.owned c.args.terminal)
+    (safe.parts c.args.terminal))
 
 pub restore-requires-clause-below : goal.restore-requires-clause-below
 unfolding view_of view_from

@@ -13,6 +13,7 @@ use Rattle.oe_engine.specs.Records.{record_of_write}
 use Rattle.oe_engine.proofs.MoreFacts.{of_some}
 use Rattle.oe_engine.proofs.LinkedFacts.{unplaced}
 use Rattle.oe_engine.proofs.RecordFacts.{recorded}
+use Rattle.oe_engine.proofs.OfLayoutFacts.{write_of_layout}
 use Rattle.oe_engine.proofs.RecordedFacts.{record_written, writes_may}
 use Rattle.oe_engine.proofs.journal.writes.push_lent.Goals as goal
 
@@ -22,6 +23,11 @@ push-requires-clause-alone g c =
     subst (IsAlone c.args.undo.now.log c.args.segment)
     (sym (record_written c.args.undo.now.log.layout (g.W.OneWrite.write c.args.write.now) (rows c.args.tables.now)
     (record_of_lent c.args.lent.now.record) c.requires.own)) c.requires.alone
+
+pub push-requires-clause-layout : goal.push-requires-clause-layout
+push-requires-clause-layout g c =
+    write_of_layout c.args.undo.now.log.layout (g.W.OneWrite.write c.args.write.now) (rows c.args.tables.now)
+    (record_of_lent c.args.lent.now.record) c.requires.own
 
 pub returns-in-Err-Full-clause-cause : goal.returns-in-Err-Full-clause-cause
 returns-in-Err-Full-clause-cause g c =

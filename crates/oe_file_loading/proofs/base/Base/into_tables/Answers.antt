@@ -10,10 +10,10 @@ of-requires c =
     (record {
       warehouses = c.self.inside.warehouses;
       districts = c.self.inside.districts;
-      customers = c.self.inside.customers;
+      customers = c.self.inside.customers.places;
       items = c.self.inside.items;
       stocks = c.self.inside.stocks;
-    }) c.new.result c.new-2.result c.new-3.result c.new-4.result c.self.invariant
+    }) c.new.result c.new-2.result c.new-3.result.places c.new-4.result c.self.invariant
     c.new.ensures.rows c.new-2.ensures.rows c.new-3.ensures.rows c.new-4.ensures.rows
 
 pub returns : goal.returns
@@ -23,9 +23,9 @@ returns c =
     (record {
       warehouses = c.self.inside.warehouses;
       districts = c.self.inside.districts;
-      customers = c.self.inside.customers;
+      customers = c.self.inside.customers.places;
       items = c.self.inside.items;
       stocks = c.self.inside.stocks;
-    }) c.new.result c.new-2.result c.new-3.result c.new-4.result c.self.invariant
+    }) c.new.result c.new-2.result c.new-3.result.places c.new-4.result c.self.invariant
     c.new.ensures.rows c.new-2.ensures.rows c.new-3.ensures.rows c.new-4.ensures.rows
     ∙ ap base_rows c.self.view_is

@@ -17,7 +17,7 @@ invariant_of-self c =
     let r = base_rows c.args.self.now in
     let own = district_of_customer c.args.key in
     let there = met_there row.District (get r.districts own) (key.District own) [] r refl c.requires.met in
-    base_customer c.put_new.result _ c.self.invariant c.put_new.new.self c.args.key c.args.row
+    base_customer c.put_new.result _ c.self.invariant c.put_new.new.self.places c.args.key c.args.row
     (subst (λ (s : BasePlaces). IsSome (get (base_rows s).districts own)) (sym c.self.view_is) there.0) (search rules)
     c.put_new.ensures.rows c.put_new.ensures.err
 
@@ -27,7 +27,7 @@ returns-clause-only c =
       warehouses = c.self.inside.warehouses;
       districts =
           c.self.inside.districts;
-      customers = c.put_new.new.self;
+      customers = c.put_new.new.self.places;
       items = c.self.inside.items;
       stocks =
           c.self.inside.stocks;

@@ -20,7 +20,7 @@ returns-clause-only c =
       warehouses = c.self.inside.warehouses;
       districts =
           c.self.inside.districts;
-      customers = c.self.inside.customers;
+      customers = c.self.inside.customers.places;
       items = c.put_new.new.self;
       stocks =
           c.self.inside.stocks;

@@ -31,7 +31,7 @@ returns-clause-only c =
       warehouses = c.self.inside.warehouses;
       districts =
           c.self.inside.districts;
-      customers = c.self.inside.customers;
+      customers = c.self.inside.customers.places;
       items = c.self.inside.items;
       stocks =
           c.put_new.new.self;

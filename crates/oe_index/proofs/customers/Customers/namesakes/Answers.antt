@@ -11,4 +11,4 @@ returns c =
     (λ t k x at. c.self.invariant e k x at)
     (c.under.ensures.listed ∙ ap (λ n. get_or c.self.inside.lists n [])
     c.list_number-number.ensures.value) c.under.ensures.ordered)
-    (rw c.self.view_is c.requires))
+    (rw (← c.self.view_is) at c.requires))

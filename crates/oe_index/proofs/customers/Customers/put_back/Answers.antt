@@ -5,7 +5,7 @@ use Rattle.oe_rows.proofs.KeyFacts.{customer_total, exact_customer}
 use Rattle.oe_table.specs.Table.{rows_of, RewritesRow}
 use Rattle.oe_index.specs.Listed.{IsListed, AreListed}
 use Rattle.oe_index.specs.Numbers.{list_of_name}
-use Rattle.oe_index.proofs.FoundFacts.{on_row, row_was, same_row, listed-swap}
+use Rattle.oe_index.proofs.FoundFacts.{on_row, row_was, same_row, listed-swap, stands-if}
 use Rattle.oe_index.proofs.NameFacts.{listed-before}
 use Rattle.oe_index.proofs.customers.Customers.put_back.Goals as goal
 
@@ -30,11 +30,17 @@ invariant_of-self c =
     c.self.inside.lists (rows_of customer_cmp c.self.inside.rows) c.args.key.now c.put_on.new.row (listed c)
     c.self.invariant)
 
-pub returns : goal.returns
-returns c =
+pub returns-clause-row : goal.returns-clause-row
+returns-clause-row c =
     rw (← c.self.view_is)
     (λ x at. subst (λ y. RewritesRow customer_cmp c.self.inside.rows
     (c.row_mut.follows.lender c.put_on.new.row) c.args.key.now (with_customer c.args.columns y))
     (same_row c.row_mut.result c.unwrap-customer.result c.unwrap-customer.ensures _ x c.row_mut.ensures.row at)
     (subst (λ z. RewritesRow customer_cmp c.self.inside.rows (c.row_mut.follows.lender c.put_on.new.row)
     c.args.key.now z) c.put_on.ensures (rewritten c)))
+
+pub returns-clause-stand : goal.returns-clause-stand
+returns-clause-stand c =
+    rw (← c.self.view_is)
+    (stands-if c.self.inside.is_listed c.is_under_before-stays.result _ c.are_both-self-inside.ensures
+    c.is_under_before-stays.ensures (λ on h. h) (λ h. h))

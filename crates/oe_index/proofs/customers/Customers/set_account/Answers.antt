@@ -24,10 +24,13 @@ invariant_of-self c =
     (row_was c.row_mut.result c.unwrap-customer.result c.unwrap-customer.ensures _ c.row_mut.ensures.row) refl
     c.self.invariant)
 
-pub returns : goal.returns
-returns c =
+pub returns-clause-row : goal.returns-clause-row
+returns-clause-row c =
     rw (← c.self.view_is)
     (λ x at. subst (λ y. RewritesRow customer_cmp c.self.inside.rows
     (c.row_mut.follows.lender (set c c.unwrap-customer.result.now)) c.args.key.now (set c y))
     (same_row c.row_mut.result c.unwrap-customer.result c.unwrap-customer.ensures _ x c.row_mut.ensures.row at)
     (rewritten c))
+
+pub returns-clause-lists : goal.returns-clause-lists
+returns-clause-lists c = rw (← c.self.view_is) (refl, refl)

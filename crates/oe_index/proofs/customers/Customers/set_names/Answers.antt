@@ -27,9 +27,9 @@ invariant_of-self-2 c =
     (listed-insert customer_total exact_customer list_of_name c.self.inside.is_listed c.list_renamed.new.lists
     (rows_of customer_cmp c.self.inside.rows) c.args.key.now (set c c.unwrap-customer.result.now)
     (listed-renamed c.self.inside.is_listed c.self.inside.lists c.list_renamed.new.lists
-    (rows_of customer_cmp c.self.inside.rows) c.args.key.now c.args.last.now c.list_renamed.ensures.kept
+    (rows_of customer_cmp c.self.inside.rows) c.args.key.now c.args.last.now c.list_renamed.ensures.lists.kept
     c.in_default.ensures.listed c.self.invariant)
-    (listed-more list_of_name c.self.inside.is_listed _ _ _ c.list_renamed.ensures.kept c.self.invariant))
+    (listed-more list_of_name c.self.inside.is_listed _ _ _ c.list_renamed.ensures.lists.kept c.self.invariant))
 
 pub returns-clause-ok : goal.returns-clause-ok
 returns-clause-ok c =
@@ -38,3 +38,15 @@ returns-clause-ok c =
     (c.row_mut.follows.lender (set c c.unwrap-customer.result.now)) c.args.key.now (set c y))
     (same_row c.row_mut.result c.unwrap-customer.result c.unwrap-customer.ensures _ x c.row_mut.ensures.row at)
     (rewritten c))
+
+pub returns-in-Err-clause-lists : goal.returns-in-Err-clause-lists
+returns-in-Err-clause-lists c = rw (← c.self.view_is) c.list_renamed.ensures.lists
+
+pub returns-clause-lists : goal.returns-clause-lists
+returns-clause-lists c = rw (← c.self.view_is) c.list_renamed.ensures.lists
+
+pub returns-clause-listed : goal.returns-clause-listed
+returns-clause-listed c =
+    listed-renamed c.self.inside.is_listed c.self.inside.lists c.list_renamed.new.lists
+    (rows_of customer_cmp c.self.inside.rows) c.args.key.now c.args.last.now c.list_renamed.ensures.lists.kept
+    c.in_default.ensures.listed c.self.invariant

@@ -1,3 +1,4 @@
+use Rattle.std.proofs.Common.{refl}
 use Rattle.oe_rows.specs.Key.{order_cmp}
 use Rattle.oe_rows.proofs.KeyFacts.{order_total}
 use Rattle.oe_table.specs.Table.{rows_of}
@@ -13,3 +14,6 @@ invariant_of-self c =
 
 pub returns-clause-places : goal.returns-clause-places
 returns-clause-places c = rw (← c.self.view_is) c.blank.ensures.places
+
+pub returns-clause-lists : goal.returns-clause-lists
+returns-clause-lists c = rw (← c.self.view_is) (refl, refl)

@@ -13,3 +13,6 @@ invariant_of-self c =
 
 pub returns-clause-places : goal.returns-clause-places
 returns-clause-places c = rw (← c.self.view_is) c.remove-row.ensures.places
+
+pub returns-clause-lists : goal.returns-clause-lists
+returns-clause-lists c = rw (← c.self.view_is) c.unlist.ensures

@@ -2,7 +2,8 @@ use Rattle.oe_rows.specs.Key.{order_cmp}
 use Rattle.oe_rows.proofs.KeyFacts.{order_total, exact_order}
 use Rattle.oe_table.specs.Table.{rows_of}
 use Rattle.oe_index.specs.Numbers.{list_of_owner}
-use Rattle.oe_index.proofs.FoundFacts.{listed-swap}
+use Rattle.std.proofs.Common.{sym, ◌∙◌}
+use Rattle.oe_index.proofs.FoundFacts.{listed-swap, stands-if}
 use Rattle.oe_index.proofs.OwnerFacts.{listed-owner}
 use Rattle.oe_index.proofs.orders.Orders.swap.Goals as goal
 
@@ -16,3 +17,10 @@ invariant_of-self c =
 
 pub returns-clause-places : goal.returns-clause-places
 returns-clause-places c = rw (← c.self.view_is) c.swap.ensures.places
+
+pub returns-clause-stand : goal.returns-clause-stand
+returns-clause-stand c =
+    rw (← c.self.view_is)
+    (let told = (rw (← c.self.view_is) at c.has_owner-stays.ensures) in
+    stands-if c.self.inside.is_listed c.has_owner-stays.result _ c.are_both-self-inside.ensures
+    ((λ h. sym told ∙ h), (λ h. told ∙ h)) (λ on h. h) (λ h. h))

@@ -1,3 +1,4 @@
+use Rattle.std.proofs.Common.{refl}
 use Rattle.oe_index.proofs.orders.Orders.sweep.Goals as goal
 
 pub invariant_of-self : goal.invariant_of-self
@@ -5,3 +6,6 @@ invariant_of-self c = rw c.sweep.ensures.rows c.self.invariant
 
 pub returns-clause-places : goal.returns-clause-places
 returns-clause-places c = rw (← c.self.view_is) c.sweep.ensures.places
+
+pub returns-clause-lists : goal.returns-clause-lists
+returns-clause-lists c = rw (← c.self.view_is) (refl, refl)

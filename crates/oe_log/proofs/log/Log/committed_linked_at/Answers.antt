@@ -11,7 +11,7 @@ use Rattle.oe_log.proofs.log.Log.committed_linked_at.Goals as goal
 
 pub committed_at-requires-clause-commit : goal.committed_at-requires-clause-commit
 committed_at-requires-clause-commit c =
-    commit_there c.self.inside.layout c.self.invariant c.args.later
+    commit_there c.self.inside.layout c.self.invariant.kept c.args.later
     (subst (λ (v : SegmentLog). c.args.later < length v.committed) (sym c.self.view_is) c.requires.commit)
 
 pub committed_at-requires-clause-some : goal.committed_at-requires-clause-some
@@ -19,29 +19,29 @@ committed_at-requires-clause-some c =
     let seen = subst (λ (v : SegmentLog). HasAddress (get_or (committed_records v) c.args.later []) c.args.address)
     (sym c.self.view_is) c.requires.some in
     let has = subst (λ (rss : List (List Logged)). HasAddress (get_or rss c.args.later []) c.args.address)
-    (seen_committed c.self.inside.layout (inside c.self.invariant)) seen in
+    (seen_committed c.self.inside.layout (inside c.self.invariant.kept)) seen in
     rw c.ring_address-place.ensures
-    (has_string c.args.address c.self.inside.ring.committed c.args.later c.self.invariant.lie.committed_are has)
+    (has_string c.args.address c.self.inside.ring.committed c.args.later c.self.invariant.kept.lie.committed_are has)
 
 pub linked_record-requires : goal.linked_record-requires
 linked_record-requires c =
     let seen = subst (λ (v : SegmentLog). HasAddress (get_or (committed_records v) c.args.later []) c.args.address)
     (sym c.self.view_is) c.requires.some in
     let has = subst (λ (rss : List (List Logged)). HasAddress (get_or rss c.args.later []) c.args.address)
-    (seen_committed c.self.inside.layout (inside c.self.invariant)) seen in
+    (seen_committed c.self.inside.layout (inside c.self.invariant.kept)) seen in
     let stands = subst (λ (a : Address). ring.IsStringAt (get_or c.self.inside.ring.committed c.args.later []) a
     c.committed_at.result.now) c.ring_address-place.ensures c.committed_at.ensures in
     is_stored c.args.address c.self.inside.ring.committed c.args.later c.committed_at.result.now
-    c.self.invariant.lie.committed_are has stands
+    c.self.invariant.kept.lie.committed_are has stands
 
 pub returns-clause-record : goal.returns-clause-record
 returns-clause-record c p b k =
     let seen = subst (λ (v : SegmentLog). IsAmong (logged c.args.address p b)
     (get_or (committed_records v) c.args.later [])) (sym c.self.view_is) k in
     let there = subst (λ (rss : List (List Logged)). IsAmong (logged c.args.address p b) (get_or rss c.args.later []))
-    (seen_committed c.self.inside.layout (inside c.self.invariant)) seen in
+    (seen_committed c.self.inside.layout (inside c.self.invariant.kept)) seen in
     let stands = subst (λ (a : Address). ring.IsStringAt (get_or c.self.inside.ring.committed c.args.later []) a
     c.committed_at.result.now) c.ring_address-place.ensures c.committed_at.ensures in
     linked_there c.args.address p b c.self.inside.ring.committed c.args.later c.committed_at.result.now
-    (c.linked_record.result.0, c.linked_record.result.1) c.self.invariant.lie.committed_are there stands
+    (c.linked_record.result.0, c.linked_record.result.1) c.self.invariant.kept.lie.committed_are there stands
     c.linked_record.ensures

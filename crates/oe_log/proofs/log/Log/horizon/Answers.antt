@@ -10,7 +10,7 @@ pub returns-clause-value : goal.returns-clause-value
 returns-clause-value c =
     let moment : c.unwrap.result ≡ c.self.inside.newest - c.len-kept.result = search rules in
     rw (← c.self.view_is)
-    (horizon_value c.self.inside.layout c.self.invariant c.unwrap.result c.len-kept.result
+    (horizon_value c.self.inside.layout c.self.invariant.kept c.unwrap.result c.len-kept.result
     (c.len-kept.ensures ∙ c.self.inside.commits.ok.0) moment)
 
 pub returns-clause-moment : goal.returns-clause-moment
@@ -19,7 +19,7 @@ returns-clause-moment c =
     rw (← c.self.view_is)
     (horizon_is (stored c.self.inside.layout c.self.inside.terminals c.self.inside.commits.items c.self.inside.ring)
     c.unwrap.result
-    (seen_size c.self.inside.layout (inside c.self.invariant))
-    (horizon_value c.self.inside.layout c.self.invariant c.unwrap.result c.len-kept.result
+    (seen_size c.self.inside.layout (inside c.self.invariant.kept))
+    (horizon_value c.self.inside.layout c.self.invariant.kept c.unwrap.result c.len-kept.result
     (c.len-kept.ensures ∙ c.self.inside.commits.ok.0)
     moment))

@@ -13,33 +13,34 @@ pub at-requires-clause-some : goal.at-requires-clause-some
 at-requires-clause-some c =
     let seen = subst (λ (v : SegmentLog). HasAddress (records_at v c.args.terminal) c.args.address) (sym c.self.view_is)
     c.requires in
-    let is = records_are c.self.inside.layout (inside c.self.invariant) c.args.terminal ∙ ap
+    let is = records_are c.self.inside.layout (inside c.self.invariant.kept) c.args.terminal ∙ ap
     (λ t. get_or (map records_in c.self.inside.ring.active) t []) (sym c.get-slot.ensures.value) in
     let has = subst (λ (rs : List Logged). HasAddress rs c.args.address) is seen in
     rw c.ring_address-place.ensures
-    (has_string c.args.address c.self.inside.ring.active c.get-slot.result c.self.invariant.lie.active_are has)
+    (has_string c.args.address c.self.inside.ring.active c.get-slot.result c.self.invariant.kept.lie.active_are has)
 
 pub linked_record-requires : goal.linked_record-requires
 linked_record-requires c =
     let seen = subst (λ (v : SegmentLog). HasAddress (records_at v c.args.terminal) c.args.address) (sym c.self.view_is)
     c.requires in
-    let is = records_are c.self.inside.layout (inside c.self.invariant) c.args.terminal ∙ ap
+    let is = records_are c.self.inside.layout (inside c.self.invariant.kept) c.args.terminal ∙ ap
     (λ t. get_or (map records_in c.self.inside.ring.active) t []) (sym c.get-slot.ensures.value) in
     let has = subst (λ (rs : List Logged). HasAddress rs c.args.address) is seen in
     let stands = subst (λ (a : Address). ring.IsStringAt (get_or c.self.inside.ring.active c.get-slot.result []) a
     c.at.result.now) c.ring_address-place.ensures c.at.ensures in
-    is_stored c.args.address c.self.inside.ring.active c.get-slot.result c.at.result.now c.self.invariant.lie.active_are
+    is_stored c.args.address c.self.inside.ring.active c.get-slot.result c.at.result.now
+    c.self.invariant.kept.lie.active_are
     has stands
 
 pub returns-clause-record : goal.returns-clause-record
 returns-clause-record c p b k =
     let seen = subst (λ (v : SegmentLog). IsAmong (logged c.args.address p b) (records_at v c.args.terminal))
     (sym c.self.view_is) k in
-    let is = records_are c.self.inside.layout (inside c.self.invariant) c.args.terminal ∙ ap
+    let is = records_are c.self.inside.layout (inside c.self.invariant.kept) c.args.terminal ∙ ap
     (λ t. get_or (map records_in c.self.inside.ring.active) t []) (sym c.get-slot.ensures.value) in
     let there = subst (λ (rs : List Logged). IsAmong (logged c.args.address p b) rs) is seen in
     let stands = subst (λ (a : Address). ring.IsStringAt (get_or c.self.inside.ring.active c.get-slot.result []) a
     c.at.result.now) c.ring_address-place.ensures c.at.ensures in
     linked_there c.args.address p b c.self.inside.ring.active c.get-slot.result c.at.result.now
-    (c.linked_record.result.0, c.linked_record.result.1) c.self.invariant.lie.active_are there stands
+    (c.linked_record.result.0, c.linked_record.result.1) c.self.invariant.kept.lie.active_are there stands
     c.linked_record.ensures

@@ -5,6 +5,7 @@ use Rattle.oe_log.proofs.log.Log.mark.Goals as goal
 pub returns : goal.returns
 returns c =
     rw (← c.self.view_is)
-    (len_is c.self.inside.layout c.self.invariant c.terminal.result c.args.segment c.at.result.now c.terminal.ensures
+    (len_is c.self.inside.layout c.self.invariant.kept c.terminal.result c.args.segment c.at.result.now
+    c.terminal.ensures
     c.at.ensures.high
     c.at.ensures.value)

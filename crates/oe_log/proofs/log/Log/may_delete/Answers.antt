@@ -10,7 +10,7 @@ returns-in-Some c none =
     let found = slice_get_read c.self.inside.commits.items _ c.args.later c.in-Some.head.now c.self.inside.commits.ok.0
     (c.in-Some.ensures.variant.0 refl) c.in-Some.ensures.lookup in
     rw (← c.self.view_is)
-    (calls.told_deletes c.self.inside.layout (calls.inside c.self.invariant)
+    (calls.told_deletes c.self.inside.layout (calls.inside c.self.invariant.kept)
     c.args.later c.in-Some.head.now found (sym c.may_delete.ensures ∙ none))
 
 pub returns-in-None : goal.returns-in-None
@@ -18,4 +18,4 @@ returns-in-None c none =
     let found = none_past c.self.inside.commits.items _ c.args.later c.self.inside.commits.ok.0
     c.in-None.ensures.variant.1 in
     rw (← c.self.view_is)
-    (calls.none_past c.self.inside.layout (calls.inside c.self.invariant) c.args.later found)
+    (calls.none_past c.self.inside.layout (calls.inside c.self.invariant.kept) c.args.later found)

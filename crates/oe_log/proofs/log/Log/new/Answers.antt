@@ -1,6 +1,7 @@
 -- No segment, and all terminals idle.
 use Rattle.std.proofs.Common.{arith, deque_capacity}
 use Rattle.oe_log.proofs.KeptFacts.{new_is}
+use Rattle.oe_log.proofs.LayoutFacts.{log_is, none_of}
 use Rattle.oe_log.proofs.log.Log.new.Goals as goal
 
 pub invariant_of-result : goal.invariant_of-result
@@ -9,7 +10,7 @@ invariant_of-result c =
     c.in_ok-terminals.terminals
     c.new-3.result.items c.in-Ok.ring
     (omega (arith, c.get-count.ensures.high)) c.in_ok-terminals.ensures c.new-3.ensures.items c.in-Ok.ensures in
-    rw c.in-Some.ensures.value now.kept
+    rw c.in-Some.ensures.value (log_is now (none_of _ _))
 
 pub returns : goal.returns
 returns c =

@@ -7,11 +7,11 @@ use Rattle.oe_store.proofs.BackFacts.{IsBack, order_back}
 use Rattle.oe_store.proofs.tables.Tables.put_back_order_columns.Goals as goal
 
 left : (c : goal.After-put_back) → IsBack (ChangedOrder c.args.key (Some c.args.columns)) (the_view c.self.inside)
-    (record (the_view c.self.inside) { orders = c.put_back.new.self })
+    (record (the_view c.self.inside) { orders = c.put_back.new.self.places })
 left c =
     let there = some_row _ (rw (← c.self.view_is) at c.requires.there) in
-    order_back (the_view c.self.inside) c.put_back.new.self c.args.key c.args.columns there.0
-    (with_order c.args.columns there.0) (c.put_back.ensures there.0 there.1) refl there.1
+    order_back (the_view c.self.inside) c.put_back.new.self.places c.args.key c.args.columns there.0
+    (with_order c.args.columns there.0) (c.put_back.ensures.row there.0 there.1) refl there.1
     (rw (← c.self.view_is) at c.requires.schema) c.self.invariant
 
 pub invariant_of-self : goal.invariant_of-self

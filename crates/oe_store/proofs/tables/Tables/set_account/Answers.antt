@@ -13,9 +13,9 @@ set c x = record x { account = c.args.account.now }
 left : (c : goal.After-set_account) (x : Customer)
     → get (rows (the_view c.self.inside)).customers c.args.key.now ≡ Some x
     → IsLeft (UpdateCustomer c.args.key.now (set c x)) (the_view c.self.inside)
-    (record (the_view c.self.inside) { customers = c.set_account.new.self })
-left c x was = customer_left (the_view c.self.inside) c.set_account.new.self c.args.key.now (set c x) x
-    (c.set_account.ensures x was) was c.self.invariant
+    (record (the_view c.self.inside) { customers = c.set_account.new.self.places })
+left c x was = customer_left (the_view c.self.inside) c.set_account.new.self.places c.args.key.now (set c x) x
+    (c.set_account.ensures.row x was) was c.self.invariant
 
 pub invariant_of-self : goal.invariant_of-self
 invariant_of-self c = let there = some_row _ (rw (← c.self.view_is) at c.requires) in (left c there.0 there.1).sound

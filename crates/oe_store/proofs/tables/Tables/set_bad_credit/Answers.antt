@@ -14,9 +14,9 @@ set c x = with_entry c.args.account.now c.args.entry.now x
 left : (c : goal.After-set_bad_credit) (x : Customer)
     → get (rows (the_view c.self.inside)).customers c.args.key.now ≡ Some x
     → IsLeft (UpdateCustomer c.args.key.now (set c x)) (the_view c.self.inside)
-    (record (the_view c.self.inside) { customers = c.set_bad_credit.new.self })
-left c x was = customer_left (the_view c.self.inside) c.set_bad_credit.new.self c.args.key.now (set c x) x
-    (c.set_bad_credit.ensures x was) was c.self.invariant
+    (record (the_view c.self.inside) { customers = c.set_bad_credit.new.self.places })
+left c x was = customer_left (the_view c.self.inside) c.set_bad_credit.new.self.places c.args.key.now (set c x) x
+    (c.set_bad_credit.ensures.row x was) was c.self.invariant
 
 pub invariant_of-self : goal.invariant_of-self
 invariant_of-self c = let there = some_row _ (rw (← c.self.view_is) at c.requires) in (left c there.0 there.1).sound

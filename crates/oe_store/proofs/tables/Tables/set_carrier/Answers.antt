@@ -12,9 +12,9 @@ set c x = record x { carrier = Some c.args.carrier }
 
 left : (c : goal.After-set_carrier) (x : Order) → get (rows (the_view c.self.inside)).orders c.args.key.now ≡ Some x
     → IsLeft (UpdateOrder c.args.key.now (set c x)) (the_view c.self.inside)
-    (record (the_view c.self.inside) { orders = c.set_carrier.new.self })
-left c x was = order_left (the_view c.self.inside) c.set_carrier.new.self c.args.key.now (set c x) x
-    (c.set_carrier.ensures x was) was refl c.self.invariant
+    (record (the_view c.self.inside) { orders = c.set_carrier.new.self.places })
+left c x was = order_left (the_view c.self.inside) c.set_carrier.new.self.places c.args.key.now (set c x) x
+    (c.set_carrier.ensures.row x was) was refl c.self.invariant
 
 pub invariant_of-self : goal.invariant_of-self
 invariant_of-self c = let there = some_row _ (rw (← c.self.view_is) at c.requires) in (left c there.0 there.1).sound

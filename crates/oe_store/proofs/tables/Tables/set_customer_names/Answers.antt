@@ -18,13 +18,13 @@ set c x = with_names c.args.last.now c.args.first.now x
 -- the row is set
 abbrev Sets : goal.After-set_names → Type 0
 Sets c = (x : Customer) → get (rows (the_view c.self.inside)).customers c.args.key.now ≡ Some x
-    → RewritesRow customer_cmp c.self.inside.customers c.set_names.new.self c.args.key.now (set c x)
+    → RewritesRow customer_cmp c.self.inside.customers.places c.set_names.new.self.places c.args.key.now (set c x)
 
 left : (c : goal.After-set_names) (x : Customer) → Sets c
     → get (rows (the_view c.self.inside)).customers c.args.key.now ≡ Some x
     → IsLeft (UpdateCustomer c.args.key.now (set c x)) (the_view c.self.inside)
-    (record (the_view c.self.inside) { customers = c.set_names.new.self })
-left c x sets was = customer_left (the_view c.self.inside) c.set_names.new.self c.args.key.now (set c x) x
+    (record (the_view c.self.inside) { customers = c.set_names.new.self.places })
+left c x sets was = customer_left (the_view c.self.inside) c.set_names.new.self.places c.args.key.now (set c x) x
     (sets x was) was c.self.invariant
 
 pub invariant_of-self : goal.invariant_of-self

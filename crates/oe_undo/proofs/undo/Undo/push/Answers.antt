@@ -2,7 +2,8 @@
 use Rattle.std.proofs.Common.{◌≡◌, sym, ap, subst, ◌∙◌, Option, Some, is_some}
 use Rattle.oe_rows.specs.declared.keys.Key.{Key}
 use Rattle.oe_model.specs.Changes.{record_key}
-use Rattle.oe_layout.specs.Records.{record_of_lent}
+use Rattle.oe_layout.specs.Records.{record_of_lent, IsOfLayout}
+use Rattle.oe_layout.specs.declared.loans.LentRecord.{LentRecord}
 use Rattle.oe_log.specs.Records.{logged}
 use Rattle.oe_log.specs.declared.heads.SegmentOwner.{SegmentOwner}
 use Rattle.oe_log.specs.Log.{SegmentLog, pushed}
@@ -13,12 +14,25 @@ use Rattle.oe_undo.proofs.LinkFacts.{on_row, sets_with, with_same}
 use Rattle.oe_undo.proofs.LeadFacts.{set_leads}
 use Rattle.oe_undo.specs.Owners.{next_owner, IsLinked}
 use Rattle.oe_undo.proofs.ChainedFacts.{push_linked, push_leads}
+use Rattle.oe_undo.proofs.MomentFacts.{none_first}
 use Rattle.oe_undo.proofs.undo.Undo.push.Goals as goal
 
 pub returns-in_default-clause-cause : goal.returns-in_default-clause-cause
 returns-in_default-clause-cause c =
     rw (← c.self.view_is)
     (rw (c.shared.follows.holds-at-none, c.place_mut.follows.holds-at-none) at c.push_new.ensures.cause)
+
+pub lead_from-requires : goal.lead_from-requires
+lead_from-requires c =
+    let whole = rw (← c.self.view_is) at c.is_chained.ensures.whole in
+    none_first c.self.inside.segments c.in-Some.place.now c.followed_in.result whole c.followed_in.ensures
+
+pub push-requires-clause-layout : goal.push-requires-clause-layout
+push-requires-clause-layout c =
+    let of = rw (← c.self.view_is) at c.requires.layout in
+    let kept = ap (λ x. x.record) c.shared-linked.ensures.value ∙ c.lead_from.ensures.record
+    ∙ ap (λ x. x.record) c.shared.follows.holds-at-none in
+    subst (λ (r : LentRecord). IsOfLayout c.self.inside.segments.layout (record_of_lent r)) (sym kept) of
 
 pub invariant_of-self-in_default-push : goal.invariant_of-self-in_default-push
 invariant_of-self-in_default-push c =

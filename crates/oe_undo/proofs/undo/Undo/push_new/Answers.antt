@@ -2,7 +2,8 @@
 use Rattle.std.proofs.Common.{◌≡◌, sym, ap, subst, ◌∙◌, Some, None}
 use Rattle.oe_rows.specs.declared.keys.Key.{Key}
 use Rattle.oe_model.specs.Changes.{record_key}
-use Rattle.oe_layout.specs.Records.{record_of_lent}
+use Rattle.oe_layout.specs.Records.{record_of_lent, IsOfLayout}
+use Rattle.oe_layout.specs.declared.loans.LentRecord.{LentRecord}
 use Rattle.oe_log.specs.Records.{logged}
 use Rattle.oe_layout.specs.declared.links.Previous.TheVariants.{Nothing}
 use Rattle.oe_log.specs.declared.heads.SegmentOwner.{SegmentOwner}
@@ -14,6 +15,13 @@ use Rattle.oe_undo.proofs.LeadFacts.{insert_leads}
 use Rattle.oe_undo.specs.Owners.{followed, next_owner, IsLinked}
 use Rattle.oe_undo.proofs.ChainedFacts.{push_linked, push_undone}
 use Rattle.oe_undo.proofs.undo.Undo.push_new.Goals as goal
+
+pub push-requires-clause-layout : goal.push-requires-clause-layout
+push-requires-clause-layout c =
+    let of = rw (← c.self.view_is) at c.requires.layout in
+    let kept = ap (λ x. x.record) (c.shared-linked.ensures.value ∙ c.shared.follows.holds-at-none)
+    ∙ c.lead_from.ensures.record in
+    subst (λ (r : LentRecord). IsOfLayout c.self.inside.segments.layout (record_of_lent r)) (sym kept) of
 
 pub invariant_of-self-in-Ok-insert : goal.invariant_of-self-in-Ok-insert
 invariant_of-self-in-Ok-insert c =

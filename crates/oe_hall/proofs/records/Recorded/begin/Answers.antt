@@ -1,0 +1,67 @@
+use Rattle.std.proofs.Common.{◌≡◌, ◌∙◌, ap, refl}
+use Rattle.oe_requests.specs.declared.steps.Step.TheVariants as step
+use Rattle.oe_core.specs.Steps.{begin_answer}
+use Rattle.oe_core.specs.Core.{world_of}
+use Rattle.oe_history.specs.declared.views.Entry.{Entry}
+use Rattle.oe_history.specs.Views.{entry}
+use Rattle.oe_history.specs.Calls.{TheHistory}
+use Rattle.oe_hall.specs.Histories.{IsHistory}
+use Rattle.oe_hall.proofs.HistoryFacts.{went, happened, seen_all, own_begin, turned, begin_leaves}
+use Rattle.oe_hall.proofs.records.Recorded.begin.Goals as goal
+
+pub invariant_of-self : goal.invariant_of-self
+invariant_of-self g c =
+    let i = c.self.invariant in
+    let by = c.args.caller.now.by in
+    let t = c.args.terminal in
+    let w = g.J.Naming.names.opened in
+    let v = world_of c.self.inside.core in
+    let v' = world_of c.begin-begun.new.core in
+    let h = c.self.inside.history in
+    let h' = c.write.new.self in
+    let e : Entry = entry by (step.Begin by c.args.request.now) (begin_answer c.begin-begun.result) in
+    let d : Entry = entry t (step.Begin t c.args.request.now) (begin_answer c.begin-begun.result) in
+    let same : e ≡ d = λ j. entry (c.requires.own j) (step.Begin (c.requires.own j) c.args.request.now) (begin_answer
+    c.begin-begun.result) in
+    let is : IsHistory w h'.log v' = went w v v' h h' e d same i.2 c.write.ensures.log (c.begin-begun.ensures.step.0)
+    (own_begin t c.args.request.now (begin_answer c.begin-begun.result)) in
+    (ap (λ (x : TheHistory). x.table) c.write.ensures.log ∙ i.0, i.1, is)
+
+pub returns-clause-run : goal.returns-clause-run
+returns-clause-run g c =
+    let i = c.self.invariant in
+    let by = c.args.caller.now.by in
+    let t = c.args.terminal in
+    let w = g.J.Naming.names.opened in
+    let v = world_of c.self.inside.core in
+    let v' = world_of c.begin-begun.new.core in
+    let h = c.self.inside.history in
+    let h' = c.write.new.self in
+    let e : Entry = entry by (step.Begin by c.args.request.now) (begin_answer c.begin-begun.result) in
+    let d : Entry = entry t (step.Begin t c.args.request.now) (begin_answer c.begin-begun.result) in
+    let same : e ≡ d = λ j. entry (c.requires.own j) (step.Begin (c.requires.own j) c.args.request.now) (begin_answer
+    c.begin-begun.result) in
+    let is : IsHistory w h'.log v' = went w v v' h h' e d same i.2 c.write.ensures.log (c.begin-begun.ensures.step.0)
+    (own_begin t c.args.request.now (begin_answer c.begin-begun.result)) in
+    happened w v' h'.log c.write.new.caller.seen
+    (seen_all h h' c.args.caller.now c.write.new.caller e c.write.ensures.log c.write.ensures.mine) is
+
+pub returns-clause-open : goal.returns-clause-open
+returns-clause-open g c =
+    let i = c.self.invariant in
+    let by = c.args.caller.now.by in
+    let t = c.args.terminal in
+    let w = g.J.Naming.names.opened in
+    let v = world_of c.self.inside.core in
+    let v' = world_of c.begin-begun.new.core in
+    let h = c.self.inside.history in
+    let h' = c.write.new.self in
+    let e : Entry = entry by (step.Begin by c.args.request.now) (begin_answer c.begin-begun.result) in
+    let d : Entry = entry t (step.Begin t c.args.request.now) (begin_answer c.begin-begun.result) in
+    let same : e ≡ d = λ j. entry (c.requires.own j) (step.Begin (c.requires.own j) c.args.request.now) (begin_answer
+    c.begin-begun.result) in
+    let is : IsHistory w h'.log v' = went w v v' h h' e d same i.2 c.write.ensures.log (c.begin-begun.ensures.step.0)
+    (own_begin t c.args.request.now (begin_answer c.begin-begun.result)) in
+    begin_leaves c.begin-begun.result t c.args.request.now v v' _ _
+    (turned t w v v' h h' c.args.caller.now c.write.new.caller e i.1 i.2 is c.write.ensures.told c.write.ensures.log
+    c.write.ensures.mine refl c.requires.own) c.begin-begun.ensures.step.0

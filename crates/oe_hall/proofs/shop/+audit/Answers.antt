@@ -1,0 +1,15 @@
+use Rattle.std.proofs.Common.{rules, ap, sym, ◌∙◌, subst}
+use Rattle.oe_history.specs.Calls.{TheCaller}
+use Rattle.oe_hall.specs.Histories.{HasHappened}
+use Rattle.oe_hall.proofs.shop.+audit.Goals as goal
+
+pub audit_first-invariant_of-first : goal.audit_first-invariant_of-first
+audit_first-invariant_of-first g n c =
+    let f = c.first.invariant in
+    let same = c.look.ensures.same.1 in (
+      f.0,
+      search rules,
+      ap (λ (x : TheCaller). x.table) same ∙ f.2,
+      ap (λ (x : TheCaller). x.by) same ∙ f.3,
+      subst (λ (x : TheCaller). HasHappened g.J.Naming.names.opened x.seen) (sym same) f.4,
+    )
