@@ -18,6 +18,7 @@ use Rattle.oe_rows.specs.declared.orders.Order.{Order}
 use Rattle.oe_rows.specs.declared.orders.OrderLine.{OrderLine}
 use Rattle.oe_requests.specs.declared.requests.DeliveryRequest.{DeliveryRequest}
 use Rattle.oe_requests.specs.declared.requests.Request.TheVariants as request
+use Rattle.oe_requests.specs.declared.replies.DeliveredOrder.{DeliveredOrder}
 use Rattle.oe_requests.specs.declared.replies.Reply.{Reply}
 use Rattle.oe_requests.specs.declared.replies.Reply.TheVariants as reply
 use Rattle.oe_requests.specs.declared.replies.DistrictDelivery.TheVariants.{Skipped}
@@ -36,9 +37,13 @@ use Rattle.oe_model.specs.Delivery.{delivery_ask, delivery_act, delivery_taken}
 use Rattle.oe_engine.specs.View.{EngineState, View, view_of, Handle, IsOpen}
 use Rattle.oe_engine.specs.Stages.{HoldsAll}
 use Rattle.oe_engine.specs.Writes.{change_written}
-use Rattle.oe_engine.specs.Programs.{ask_here, act_here, IsReady, district_reply}
+use Rattle.oe_engine.specs.Programs.{ask_here, act_here, GoesOn, IsReady, IsRefused, district_reply}
+use Rattle.oe_engine.specs.declared.programs.Progress.{Progress}
+use Rattle.oe_engine.specs.declared.programs.Progress.TheVariants as progress
 use Rattle.oe_delivery.specs.Remainder.{Left, remainder_of}
-use Rattle.oe_delivery.specs.Program.{line_position}
+use Rattle.oe_delivery.specs.Program.{customer_position, line_position, position_of}
+use Rattle.oe_delivery.specs.Stages.{Advances, Steps}
+use Rattle.oe_delivery.specs.declared.programs.Program.{Program}
 
 -- a row whose columns are in their ranges goes on with the stage after it
 goes_within : {A : Type 0} (out : A → Option Column) (x : A) (d : A → Doing) (after : A)
@@ -172,6 +177,26 @@ module _ (s : EngineState) (x : Handle) (q : DeliveryRequest) where
           customer_own z a (subst (λ (j : CustomerKey). get here.customers j ≡ Some z) is e) fits
           ∙ ap (λ (j : CustomerKey). Go (Some (UpdateCustomer j (record z { account = a })))
           (InDelivery q (DeliveryEnd l.order l.customer l.sum))) (sym is)
+
+-- once all lines are dated, the position before the customer is the one with what the delivery answers
+pub before_customer : (l : Left) (y : DeliveredOrder) → l.numbers ≡ []
+    → y ≡ record { order = l.order; customer = l.customer; sum = l.sum } → line_position l ≡ customer_position y
+before_customer l y last is =
+    ap (λ ns. DeliveryLine l.order l.customer ns l.sum) last ∙ ap customer_position (sym is)
+
+-- a stage from this position is one from the program's
+pub steps_on : (q : DeliveryRequest) (x : Handle) (s : EngineState) (p : DeliveryPosition) (b : Program) (y : Progress)
+    (s' : EngineState) (b' : Program) → position_of b ≡ p → Steps q x s p b y s' b'
+    → Advances q x s (position_of b) y s' (position_of b')
+steps_on q x s p b progress.More s' b' at h =
+    subst (λ z. GoesOn s x (request.Delivery q) (InDelivery q z) s' (InDelivery q (position_of b'))) (sym at) h
+steps_on q x s p b progress.Ready s' b' at h = absurd h
+steps_on q x s p b (progress.Refused e) s' b' at h = (
+  subst (λ z. IsRefused s x (request.Delivery q) (InDelivery q z) e) (sym at) h.0,
+  h.1,
+  h.2,
+  ap (λ c. InDelivery q (position_of c)) h.3,
+)
 
 -- the order's name is held alone at its lines
 alone : (o : Option theory.Mode) → IsEnough o theory.Exclusive → o ≡ Some theory.Exclusive

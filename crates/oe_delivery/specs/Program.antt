@@ -1,5 +1,6 @@
 -- What a delivery's program stands for.
 use Rattle.std.specs.Prelude.{◌≡◌, ℕ, [], ◌∷◌, drop}
+use Rattle.oe_requests.specs.declared.replies.DeliveredOrder.{DeliveredOrder}
 use Rattle.oe_model.specs.Positions.{DeliveryPosition, DeliveryQueue, DeliveryNothing, DeliveryOrder, DeliveryLine}
 use Rattle.oe_model.specs.Positions.{DeliveryEnd}
 use Rattle.oe_delivery.specs.Remainder.{Left}
@@ -9,6 +10,10 @@ use Rattle.oe_delivery.specs.declared.programs.Program.TheVariants as program
 -- before the first line to come, or before the customer
 abbrev pub line_position : Left → DeliveryPosition
 line_position l = DeliveryLine l.order l.customer l.numbers l.sum
+
+-- before the customer, once all lines are dated, with what the delivery answers
+abbrev pub customer_position : DeliveredOrder → DeliveryPosition
+customer_position y = DeliveryLine y.order y.customer [] y.sum
 
 -- the position of the model
 abbrev pub position_of : Program → DeliveryPosition

@@ -12,7 +12,7 @@ ghost use Rattle.oe_model.specs.Positions.{InDelivery};
 ghost use Rattle.oe_engine.specs.View.{IsOpen};
 ghost use Rattle.oe_engine.specs.Programs.{Progresses, district_reply, hold_of, wanted};
 ghost use Rattle.oe_delivery.specs.Program.{position_of, HasLine, HasNoLine};
-ghost use Rattle.oe_delivery.specs.Stages.{Advances, HoldsTaken, Steps};
+ghost use Rattle.oe_delivery.specs.Stages.{Advances, HoldsTaken};
 
 use crate::remainders::Remainder;
 use crate::stages::{credit_customer, date_line, set_carrier, take_oldest};
@@ -124,28 +124,8 @@ impl Program {
         date_line(request, remainder, number, engine, tx)
     }
 
-    // Another stage, before the end.
-    fn stage(
-        &self,
-        request: &DeliveryRequest,
-        engine: &mut Engine,
-        tx: &Tx,
-    ) -> Result<Program, Refusal>
-        requires line { HasNoLine self.now }
-        requires underway { district_reply (position_of self.now) ≡ None }
-        requires open { IsOpen engine.old tx.now }
-        ensures { Steps request.now tx.now engine.old (position_of self.now) result engine.new }
-    {
-        match self {
-            Program::Queue => take_oldest(request, engine, tx),
-            Program::Order(order) => set_carrier(request, *order, engine, tx),
-            Program::Lines(remainder) => credit_customer(request, remainder, engine, tx),
-            Program::Nothing | Program::End(_) => unreachable!(),
-        }
-    }
-
-    // Carries out one stage of no line, whose program it takes the place of. It has room for
-    // another program, which a line's stage does without.
+    // Carries out one stage of no line, which writes the program after it in its place. It stands
+    // apart, since a line's stage is carried out more often.
     #[inline(never)]
     fn next_of_order(&mut self, request: &DeliveryRequest, engine: &mut Engine, tx: &Tx) -> Progress
         requires line { HasNoLine self.old }
@@ -155,12 +135,17 @@ impl Program {
             engine.old (InDelivery request.now (position_of self.old))
             result engine.new (InDelivery request.now (position_of self.new)) }
     {
-        match self.stage(request, engine, tx) {
-            Ok(after) => {
-                *self = after;
-                Progress::More
+        match self {
+            Program::Queue => take_oldest(request, self, engine, tx),
+            Program::Order(order) => {
+                let order = *order;
+                set_carrier(request, order, self, engine, tx)
             }
-            Err(refusal) => Progress::Refused(refusal),
+            Program::Lines(remainder) => {
+                let reply = remainder.delivered();
+                credit_customer(request, &reply, self, engine, tx)
+            }
+            Program::Nothing | Program::End(_) => unreachable!(),
         }
     }
 

@@ -1,8 +1,9 @@
-//! The stages of a delivery (clause 2.7.4.2), each done on an engine or refused by it.
-ghost use Rattle.std.specs.Prelude.{◌≡◌, ◌∷◌, [], drop};
+//! The stages of a delivery (clause 2.7.4.2), each done on an engine or refused by it. A stage beside
+//! the lines that is done writes the program after it in its place; a refused one leaves it.
+ghost use Rattle.std.specs.Prelude.{◌≡◌, ◌∷◌, drop};
 ghost use Rattle.oe_model.specs.Positions.{DeliveryQueue, DeliveryOrder};
 ghost use Rattle.oe_engine.specs.View.{IsOpen};
-ghost use Rattle.oe_delivery.specs.Program.{line_position};
+ghost use Rattle.oe_delivery.specs.Program.{customer_position, line_position};
 ghost use Rattle.oe_delivery.specs.Stages.{Advances, HoldsTaken, Steps};
 
 use crate::looks::remainder_of;
@@ -13,7 +14,7 @@ use oe_engine::kinds::updates::{CustomerAccount, DeliveryDate, OrderCarrier};
 use oe_engine::stages::{failed, hold, put, put_held};
 use oe_engine::{Engine, Lock, Progress, Tx};
 use oe_formulas::deliveries::account_after_delivery;
-use oe_requests::{DeliveryRequest, Refusal};
+use oe_requests::{DeliveredOrder, DeliveryRequest, Refusal};
 use oe_rows::{Key, Mode, Name};
 use oe_values::{LineNumber, OrderNumber};
 
@@ -21,11 +22,13 @@ use oe_values::{LineNumber, OrderNumber};
 /// if one waits.
 pub fn take_oldest(
     request: &DeliveryRequest,
+    program: &mut Program,
     engine: &mut Engine,
     tx: &Tx,
-) -> Result<Program, Refusal>
+) -> Progress
     requires { IsOpen engine.old tx.now }
-    ensures { Steps request.now tx.now engine.old DeliveryQueue result engine.new }
+    ensures { Steps request.now tx.now engine.old DeliveryQueue program.old
+        result engine.new program.new }
 {
     let Some(order) = engine.tables().oldest(&request.district) else {
         let lock = Lock {
@@ -33,16 +36,22 @@ pub fn take_oldest(
             mode: Mode::Exclusive,
         };
         return match hold(engine, tx, lock) {
-            Ok(()) => Ok(Program::Nothing),
-            Err(refusal) => Err(refusal),
+            Ok(()) => {
+                *program = Program::Nothing;
+                Progress::More
+            }
+            Err(refusal) => Progress::Refused(refusal),
         };
     };
     let write = DeleteNewOrder {
         order: request.district.new_order(order),
     };
     match put(engine, tx, &write) {
-        Ok(()) => Ok(Program::Order(order)),
-        Err(refusal) => Err(refusal),
+        Ok(()) => {
+            *program = Program::Order(order);
+            Progress::More
+        }
+        Err(refusal) => Progress::Refused(refusal),
     }
 }
 
@@ -50,11 +59,13 @@ pub fn take_oldest(
 pub fn set_carrier(
     request: &DeliveryRequest,
     order: OrderNumber,
+    program: &mut Program,
     engine: &mut Engine,
     tx: &Tx,
-) -> Result<Program, Refusal>
+) -> Progress
     requires { IsOpen engine.old tx.now }
-    ensures { Steps request.now tx.now engine.old (DeliveryOrder order) result engine.new }
+    ensures { Steps request.now tx.now engine.old (DeliveryOrder order) program.old
+        result engine.new program.new }
 {
     let key = &request.district.order(order);
     let Some(remainder) = remainder_of(key, engine.tables()) else {
@@ -62,15 +73,19 @@ pub fn set_carrier(
             name: Name::Order(*key),
             mode: Mode::Exclusive,
         };
-        return Err(failed(engine, tx, lock, Refusal::NoSuchRow(Key::Order(*key))));
+        let refusal = failed(engine, tx, lock, Refusal::NoSuchRow(Key::Order(*key)));
+        return Progress::Refused(refusal);
     };
     let write = OrderCarrier {
         order: *key,
         carrier: request.carrier,
     };
     match put(engine, tx, &write) {
-        Ok(()) => Ok(Program::Lines(remainder)),
-        Err(refusal) => Err(refusal),
+        Ok(()) => {
+            *program = Program::Lines(remainder);
+            Progress::More
+        }
+        Err(refusal) => Progress::Refused(refusal),
     }
 }
 
@@ -108,36 +123,41 @@ pub fn date_line(
 }
 
 /// Takes the customer's name alone, and adds the sum of the OL_AMOUNTs to C_BALANCE, and 1 to
-/// C_DELIVERY_CNT. `NoSuchRow` where the customer is absent, `Overflow` of the first of these
-/// columns that would leave its range.
+/// C_DELIVERY_CNT, once all lines of the order are dated. `NoSuchRow` where the customer is absent,
+/// `Overflow` of the first of these columns that would leave its range.
 pub fn credit_customer(
     request: &DeliveryRequest,
-    remainder: &Remainder,
+    delivered: &DeliveredOrder,
+    program: &mut Program,
     engine: &mut Engine,
     tx: &Tx,
-) -> Result<Program, Refusal>
-    requires open { IsOpen engine.old tx.now }
-    requires last { remainder.now.numbers ≡ [] }
-    ensures { Steps request.now tx.now engine.old (line_position remainder.now) result engine.new }
+) -> Progress
+    requires { IsOpen engine.old tx.now }
+    ensures { Steps request.now tx.now engine.old (customer_position delivered.now) program.old
+        result engine.new program.new }
 {
-    let key = &request.district.customer(remainder.customer());
+    let key = &request.district.customer(delivered.customer);
     let lock = Lock {
         name: Name::Customer(*key),
         mode: Mode::Exclusive,
     };
     let Some(row) = engine.tables().customer(*key) else {
-        return Err(failed(engine, tx, lock, Refusal::NoSuchRow(Key::Customer(*key))));
+        let refusal = failed(engine, tx, lock, Refusal::NoSuchRow(Key::Customer(*key)));
+        return Progress::Refused(refusal);
     };
-    match account_after_delivery(row, remainder.sum()) {
-        Err(column) => Err(failed(engine, tx, lock, Refusal::Overflow(column))),
+    match account_after_delivery(row, delivered.sum) {
+        Err(column) => { Progress::Refused(failed(engine, tx, lock, Refusal::Overflow(column))) }
         Ok(account) => {
             let write = CustomerAccount {
                 customer: *key,
                 account,
             };
             match put(engine, tx, &write) {
-                Ok(()) => Ok(Program::End(remainder.delivered())),
-                Err(refusal) => Err(refusal),
+                Ok(()) => {
+                    *program = Program::End(*delivered);
+                    Progress::More
+                }
+                Err(refusal) => Progress::Refused(refusal),
             }
         }
     }

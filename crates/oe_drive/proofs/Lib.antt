@@ -3,3 +3,4 @@ mod EndFacts
 mod PlanFacts
 pub mod SlotFacts
 mod LeftFacts
+mod RestoredFacts

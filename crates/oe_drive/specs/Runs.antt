@@ -1,5 +1,5 @@
 -- What a drive leaves, and what is written of it.
-use Rattle.std.specs.Prelude.{◌≡◌, ◌↔◌, ℕ, List, [], Option, None, IsTrue, Result, Ok, Err}
+use Rattle.std.specs.Prelude.{◌≡◌, ℕ, true, List, [], codes, Option, None, Result, Ok, Err}
 use Rattle.oe_theory.specs.World.{World, newest, latest, tables}
 use Rattle.oe_theory.specs.Next as theory
 use Rattle.oe_theory.specs.Next.{Next}
@@ -15,7 +15,6 @@ use Rattle.oe_hall.specs.Histories.{IsHistory}
 use Rattle.oe_hall.specs.Turns.{open_count}
 use Rattle.oe_ports.specs.Ports.{Sink, Sent, Cut}
 use Rattle.oe_report.specs.Verdicts.{IsFirstFailing}
-use Rattle.oe_report.specs.Reports.{report_of, status_of}
 use Rattle.oe_drive.specs.declared.endings.Ending.{Ending}
 use Rattle.oe_drive.specs.declared.runs.Ran.{Ran}
 use Rattle.oe_drive.specs.declared.runs.DriveFault.{DriveFault}
@@ -26,13 +25,11 @@ abbrev pub IsRewound : World system → Rows → Type 0
 IsRewound w r = (w' : World system) × (a : theory.Answer system) × Next system w (theory.Rewind 0) a w'
     × (r ≡ latest system w')
 
--- the first of conditions 1 to 4 that fails in the world, which is none, and whether a rewind gives a population of the
--- scale back
+-- None of conditions 1 to 4 fails in the world, and a rewind gives a population of the scale back.
 abbrev pub IsEnding : Scale → World system → Ending → Type 0
 IsEnding s w e =
-    (left : Rows) × (fresh : Rows) × IsRewound w left × IsPopulated s fresh
-    × IsFirstFailing (tables system w) e.failing × (e.failing ≡ None)
-    × (IsTrue e.is_restored ↔ (left ≡ fresh))
+    (left : Rows) × (fresh : Rows) × IsRewound w left × IsPopulated s fresh × (left ≡ fresh) × (e.is_restored ≡ true)
+    × IsFirstFailing (tables system w) None × (e.failing ≡ None)
 
 -- one history, in which nobody purges, leads to the world from a population of the scale
 abbrev pub IsDriven : Scale → World system → Type 0
@@ -47,14 +44,14 @@ pub record IsLeft (s : Scale) (w : World system) (committed : ℕ) : Type 0 wher
   pub newest : newest system w ≡ committed
   pub layout : w.layout ≡ layout.ChangedColumns
 
--- All terminals ended in some world, and the two lines say what it is like: they were written, with their status;
--- nothing was, for want of memory; or a beginning of them was.
+-- the two lines of a drive
+abbrev pub lines : List ℕ
+lines = codes "conditions 1 2 3 4 hold\npopulation restored\n"
+
+-- All terminals ended, and the two lines were written, with status 0; nothing was, for want of memory; or a beginning
+-- of them was.
 abbrev pub DriveRan : Scale → Option Sink → Option Sink → Result Ran DriveFault → Type 0
 DriveRan s old new (Ok ran) =
-    (w : World system) × (e : Ending) × IsLeft s w ran.counted.committed × IsEnding s w e
-    × Sent old [] new [] (report_of e.failing e.is_restored)
-    × (ran.status ≡ status_of e.failing e.is_restored)
+    (w : World system) × IsLeft s w ran.counted.committed × Sent old [] new [] lines × (ran.status ≡ 0)
 DriveRan s old new (Err fault.NoMemory) = new ≡ old
-DriveRan s old new (Err fault.Write) =
-    (w : World system) × (e : Ending) × (k : ℕ) × IsLeft s w k × IsEnding s w e
-    × Cut old [] new (report_of e.failing e.is_restored)
+DriveRan s old new (Err fault.Write) = (w : World system) × (k : ℕ) × IsLeft s w k × Cut old [] new lines

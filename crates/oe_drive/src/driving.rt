@@ -40,8 +40,8 @@ pub struct Driven {
 /// left in the queue before the end.
 ///
 /// The worker's thread is made first, and without it no other; where a terminal's can't be made, it
-/// submits its end mark alone. Both, and any want of memory before, are `NoMemory` once all threads
-/// have ended and the shop is closed.
+/// submits its end mark alone. Both, and any want of memory, are `NoMemory` once all threads have
+/// ended and the shop is closed.
 pub fn drive<J: Naming + Send + Sync, H: Threads + Wait + Sync, G: Gate + Sync>(
     rt: &H,
     alloc: Global,
@@ -61,6 +61,7 @@ pub fn drive<J: Naming + Send + Sync, H: Threads + Wait + Sync, G: Gate + Sync>(
     ensures layout { IfOk result (λ d. (world_of d.core).layout ≡ J.names.layout) }
     ensures run { IfOk result (λ d. IsHistory J.names.opened d.history.log (world_of d.core)) }
     ensures unpurged { IfOk result (λ d. calls_by 0 d.history.log ≡ []) }
+    ensures kept { IfOk result (λ d. d.deeds.commits.is_short ≡ false) }
 {
     let count = plans.len();
     let terminals = Number::new(count as u32).unwrap();
@@ -75,6 +76,7 @@ pub fn drive<J: Naming + Send + Sync, H: Threads + Wait + Sync, G: Gate + Sync>(
     };
     drive_all(
         rt,
+        alloc,
         gate,
         (shop, purger),
         plans,
@@ -109,6 +111,7 @@ fn let_go(closed: Closed) {
 // Drives, once all memory is there.
 fn drive_all<J: Naming + Send + Sync, H: Threads + Wait + Sync, G: Gate + Sync>(
     rt: &H,
+    alloc: Global,
     gate: &G,
     shop: (Shop<J>, Purger<J>),
     plans: Vec<Plan>,
@@ -130,13 +133,23 @@ fn drive_all<J: Naming + Send + Sync, H: Threads + Wait + Sync, G: Gate + Sync>(
     ensures layout { IfOk result (λ d. (world_of d.core).layout ≡ J.names.layout) }
     ensures run { IfOk result (λ d. IsHistory J.names.opened d.history.log (world_of d.core)) }
     ensures unpurged { IfOk result (λ d. calls_by 0 d.history.log ≡ []) }
+    ensures kept { IfOk result (λ d. d.deeds.commits.is_short ≡ false) }
 {
     let count = plans.len();
     let (mut shop, purger) = shop;
     let (senders, taker) = ends;
     let desk = take_desk(&mut shop, Number::new(count as u32 + 1).unwrap());
-    let mut bench = Bench::new(desk, taker, count as u32);
-    sit_down(&mut shop, senders, &mut stations, plans);
+    let keeps_commits = gate.keeps_commits();
+    let deeds = Deeds::none(alloc, keeps_commits);
+    let mut bench = Bench::new(desk, taker, count as u32, deeds);
+    sit_down(
+        alloc,
+        keeps_commits,
+        &mut shop,
+        senders,
+        &mut stations,
+        plans,
+    );
     let is_whole = run_all(rt, shop.front(), gate, &mut bench, stations.as_mut_slice());
     let (desks, deeds) = rise(bench, stations, desks);
     match shop.close(desks, purger) {
@@ -145,12 +158,14 @@ fn drive_all<J: Naming + Send + Sync, H: Threads + Wait + Sync, G: Gate + Sync>(
     }
 }
 
-// Gives what a drive left, where each terminal had a thread, and lets it go otherwise.
+// Gives what a drive left, where each terminal had a thread and its commits had memory, and lets it
+// go otherwise.
 fn left(closed: Closed, deeds: Deeds, is_whole: bool) -> Result<Driven, NoMemory>
-    ensures { IfOk result (λ d. (d.core ≡ closed.core) × (d.counted ≡ closed.counted)
+    ensures same { IfOk result (λ d. (d.core ≡ closed.core) × (d.counted ≡ closed.counted)
         × (d.history ≡ closed.history)) }
+    ensures kept { IfOk result (λ d. (d.deeds ≡ deeds) × (d.deeds.commits.is_short ≡ false)) }
 {
-    if !is_whole {
+    if !is_whole || deeds.commits.is_short {
         let_go(closed);
         return Err(NoMemory);
     }
@@ -184,6 +199,8 @@ fn take_desk<J: Naming>(shop: &mut Shop<J>, terminal: Terminal) -> Desk<J>
 // Gives each sender's terminal its desk, the last terminal first.
 #[tactic(auto, using(crate::proofs::SlotFacts::still_free))]
 fn sit_down<J: Naming>(
+    alloc: Global,
+    keeps_commits: bool,
     shop: &mut Shop<J>,
     senders: Vec<Sender>,
     stations: &mut Vec<Station<J>>,
@@ -204,7 +221,8 @@ fn sit_down<J: Naming>(
         };
         let slot = senders.len();
         let desk = take_desk(shop, Number::new(slot as u32 + 1).unwrap());
-        stations.push_reserved(Station::new(desk, sender, plan));
+        let deeds = Deeds::none(alloc, keeps_commits);
+        stations.push_reserved(Station::new(desk, sender, plan, deeds));
     }
 }
 
@@ -254,7 +272,7 @@ fn rise<J: Naming>(
     while let Some(station) = stations.pop() {
         let (desk, done) = station.into_parts();
         desks.push_reserved(desk);
-        deeds.add(&done);
+        deeds.add(done);
     }
     (desks, deeds)
 }

@@ -6,7 +6,7 @@ ghost use Rattle.oe_hall.specs.Turns.{open_count};
 ghost use Rattle.oe_report.specs.Verdicts.{IsFirstFailing};
 ghost use Rattle.oe_core.specs.Core.{world_of};
 ghost use Rattle.oe_store.specs.Places.{rows};
-ghost use Rattle.oe_drive.specs.Runs.{IsRewound, IsEnding};
+ghost use Rattle.oe_drive.specs.Runs.{IsDriven, IsRewound, IsEnding};
 
 use oe_core::Core;
 use oe_model::conditions_hold;
@@ -48,9 +48,10 @@ fn failing_in(core: &Core) -> Option<Condition>
 }
 
 /// Audits the core, rewinds it to moment 0, and compares it with a new population of the scale.
-/// Memory for that is the only refusal.
+/// Memory for that is the only refusal. What it finds is known before, and looked for all the same.
 pub(crate) fn ended(alloc: Global, scale: Scale, core: Core) -> Result<Ending, NoMemory>
-    requires { open_count (world_of core) ≡ 0 }
+    requires quiet { open_count (world_of core) ≡ 0 }
+    requires driven { IsDriven scale (world_of core) }
     ensures { IfOk result (λ e. IsEnding scale (world_of core) e) }
 {
     let failing = failing_in(&core);

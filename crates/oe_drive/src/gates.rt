@@ -13,6 +13,11 @@ pub trait Gate {
 
     /// Comes after a terminal's errand: it was carried out, given up, or left in the queue.
     fn done(&self, _terminal: Terminal) {}
+
+    /// Tells whether terminals keep their commits, for whoever reads them behind the drive.
+    fn keeps_commits(&self) -> bool {
+        false
+    }
 }
 
 /// A gate that holds nobody.

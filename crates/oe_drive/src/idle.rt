@@ -21,6 +21,13 @@ use std::thread;
 /// How often a transaction is answered `Busy` before it is given up.
 pub const MOST_BUSY: u32 = 100;
 
+/// How often a thread yields at most between two tries of a stage. It yields once behind the first
+/// answer `Busy` of a transaction, and twice as often behind each next one: 100 tries with one
+/// yield each take some 50 microseconds, and a delivery of ten districts holds its locks for
+/// longer. With more yields 63 terminals at one warehouse take several times as long: who waits in
+/// a cycle waits until it gives up, and all others behind it.
+const MOST_YIELDS: u32 = 4;
+
 /// A desk whose transactions have ended, and that has no pin out.
 #[derive(Drop)]
 pub struct Idle<J: Naming> {
@@ -68,6 +75,7 @@ impl<J: Naming> Idle<J> {
     ) {
         if let Some(moment) = carry_one_out(rt, front, &mut self.desk, request, calls, deeds) {
             self.desk.told(front, moment);
+            keep(&self.desk, moment, request, deeds);
         }
     }
 
@@ -96,6 +104,20 @@ impl<J: Naming> Idle<J> {
                 Err(old) => self.desk.told(front, old.claim),
             }
         }
+    }
+}
+
+// Keeps a commit, where commits are asked for. Its reply is the desk's.
+fn keep<J: Naming>(desk: &Desk<J>, moment: Moment, request: &Request, deeds: &mut Deeds) {
+    if let Some(reply) = desk.reply() {
+        deeds.commits.note(moment, desk.terminal(), request, reply);
+    }
+}
+
+// Lets others go on.
+fn pause(yields: u32) {
+    for _ in 0..yields {
+        thread::yield_now();
     }
 }
 
@@ -156,16 +178,24 @@ fn advance_to_end<J: Naming, W: Wait, G: Gate>(
     ensures seat { desk.new.seat ≡ desk.old.seat }
 {
     let mut left = MOST_BUSY;
+    let mut row = 0u32;
+    let mut yields = 1u32;
     let mut work = work;
     for _ in rt.forever() {
         calls.before();
         let turn = desk.advance(rt, front, work);
         calls.after();
         match turn {
-            Turn::More(next) => work = next,
+            Turn::More(next) => {
+                work = next;
+                row = 0;
+            }
             Turn::Kept(next, refusal) => {
                 let busy = is_busy(&refusal);
-                deeds.busy = deeds.busy.saturating_add(u64::from(busy));
+                if busy {
+                    row = row.saturating_add(1);
+                    deeds.note_busy(&refusal, row);
+                }
                 if left <= 1 || !busy {
                     deeds.note(cause_of(&refusal));
                     give_up(rt, front, desk, next, calls);
@@ -173,7 +203,8 @@ fn advance_to_end<J: Naming, W: Wait, G: Gate>(
                 }
                 left -= 1;
                 work = next;
-                thread::yield_now();
+                pause(yields);
+                yields = yields.saturating_mul(2).min(MOST_YIELDS);
             }
             Turn::Committed(moment) => return Some(moment),
             Turn::RolledBack(_) => return None,

@@ -36,7 +36,7 @@ pub enum DriveFault {
 }
 
 /// How a drive ended: its exit status, what its desks were told, and what its terminals did.
-#[derive(Clone, Copy)]
+#[derive(Drop)]
 pub struct Ran {
     pub status: u8,
     pub counted: Counted,

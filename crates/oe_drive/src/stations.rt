@@ -101,8 +101,9 @@ fn submit<W: Wait>(
 }
 
 impl<J: Naming> Station<J> {
-    /// Makes the station of a desk that was told nothing, with its sender and its plan.
-    pub(crate) fn new(desk: Desk<J>, sender: Sender, plan: Plan) -> Station<J>
+    /// Makes the station of a desk that was told nothing, with its sender, its plan, and what is
+    /// done there.
+    pub(crate) fn new(desk: Desk<J>, sender: Sender, plan: Plan, deeds: Deeds) -> Station<J>
         requires told { desk.told ≡ untold 1 }
         requires free { is_pinned desk.seat.notes.pin ≡ false }
         ensures { result ≡ desk }
@@ -112,7 +113,7 @@ impl<J: Naming> Station<J> {
             idle: Idle::new(desk),
             sender: Some(sender),
             plan,
-            deeds: Deeds::none(),
+            deeds,
         }
     }
 
@@ -162,7 +163,7 @@ impl<J: Naming> Station<J> {
 
 impl<J: Naming> Bench<J> {
     /// Makes the station of a desk that was told nothing, with the taker of that number of senders.
-    pub(crate) fn new(desk: Desk<J>, taker: Taker, terminals: u32) -> Bench<J>
+    pub(crate) fn new(desk: Desk<J>, taker: Taker, terminals: u32, deeds: Deeds) -> Bench<J>
         requires told { desk.told ≡ untold 1 }
         requires free { is_pinned desk.seat.notes.pin ≡ false }
         ensures { result ≡ desk }
@@ -172,7 +173,7 @@ impl<J: Naming> Bench<J> {
             idle: Idle::new(desk),
             taker,
             terminals,
-            deeds: Deeds::none(),
+            deeds,
         }
     }
 

@@ -1,6 +1,7 @@
 //! What a person is told of a drive: before it, while it goes on, and at its end. No clause sees a
 //! clock or standard error.
 
+use oe_deeds::BusyCounts;
 use oe_drive::{Deeds, Gate, MOST_BUSY, Ran, may_overfill};
 use oe_numbers::DriveNumbers;
 use oe_values::Terminal;
@@ -8,12 +9,21 @@ use std::io;
 use std::sync::atomic::{AtomicU64, Ordering};
 use std::time::{Clock, Duration, Instant};
 
+/// What a person is told of a drive besides how it went: how far it is, and which locks were in the
+/// way.
+#[derive(Clone, Copy)]
+pub struct Shown {
+    pub progress: bool,
+    pub busy: bool,
+}
+
 /// Tells a person how far a drive is, once a second from its second second on.
 #[derive(Drop)]
 pub struct Progress<'r, R> {
     rt: &'r R,
     begun: Instant,
-    is_shown: bool,
+    shown: Shown,
+    keeps_commits: bool,
     requests: u32,
     done: AtomicU64,
     second_told: AtomicU64,
@@ -21,21 +31,39 @@ pub struct Progress<'r, R> {
 
 impl<'r, R: Clock + Eprint> Progress<'r, R> {
     /// Begins to count the requests of a drive. It says nothing where it is not shown.
-    pub fn begin(rt: &'r R, numbers: &DriveNumbers, is_shown: bool) -> io::Result<Self> {
+    pub fn begin(
+        rt: &'r R,
+        numbers: &DriveNumbers,
+        shown: Shown,
+        keeps_commits: bool,
+    ) -> io::Result<Self> {
         Ok(Progress {
             rt,
             begun: Instant::now(rt)?,
-            is_shown,
+            shown,
+            keeps_commits,
             requests: numbers.terminals.get() * numbers.requests.get(),
             done: AtomicU64::new(0),
             second_told: AtomicU64::new(0),
         })
     }
 
-    /// Tells how the drive went, which has ended now.
-    pub fn end(&self, numbers: &DriveNumbers, ran: &Ran) {
-        if let Ok(took) = self.begun.elapsed(self.rt) {
+    /// Tells for how long the drive has gone on; nothing where the clock fails.
+    pub fn took(&self) -> Option<Duration> {
+        match self.begun.elapsed(self.rt) {
+            Ok(took) => Some(took),
+            Err(_) => None,
+        }
+    }
+
+    /// Tells how the drive went, which has ended, and which locks were in the way where that is
+    /// asked for.
+    pub fn end(&self, numbers: &DriveNumbers, ran: &Ran, took: Option<Duration>) {
+        if let Some(took) = took {
             let _told = tell_drive(self.rt, numbers, ran, took);
+        }
+        if self.shown.busy {
+            let _told = tell_busy(self.rt, &ran.deeds);
         }
     }
 }
@@ -47,7 +75,7 @@ impl<R: Clock + Eprint> Gate for Progress<'_, R> {
 
     fn done(&self, _terminal: Terminal) {
         let before = self.done.fetch_add(1, Ordering::SeqCst);
-        if !self.is_shown {
+        if !self.shown.progress {
             return;
         }
         let Ok(took) = self.begun.elapsed(self.rt) else {
@@ -59,6 +87,10 @@ impl<R: Clock + Eprint> Gate for Progress<'_, R> {
         }
         let done = before.saturating_add(1);
         let _told = eprintln!(self.rt; "{done} of {} requests", self.requests);
+    }
+
+    fn keeps_commits(&self) -> bool {
+        self.keeps_commits
     }
 }
 
@@ -126,4 +158,26 @@ fn tell_causes<R: Eprint>(rt: &R, extents: u32, deeds: &Deeds) -> io::Result<()>
         eprintln!(rt; "{} refused at their begin", deeds.refused)?;
     }
     Ok(())
+}
+
+/// Tells a person how often locks were in the way, by kind of name, the longest row of answers
+/// `Busy`, and how many transactions were given up, by cause.
+fn tell_busy<R: Eprint>(rt: &R, deeds: &Deeds) -> io::Result<()> {
+    tell_kinds(rt, &deeds.busy_for)?;
+    eprintln!(rt; "longest row {}", deeds.longest_row)?;
+    eprintln!(rt;
+        "given up Busy {} UndoFull {} NoMemory {}",
+        deeds.given_up_busy, deeds.given_up_full, deeds.given_up_no_memory
+    )
+}
+
+/// Tells a person how often each kind of name was in the way.
+fn tell_kinds<R: Eprint>(rt: &R, counts: &BusyCounts) -> io::Result<()> {
+    eprintln!(rt; "Warehouse Busy {}", counts.warehouses)?;
+    eprintln!(rt; "District Busy {}", counts.districts)?;
+    eprintln!(rt; "Customer Busy {}", counts.customers)?;
+    eprintln!(rt; "Order Busy {}", counts.orders)?;
+    eprintln!(rt; "Queue Busy {}", counts.queues)?;
+    eprintln!(rt; "Stock Busy {}", counts.stocks)?;
+    eprintln!(rt; "Names Busy {}", counts.names)
 }

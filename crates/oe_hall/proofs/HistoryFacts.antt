@@ -1,10 +1,10 @@
 -- Histories that grow by an entry, and what they say of a terminal's transaction.
 use Rattle.std.proofs.Common.{◌≡◌, ◌≢◌, ℕ, ◌==◌, Bool, true, false, true≢false, cond, Option, None, Some, is_some, List}
-use Rattle.std.proofs.Common.{[], ◌∷◌, ◌++◌, Result, Ok, Err, refl, sym, ap, ◌∙◌, subst, arith}
+use Rattle.std.proofs.Common.{[], ◌∷◌, ◌++◌, Result, Ok, Err, inl, inr, refl, sym, ap, ◌∙◌, subst, arith}
 use Rattle.std.proofs.lemmas.Bool.Decides.{nat_tests}
 use Rattle.oe_theory.specs.World.{World, Open}
 use Rattle.oe_theory.specs.Next as theory
-use Rattle.oe_theory.specs.Next.{Next, Runs, IsQuiet}
+use Rattle.oe_theory.specs.Next.{Next, Runs, IsQuiet, begins, commits, rolls_back, stops, fails}
 use Rattle.oe_model.specs.System.{system}
 use Rattle.oe_requests.specs.declared.requests.Request.{Request}
 use Rattle.oe_requests.specs.declared.requests.Query.{Query}
@@ -26,7 +26,11 @@ use Rattle.oe_history.proofs.Active.{other, own, nobodys}
 use Rattle.oe_hall.specs.Histories.{steps_in, answers_in, IsStepOf, IsOwnStep, AreOwnSteps, IsHistory, HasHappened}
 use Rattle.oe_hall.specs.Histories.{opens}
 use Rattle.oe_hall.specs.Histories.{is_open}
-use Rattle.oe_hall.specs.Turns.{advance_answer, end_answer, BeginLeaves, AdvanceLeaves, EndLeaves}
+use Rattle.oe_hall.specs.Turns.{advance_answer, end_answer, read_answer, BeginLeaves, AdvanceLeaves, EndLeaves}
+use Rattle.oe_hall.specs.Turns.{ReadCall}
+use Rattle.oe_requests.specs.declared.replies.QueryReply.{QueryReply}
+use Rattle.atomic_table.specs.Seated.{TableId}
+use Rattle.oe_moments.specs.Pins.{ThePin}
 use Rattle.oe_hall.proofs.TurnFacts.{fits, none_open}
 
 -- A HISTORY AND AN ENTRY MORE
@@ -166,10 +170,37 @@ after_refused b t q (refusal.Future m) = refl
 after_refused b t q (refusal.NotQuiet m) = refl
 after_refused b t q (refusal.NotPinned m) = refl
 
+-- what is begun was closed, and what ends was open
+was_closed : (v v' : World system) (s : theory.Step system) (a : theory.Answer system) (t : ℕ) (q : Request)
+    → Next system v s a v' → s ≡ theory.Begin t q → a ≡ theory.Begun → v.active t ≡ None
+was_closed v _ _ _ t q (begins u p m) is answer =
+    let same : u ≡ t = cc in
+    ap v.active (sym same) ∙ m.closed
+was_closed v _ _ _ t q n is answer = cc
+
+was_open : (v v' : World system) (s : theory.Step system) (a : theory.Answer system) (t : ℕ) → Next system v s a v'
+    → terminal_of system s ≡ Some t → after system true a ≡ false → is_some (v.active t) ≡ true
+was_open v _ _ _ t (commits u o y e g r) is ends =
+    let same : u ≡ t = cc in
+    ap (λ (k : ℕ). is_some (v.active k)) (sym same) ∙ ap is_some e
+was_open v _ _ _ t (rolls_back u o e) is ends =
+    let same : u ≡ t = cc in
+    ap (λ (k : ℕ). is_some (v.active k)) (sym same) ∙ ap is_some e
+was_open v _ _ _ t (stops u o x e f) is ends =
+    let same : u ≡ t = cc in
+    ap (λ (k : ℕ). is_some (v.active k)) (sym same) ∙ ap is_some e
+was_open v _ _ _ t (fails u o x e g f) is ends =
+    let same : u ≡ t = cc in
+    ap (λ (k : ℕ). is_some (v.active k)) (sym same) ∙ ap is_some e
+was_open v _ _ _ t n is ends = cc
+
 pub begin_leaves : (r : Result (Unit {0}) Refusal) (t : ℕ) (q : Request) (v v' : World system) (b b' : Bool)
     → (b ≡ is_some (v.active t)) × (b' ≡ is_some (v'.active t))
     → Next system v (theory.Begin t q) (answer_in (step.Begin t q) (begin_answer r)) v' → BeginLeaves r b b'
-begin_leaves (Ok u) t q v v' b b' is n = is.1 ∙ own system v v' (theory.Begin t q) theory.Begun t refl n
+begin_leaves (Ok u) t q v v' b b' is n = (
+  is.0 ∙ ap is_some (was_closed v v' (theory.Begin t q) theory.Begun t q n refl refl),
+  is.1 ∙ own system v v' (theory.Begin t q) theory.Begun t refl n,
+)
 begin_leaves (Err e) t q v v' b b' is n =
     is.1 ∙ (own system v v' (theory.Begin t q) (refusal_in (step.Begin t q) e) t refl n
     ∙ (after_refused (is_some (v.active t)) t q e ∙ sym is.0))
@@ -180,11 +211,16 @@ advance_leaves advanced.More y t v v' b b' is x =
     is.1 ∙ (own system v v' (theory.Advance t) theory.More t refl x.0 ∙ sym is.0)
 advance_leaves (advanced.Kept e) y t v v' b b' is x =
     is.1 ∙ (ap (λ (z : World system). is_some (z.active t)) x.1 ∙ sym is.0)
-advance_leaves (advanced.Committed m) y t v v' b b' is x =
-    is.1 ∙ own system v v' (theory.Advance t) (theory.Committed m x.0) t refl x.2.0
-advance_leaves (advanced.RolledBack e) y t v v' b b' is x =
-    is.1 ∙ (own system v v' (theory.Advance t) (refusal_in (step.Advance t) e) t refl x.0.0
-    ∙ ap (after system (is_some (v.active t))) x.1)
+advance_leaves (advanced.Committed m) y t v v' b b' is x = (
+  is.0 ∙ was_open v v' (theory.Advance t) (theory.Committed m x.0) t x.2.0 refl refl,
+  is.1 ∙ own system v v' (theory.Advance t) (theory.Committed m x.0) t refl x.2.0,
+)
+advance_leaves (advanced.RolledBack e) y t v v' b b' is x = (
+  is.0 ∙ was_open v v' (theory.Advance t) (refusal_in (step.Advance t) e) t x.0.0 refl
+      (ap (after system true) x.1),
+  is.1 ∙ (own system v v' (theory.Advance t) (refusal_in (step.Advance t) e) t refl x.0.0
+      ∙ ap (after system (is_some (v.active t))) x.1),
+)
 
 -- a refused end has found none
 refused_end : (v v' : World system) (t : ℕ) (e : Refusal)
@@ -210,7 +246,10 @@ refused_end v v' t (refusal.NotPinned m) n = absurd (fits v _ _ v' n)
 pub end_leaves : (r : Result (Unit {0}) Refusal) (t : ℕ) (v v' : World system) (b b' : Bool)
     → (b ≡ is_some (v.active t)) × (b' ≡ is_some (v'.active t))
     → Next system v (theory.Rollback t) (answer_in (step.Rollback t) (end_answer r)) v' → EndLeaves r b b'
-end_leaves (Ok u) t v v' b b' is n = is.1 ∙ own system v v' (theory.Rollback t) theory.Rolled_back t refl n
+end_leaves (Ok u) t v v' b b' is n = (
+  is.0 ∙ was_open v v' (theory.Rollback t) theory.Rolled_back t n refl refl,
+  is.1 ∙ own system v v' (theory.Rollback t) theory.Rolled_back t refl n,
+)
 end_leaves (Err e) t v v' b b' is n =
     let none = refused_end v v' t e n in
     let was : b ≡ false = is.0 ∙ ap is_some none.0 in (
@@ -218,6 +257,40 @@ end_leaves (Err e) t v v' b b' is n =
       is.1 ∙ (own system v v' (theory.Rollback t) (refusal_in (step.Rollback t) e) t refl n
           ∙ (ap (after system (is_some (v.active t))) none.1 ∙ (sym is.0 ∙ was))),
     )
+
+-- a read leaves it
+opens_snoc : (b : Bool) (log : List Entry) (e : Entry)
+    → opens b (log ++ e ∷ []) ≡ after system (opens b log) (answer_in e.step e.answer)
+opens_snoc b [] e = refl
+opens_snoc b (d ∷ es) e = opens_snoc (after system b (answer_in d.step d.answer)) es e
+
+after_read : (b : Bool) (m : ℕ) (q : Query) (r : Result QueryReply Refusal)
+    → after system b (answer_in (step.Read m q) (read_answer r)) ≡ b
+after_read b m q (Ok f) = refl
+after_read b m q (Err (refusal.NoSuchRow x)) = refl
+after_read b m q (Err (refusal.RowExists x)) = refl
+after_read b m q (Err (refusal.Overflow x)) = refl
+after_read b m q (Err (refusal.Reference x)) = refl
+after_read b m q (Err refusal.KeyColumn) = refl
+after_read b m q (Err (refusal.Busy x u)) = refl
+after_read b m q (Err refusal.UndoFull) = refl
+after_read b m q (Err refusal.NoMemory) = refl
+after_read b m q (Err refusal.NotOpen) = refl
+after_read b m q (Err refusal.AlreadyOpen) = refl
+after_read b m q (Err refusal.InvalidItem) = refl
+after_read b m q (Err refusal.NoCustomer) = refl
+after_read b m q (Err (refusal.TooOld x)) = refl
+after_read b m q (Err (refusal.Future x)) = refl
+after_read b m q (Err (refusal.NotQuiet x)) = refl
+after_read b m q (Err (refusal.NotPinned x)) = refl
+
+pub read_leaves : (words : TableId) (c c' : TheCaller) (t : ℕ) (p : ThePin) (q : Query) (r : Result QueryReply Refusal)
+    → ReadCall words c t p q r c' → is_open c'.mine ≡ is_open c.mine
+read_leaves words c c' t p q r (inl x) =
+    ap is_open x.mine
+    ∙ (opens_snoc false c.mine (entry t (step.Read p.moment q) (read_answer r))
+    ∙ after_read (is_open c.mine) p.moment q r)
+read_leaves words c c' t p q r (inr x) = ap (λ (y : TheCaller). is_open y.mine) x.1
 
 -- an advance is answered as its entry says
 pub carried : (v v' : World system) (t : ℕ) (r : Advanced) (y : Option Reply) → Advances v t r v' y

@@ -32,16 +32,10 @@ module _ (J : RattleType) (j : Naming.Ghosts J.Denot) where
       (struct_send (shape (hall.the_type J j)) (
         recorded_is_sent core_send,
         (
-          search sendable,
+          books.the_send J j,
           (
-            search sendable,
-            (
-              books.the_send J j,
-              (
-                arc.the_send _ _ _ moments.the_send heap.the_send moments.the_sync heap.the_sync frees,
-                (keeper.the_send, tt),
-              ),
-            ),
+            arc.the_send _ _ _ moments.the_send heap.the_send moments.the_sync heap.the_sync frees,
+            (keeper.the_send, tt),
           ),
         ),
       )))

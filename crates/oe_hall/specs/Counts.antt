@@ -1,5 +1,5 @@
 -- How many transactions were begun, committed and rolled back: in all, and as far as one hand was told.
-use Rattle.std.specs.Prelude.{◌≡◌, ℕ, ◌+◌, ◌≤◌}
+use Rattle.std.specs.Prelude.{◌≡◌, ℕ, ◌+◌}
 use Rattle.oe_hall.specs.declared.counts.Counted.{Counted}
 
 -- in all
@@ -52,10 +52,6 @@ with_one_more c t = record {
   rolled_back = t.rolled_back + c.rolled_back;
 }
 
--- a hand was told no more than the totals
-abbrev pub IsAtMost : Tally → Counts → Type 0
-IsAtMost t c = (t.begun ≤ c.begun) × (t.committed ≤ c.committed) × (t.rolled_back ≤ c.rolled_back)
-
--- or all of them
+-- a hand was told all of the totals
 abbrev pub AreTotals : Tally → Counts → Type 0
 AreTotals t c = (t.begun ≡ c.begun) × (t.committed ≡ c.committed) × (t.rolled_back ≡ c.rolled_back)

@@ -1,6 +1,9 @@
 -- What desks are told: by its own contract each call is one entry of the history, behind all that its desk had seen.
-use Rattle.std.specs.Prelude.{◌≡◌, ◌<◌, ◌⊎◌, ℕ, suc, ◌+◌, ◌-◌, Option, Some, Result, Ok, Err, List, [], ◌∷◌, sum_by}
+use Rattle.std.specs.Prelude.{◌≡◌, ◌<◌, ◌≤◌, ◌⊎◌, ℕ, suc, ◌+◌, ◌-◌, ◌*◌, ◌^◌, Bool, cond, Option, Some, Result, Ok}
+use Rattle.std.specs.Prelude.{Err, List, []}
+use Rattle.std.specs.Prelude.{◌∷◌, sum_by}
 use Rattle.std.specs.Prelude.{slice_get}
+use Rattle.atomic_table.specs.Seated.{TableId}
 use Rattle.oe_moments.specs.Rule.{pin_word}
 use Rattle.oe_moments.specs.Pins.{TheSeat, ThePin, Holds}
 use Rattle.oe_core.specs.declared.advances.Advanced.{Advanced}
@@ -11,6 +14,7 @@ use Rattle.oe_requests.specs.declared.replies.QueryReply.{QueryReply}
 use Rattle.oe_requests.specs.declared.replies.Reply.{Reply}
 use Rattle.oe_requests.specs.declared.refusals.Refusal.{Refusal}
 use Rattle.oe_requests.specs.declared.refusals.Refusal.TheVariants as refusal
+use Rattle.oe_requests.specs.declared.refusals.Column.TheVariants.{HistoryNumber}
 use Rattle.oe_history.specs.declared.views.Entry.{Entry}
 use Rattle.oe_history.specs.Calls.{TheCaller, Knows}
 use Rattle.oe_hall.specs.Naming.{TheMarks}
@@ -60,6 +64,14 @@ with_seat s d = record d { seat = s }
 abbrev pub IsOwn : TheSeat → Open → Type 0
 IsOwn s o = (o.shop ≡ s.shop) × (o.terminal ≡ s.terminal)
 
+-- a desk begins no more transactions than these, so that 64 desks' counts have a sum below 2 ^ 64
+abbrev pub most_begun : ℕ
+most_begun = 288_230_376_151_711_743
+
+-- what was begun has ended, but for one transaction where one is open
+abbrev pub IsBalanced : Tally → Bool → Type 0
+IsBalanced c is_open = (c.begun ≡ c.committed + c.rolled_back + cond is_open 1 0) × (c.begun ≤ most_begun)
+
 -- WHAT THE HALL ANSWERED
 
 abbrev pub begins : Result Open Refusal → Result (Unit {0}) Refusal
@@ -82,7 +94,9 @@ ends (Err e) = Err e.0
 -- that is no step adds nothing.
 
 abbrev pub ABegin : TheDesk → Request → Result Open Refusal → TheDesk → Type 0
-ABegin d q r d' = BeginCall d.calls d.seat.terminal q (begins r) d'.calls
+ABegin d q r d' =
+    BeginCall d.calls d.seat.terminal q (begins r) d'.calls
+    ⊎ (r ≡ Err (refusal.Overflow HistoryNumber)) × (d.told.begun ≡ most_begun) × (d'.calls ≡ d.calls)
 
 -- a transaction that stays open is the one that was handed in
 abbrev pub Keeps : Open → Turn → Type 0
@@ -109,14 +123,15 @@ AnEnd d o r d' =
 -- at the moment of the desk's own pin; the desk refuses any other with the word of its own pin
 abbrev pub ARead : TheDesk → ThePin → Query → Result QueryReply Refusal → TheDesk → Type 0
 ARead d p q r d' =
-    Holds d.seat p × ReadCall d.calls d.seat.terminal p.moment q r d'.calls
+    Holds d.seat p × ReadCall d.seat.words d.calls d.seat.terminal p q r d'.calls
     ⊎ (r ≡ Err (refusal.NotPinned (pin_word d.seat.notes.pin))) × (Holds d.seat p → ⊥) × (d'.calls ≡ d.calls)
 
--- the purger's, in a turn of a hall whose history it has seen
-abbrev pub APurge : TheCaller → ℕ → ℕ → TheCaller → Type 0
-APurge c asked m c' =
+-- the purger's, in a turn of the hall of these words, whose history it has seen
+abbrev pub APurge : TableId → TheCaller → ℕ → ℕ → TheCaller → Type 0
+APurge words c asked m c' =
     PurgeCall c m c'
-    × (h : TheHall) × (h' : TheHall) × IsHall h × IsHall h' × PurgeTurn h asked m h' × (h'.history.log ≡ c'.seen)
+    × (h : TheHall) × (h' : TheHall) × IsHall h × IsHall h' × (h.words ≡ words) × PurgeTurn h asked m h'
+    × (h'.history.log ≡ c'.seen)
 
 -- WHAT A SHOP LEAVES
 
@@ -145,6 +160,12 @@ abbrev pub AreSums : List TheDesk → Counted → Type 0
 AreSums desks c =
     (c.begun ≡ sum_by begun_by desks) × (c.committed ≡ sum_by committed_by desks)
     × (c.rolled_back ≡ sum_by rolled_back_by desks)
+
+-- that many desks' counts can be added to these
+abbrev pub HasRoom : Counted → ℕ → Type 0
+HasRoom c n =
+    (c.begun + n * most_begun < 2 ^ 64) × (c.committed + n * most_begun < 2 ^ 64)
+    × (c.rolled_back + n * most_begun < 2 ^ 64)
 
 -- that many were told to begin and not to end
 abbrev pub AreOpen : List TheDesk → ℕ → Type 0

@@ -1,9 +1,11 @@
 -- One turn of the hall: a step of the machine with what it counts and its entry in the history, or none.
-use Rattle.std.specs.Prelude.{◌≡◌, ◌≢◌, ◌⊎◌, ℕ, suc, ◌+◌, ◌≤◌, max, Bool, true, false, Option, None, Some, Result, Ok}
-use Rattle.std.specs.Prelude.{Err}
+use Rattle.std.specs.Prelude.{◌≡◌, ◌≢◌, ◌⊎◌, ℕ, suc, ◌+◌, ◌-◌, ◌≤◌, min, max, Bool, true, false, Option, None, Some}
+use Rattle.std.specs.Prelude.{IsSome}
+use Rattle.std.specs.Prelude.{Result, Ok, Err}
 use Rattle.atomic_table.specs.Seated.{TableId}
-use Rattle.oe_moments.specs.Rule.{pin_word}
-use Rattle.oe_moments.specs.declared.notes.PinState.TheVariants.{Sure}
+use Rattle.oe_moments.specs.Rule.{turn, sure_word, saw_pin}
+use Rattle.oe_moments.specs.Pins.{ThePin, AreOfDesks}
+use Rattle.oe_moments.specs.declared.notes.KeeperNotes.{KeeperNotes}
 use Rattle.oe_theory.specs.World.{World, newest, horizon}
 use Rattle.oe_theory.specs.Next.{count_open}
 use Rattle.oe_model.specs.System.{system, terminal_limit}
@@ -17,7 +19,6 @@ use Rattle.oe_requests.specs.declared.replies.QueryReply.{QueryReply}
 use Rattle.oe_requests.specs.declared.replies.Reply.{Reply}
 use Rattle.oe_requests.specs.declared.refusals.Refusal.{Refusal}
 use Rattle.oe_requests.specs.declared.refusals.Refusal.TheVariants as refusal
-use Rattle.oe_requests.specs.declared.refusals.Column.TheVariants.{HistoryNumber}
 use Rattle.oe_requests.specs.declared.steps.Step.{Step}
 use Rattle.oe_requests.specs.declared.steps.Step.TheVariants as step
 use Rattle.oe_requests.specs.declared.answers.Answer.{Answer}
@@ -25,20 +26,20 @@ use Rattle.oe_requests.specs.declared.answers.Answer.TheVariants as answer
 use Rattle.oe_history.specs.Views.{entry}
 use Rattle.oe_history.specs.Calls.{TheHistory, TheCaller, Extends, with_entry}
 use Rattle.oe_hall.specs.Counts.{Counts, Tally, begun_once, committed_once, rolled_back_once, told_begun}
-use Rattle.oe_hall.specs.Counts.{told_committed, told_rolled_back, IsAtMost}
+use Rattle.oe_hall.specs.Counts.{told_committed, told_rolled_back}
 
 -- what a clause sees of a core with the history that has led to it
 pub record TheRecord : Type 0 where
   pub core : CoreState
   pub history : TheHistory
 
--- what a clause sees of the hall: the core and its history, what was counted, the keeper's horizon, and the words of
+-- what a clause sees of the hall: the core and its history, what was counted, what the keeper knows, and the words of
 -- the pins
 pub record TheHall : Type 0 where
   pub core : CoreState
   pub history : TheHistory
   pub counts : Counts
-  pub horizon : ℕ
+  pub keeper : KeeperNotes
   pub words : TableId
 
 abbrev pub world : TheHall → World system
@@ -46,6 +47,10 @@ world h = world_of h.core
 
 abbrev pub with_history : TheHistory → TheHall → TheHall
 with_history x h = record h { history = x }
+
+-- the keeper has looked at the desk of a pin, and found that word
+abbrev pub looked_for : ThePin → ℕ → TheHall → TheHall
+looked_for p n h = record h { keeper = saw_pin (p.terminal - 1) n h.keeper }
 
 -- how many transactions are open
 abbrev pub open_count : World system → ℕ
@@ -93,11 +98,7 @@ AreCounts c w = (c.committed ≡ newest system w) × (c.begun ≡ c.committed + 
 
 -- so it is in a hall, whose keeper has the world's horizon
 abbrev pub IsHall : TheHall → Type 0
-IsHall h = AreCounts h.counts (world h) × (h.horizon ≡ horizon system (world h))
-
--- one hand was told no more than the hall counts
-abbrev pub IsTold : Tally → TheHall → Type 0
-IsTold t h = IsAtMost t h.counts
+IsHall h = AreCounts h.counts (world h) × (h.keeper.horizon ≡ horizon system (world h))
 
 -- what one hand is told of a begin
 abbrev pub begin_told : Result (Unit {0}) Refusal → Tally → Tally
@@ -117,33 +118,27 @@ told_of (advanced.Kept e) c = c
 told_of (advanced.Committed m) c = told_committed c
 told_of (advanced.RolledBack e) c = told_rolled_back c
 
--- the reply that was kept stays, unless a commit has left its own
+-- the reply that was kept stays, unless a commit has left its own, and then there is one
 abbrev pub LeavesReply : Advanced → Option Reply → Option Reply → Type 0
 LeavesReply advanced.More old new = new ≡ old
 LeavesReply (advanced.Kept e) old new = new ≡ old
-LeavesReply (advanced.Committed m) old new = Unit {0}
+LeavesReply (advanced.Committed m) old new = IsSome new
 LeavesReply (advanced.RolledBack e) old new = new ≡ old
-
--- a hall counts no more transactions than these
-abbrev pub most_begun : ℕ
-most_begun = 18446744073709551615
-
--- the count of begins is full
-abbrev pub IsFullCount : Result (Unit {0}) Refusal → Type 0
-IsFullCount r = (r ≡ Err (refusal.Overflow HistoryNumber)) × (h : TheHall) × IsHall h × (h.counts.begun ≡ most_begun)
 
 -- the call is the newest entry
 abbrev pub IsWritten : ℕ → Step → Answer → TheHall → TheHall → Type 0
 IsWritten by i a h h' = h'.history ≡ with_entry (entry by i a) h.history
 
--- a begin is one step, or none where the count is full
+-- the pins are the same, and what the keeper knows of them
+abbrev pub HasSamePins : TheHall → TheHall → Type 0
+HasSamePins h h' = (h'.words ≡ h.words) × (h'.keeper ≡ h.keeper)
+
+-- a begin is one step
 abbrev pub BeginTurn : TheHall → ℕ → Request → Result (Unit {0}) Refusal → TheHall → Type 0
 BeginTurn h t q (Ok u) h' = Carries (world h) (step.Begin t q) answer.Begun (world h')
-    × IsWritten t (step.Begin t q) answer.Begun h h' × (h'.counts ≡ begun_once h.counts) × (h'.words ≡ h.words)
-BeginTurn h t q (Err e) h' =
-    (Carries (world h) (step.Begin t q) (answer.Refused e) (world h')
-    × IsWritten t (step.Begin t q) (answer.Refused e) h h' × (h'.counts ≡ h.counts) × (h'.words ≡ h.words))
-    ⊎ (e ≡ refusal.Overflow HistoryNumber) × (h.counts.begun ≡ most_begun) × (h' ≡ h)
+    × IsWritten t (step.Begin t q) answer.Begun h h' × (h'.counts ≡ begun_once h.counts) × HasSamePins h h'
+BeginTurn h t q (Err e) h' = Carries (world h) (step.Begin t q) (answer.Refused e) (world h')
+    × IsWritten t (step.Begin t q) (answer.Refused e) h h' × (h'.counts ≡ h.counts) × HasSamePins h h'
 
 -- the answer of an Advance that leaves this reply at its desk: a commit's is its own
 abbrev pub advance_answer : Advanced → Option Reply → Answer
@@ -157,7 +152,7 @@ advance_answer (advanced.RolledBack e) y = answer.Refused e
 abbrev pub AdvanceTurn : TheHall → ℕ → Advanced → Option Reply → TheHall → Type 0
 AdvanceTurn h t r reply h' = Advances (world h) t r (world h') reply
     × IsWritten t (step.Advance t) (advance_answer r reply) h h'
-    × (h'.counts ≡ counted r h.counts) × (h'.words ≡ h.words)
+    × (h'.counts ≡ counted r h.counts) × HasSamePins h h'
 
 abbrev pub end_answer : Result (Unit {0}) Refusal → Answer
 end_answer (Ok u) = answer.RolledBack
@@ -174,28 +169,32 @@ end_told (Err e) c = c
 -- an end is one step
 abbrev pub EndTurn : TheHall → ℕ → Result (Unit {0}) Refusal → TheHall → Type 0
 EndTurn h t r h' = Carries (world h) (step.Rollback t) (end_answer r) (world h')
-    × IsWritten t (step.Rollback t) (end_answer r) h h' × (h'.counts ≡ end_counts r h.counts) × (h'.words ≡ h.words)
+    × IsWritten t (step.Rollback t) (end_answer r) h h' × (h'.counts ≡ end_counts r h.counts) × HasSamePins h h'
 
 abbrev pub read_answer : Result QueryReply Refusal → Answer
 read_answer (Ok f) = answer.Replied f
 read_answer (Err e) = answer.Refused e
 
--- the pin's word is another
-abbrev pub IsNotPinned : ℕ → Result QueryReply Refusal → Type 0
-IsNotPinned m r = (n : ℕ) × (r ≡ Err (refusal.NotPinned n)) × (n ≢ pin_word (Sure m))
+-- a read begins with a look at the pin's word: where that is the pin's, it is one step, which changes only the history;
+-- where it is another, it is none
+abbrev pub ReadTurn : TheHall → ℕ → ThePin → Query → Result QueryReply Refusal → TheHall → Type 0
+ReadTurn h t p q r h' =
+    Carries (world h) (step.Read p.moment q) (read_answer r) (world h')
+    × (h' ≡ with_history (with_entry (entry t (step.Read p.moment q) (read_answer r)) h.history)
+    (looked_for p (sure_word p.moment) h))
+    ⊎ (n : ℕ) × (r ≡ Err (refusal.NotPinned n)) × (n ≢ sure_word p.moment) × (h' ≡ looked_for p n h)
 
--- a read is one step, which changes only the history, or none where the pin's word is another
-abbrev pub ReadTurn : TheHall → ℕ → ℕ → Query → Result QueryReply Refusal → TheHall → Type 0
-ReadTurn h t m q r h' =
-    Carries (world h) (step.Read m q) (read_answer r) (world h')
-    × (h' ≡ with_history (with_entry (entry t (step.Read m q) (read_answer r)) h.history) h)
-    ⊎ IsNotPinned m r × (h' ≡ h)
+-- the keeper claimed a moment and passed each desk's pin: its horizon is the later of the old one and the least of that
+-- moment and those pins
+abbrev pub HasSwept : TableId → ℕ → KeeperNotes → KeeperNotes → Type 0
+HasSwept words m k k' = (k'.claim ≡ m) × (k'.turned ≡ turn k.turned) × AreOfDesks words k'.passed
+    × (k'.horizon ≡ max k.horizon k'.least) × (k'.horizon ≤ max k.horizon m) × (k'.found ≡ k.found)
 
--- a purge at a moment is one step of the purger, whose number is 0, at the moment that the pins allow: no earlier than
--- the horizon, and later than was asked only where the horizon was
+-- a purge is one step of the purger, whose number is 0, at the horizon that the keeper reaches: it claims what is
+-- asked, and no more than the newest moment
 abbrev pub PurgeTurn : TheHall → ℕ → ℕ → TheHall → Type 0
-PurgeTurn h asked m h' = (h.horizon ≤ m) × (m ≤ max h.horizon asked)
-    × Carries (world h) (step.Purge m) (answer.Purged m) (world h')
+PurgeTurn h asked m h' = HasSwept h.words (min asked (newest system (world h))) h.keeper h'.keeper
+    × (m ≡ h'.keeper.horizon) × Carries (world h) (step.Purge m) (answer.Purged m) (world h')
     × IsWritten 0 (step.Purge m) (answer.Purged m) h h' × (h'.counts ≡ h.counts) × (h'.words ≡ h.words)
 
 -- the read is not refused for its moment's age
@@ -206,7 +205,7 @@ IsYoung r = Unit {0}
 -- WHAT A CALL ADDS TO WHAT ITS CALLER KNOWS: ITS ENTRY, OR NOTHING WHERE IT IS NO STEP
 
 abbrev pub BeginCall : TheCaller → ℕ → Request → Result (Unit {0}) Refusal → TheCaller → Type 0
-BeginCall c t q r c' = Extends c (entry t (step.Begin t q) (begin_answer r)) c' ⊎ IsFullCount r × (c' ≡ c)
+BeginCall c t q r c' = Extends c (entry t (step.Begin t q) (begin_answer r)) c'
 
 abbrev pub AdvanceCall : TheCaller → ℕ → Advanced → Option Reply → TheCaller → Type 0
 AdvanceCall c t r reply c' = Extends c (entry t (step.Advance t) (advance_answer r reply)) c'
@@ -214,8 +213,15 @@ AdvanceCall c t r reply c' = Extends c (entry t (step.Advance t) (advance_answer
 abbrev pub EndCall : TheCaller → ℕ → Result (Unit {0}) Refusal → TheCaller → Type 0
 EndCall c t r c' = Extends c (entry t (step.Rollback t) (end_answer r)) c'
 
-abbrev pub ReadCall : TheCaller → ℕ → ℕ → Query → Result QueryReply Refusal → TheCaller → Type 0
-ReadCall c t m q r c' = Extends c (entry t (step.Read m q) (read_answer r)) c' ⊎ IsNotPinned m r × (c' ≡ c)
+-- the keeper of the hall of these words looked at the desk of a pin, and found another word, with which it is refused
+abbrev pub IsNotFound : TableId → ThePin → Result QueryReply Refusal → Type 0
+IsNotFound words p r =
+    (h : TheHall) × IsHall h × (h.words ≡ words) × (h.keeper.found.desk ≡ p.terminal - 1)
+    × (h.keeper.found.word ≢ sure_word p.moment) × (r ≡ Err (refusal.NotPinned h.keeper.found.word))
+
+abbrev pub ReadCall : TableId → TheCaller → ℕ → ThePin → Query → Result QueryReply Refusal → TheCaller → Type 0
+ReadCall words c t p q r c' =
+    Extends c (entry t (step.Read p.moment q) (read_answer r)) c' ⊎ IsNotFound words p r × (c' ≡ c)
 
 -- the purger's
 abbrev pub PurgeCall : TheCaller → ℕ → TheCaller → Type 0
@@ -224,16 +230,16 @@ PurgeCall c m c' = Extends c (entry 0 (step.Purge m) (answer.Purged m)) c'
 -- WHETHER THE CALLER'S TRANSACTION IS OPEN BEFORE AND AFTER AN ANSWER
 
 abbrev pub BeginLeaves : Result (Unit {0}) Refusal → Bool → Bool → Type 0
-BeginLeaves (Ok u) was is = is ≡ true
+BeginLeaves (Ok u) was is = (was ≡ false) × (is ≡ true)
 BeginLeaves (Err e) was is = is ≡ was
 
 abbrev pub AdvanceLeaves : Advanced → Bool → Bool → Type 0
 AdvanceLeaves advanced.More was is = is ≡ was
 AdvanceLeaves (advanced.Kept e) was is = is ≡ was
-AdvanceLeaves (advanced.Committed m) was is = is ≡ false
-AdvanceLeaves (advanced.RolledBack e) was is = is ≡ false
+AdvanceLeaves (advanced.Committed m) was is = (was ≡ true) × (is ≡ false)
+AdvanceLeaves (advanced.RolledBack e) was is = (was ≡ true) × (is ≡ false)
 
 -- an end is refused only where none is open
 abbrev pub EndLeaves : Result (Unit {0}) Refusal → Bool → Bool → Type 0
-EndLeaves (Ok u) was is = is ≡ false
+EndLeaves (Ok u) was is = (was ≡ true) × (is ≡ false)
 EndLeaves (Err e) was is = (was ≡ false) × (is ≡ false)

@@ -1,11 +1,10 @@
 //! What desks were told, as shares of three ledgers: how many transactions were begun, were
 //! committed and were rolled back.
 //!
-//! A `Told` has as many parts of each ledger, by its invariant. What one desk was told is at most
-//! the total in the `Books`, and what all parts were told is the total. Nothing can fail, and
-//! nothing takes memory or room.
-ghost use Rattle.std.specs.Prelude.{◌≡◌, ◌+◌, ◌<◌, ◌≤◌};
-ghost use Rattle.oe_hall.specs.Counts.{Counts, Tally, none, untold, tally, with_one_more, IsAtMost, AreTotals, begun_once, committed_once, rolled_back_once, told_begun, told_committed, told_rolled_back};
+//! A `Told` has as many parts of each ledger, by its invariant. What all parts were told is the
+//! total in the `Books`. Nothing can fail, and nothing takes memory or room.
+ghost use Rattle.std.specs.Prelude.{◌≡◌, ◌+◌, ◌<◌, ◌≤◌, ◌^◌};
+ghost use Rattle.oe_hall.specs.Counts.{Counts, Tally, none, untold, tally, with_one_more, AreTotals, begun_once, committed_once, rolled_back_once, told_begun, told_committed, told_rolled_back};
 
 use crate::naming::Naming;
 use std::marker::{Model, PhantomData};
@@ -75,6 +74,37 @@ pub struct Counted {
     pub begun: u64,
     pub committed: u64,
     pub rolled_back: u64,
+}
+
+impl Counted {
+    /// Makes the counts of nothing.
+    pub(crate) fn none() -> Counted
+        ensures { result ≡ record { begun = 0; committed = 0; rolled_back = 0 } }
+    {
+        Counted {
+            begun: 0,
+            committed: 0,
+            rolled_back: 0,
+        }
+    }
+
+    /// Adds what one more hand was told.
+    pub(crate) fn with(&self, other: &Counted) -> Counted
+        requires begun { self.now.begun + other.now.begun < 2 ^ 64 }
+        requires committed { self.now.committed + other.now.committed < 2 ^ 64 }
+        requires rolled_back { self.now.rolled_back + other.now.rolled_back < 2 ^ 64 }
+        ensures { result ≡ record {
+          begun = self.now.begun + other.now.begun;
+          committed = self.now.committed + other.now.committed;
+          rolled_back = self.now.rolled_back + other.now.rolled_back;
+        } }
+    {
+        Counted {
+            begun: self.begun + other.begun,
+            committed: self.committed + other.committed,
+            rolled_back: self.rolled_back + other.rolled_back,
+        }
+    }
 }
 
 /// The totals of what all hands were told.
@@ -202,16 +232,6 @@ impl<J: Naming> Books<J> {
         ensures told { told.new ≡ told_rolled_back told.old }
     {
         self.rolled_back.add(&mut told.rolled_back, 1);
-    }
-
-    /// Shows that what one hand was told is at most the totals. This does nothing: it is a law.
-    pub(crate) fn bound(&mut self, told: &mut Told<J>)
-        ensures same { (self.new ≡ self.old) × (told.new ≡ told.old) }
-        ensures bound { IsAtMost told.old self.old }
-    {
-        self.begun.audit(&mut told.begun);
-        self.committed.audit(&mut told.committed);
-        self.rolled_back.audit(&mut told.rolled_back);
     }
 
     /// Shows that what all parts were told is the totals. This does nothing: it is a law.

@@ -3,7 +3,8 @@
 //! By its invariant the newest moment counts the commits, what was begun is what was committed, was
 //! rolled back and is open, the keeper's horizon is the world's, and undo records have the layout
 //! that the shop's names say. Each call is one step of the machine, and one entry of the history,
-//! or neither, as its clause says. Nothing here takes memory of its own.
+//! or neither, as its clause says. What the keeper found and claimed stands in its notes. Nothing
+//! here takes memory of its own.
 ghost use Rattle.std.specs.Prelude.{◌≡◌, ℕ, ◌<◌, ◌≤◌, ◌^◌, [], min};
 ghost use Rattle.std.specs.Arc.{arc_value};
 ghost use Rattle.oe_theory.specs.World.{newest, horizon};
@@ -13,17 +14,17 @@ ghost use Rattle.oe_history.specs.Views.{calls_by};
 ghost use Rattle.oe_history.specs.Calls.{Knows};
 ghost use Rattle.oe_moments.specs.Rule.{at_start};
 ghost use Rattle.oe_moments.specs.Pins.{AreOfDesks};
-ghost use Rattle.oe_hall.specs.Counts.{none, tally, AreTotals};
+ghost use Rattle.oe_hall.specs.Counts.{none, AreTotals};
 ghost use Rattle.oe_hall.specs.Histories.{IsHistory, HasHappened, is_open};
-ghost use Rattle.oe_hall.specs.Turns.{IsHall, IsTold, BeginCall, AdvanceCall, EndCall, ReadCall, PurgeCall, BeginLeaves, AdvanceLeaves, EndLeaves, open_count, BeginTurn, AdvanceTurn, LeavesReply, EndTurn, ReadTurn, PurgeTurn, begin_told, told_of, end_told, IsYoung};
+ghost use Rattle.oe_hall.specs.Turns.{IsHall, BeginCall, AdvanceCall, EndCall, ReadCall, PurgeCall, BeginLeaves, AdvanceLeaves, EndLeaves, open_count, BeginTurn, AdvanceTurn, LeavesReply, EndTurn, ReadTurn, PurgeTurn, begin_told, told_of, end_told, IsYoung};
 
-use crate::counts::{Books, Counted, Told};
+use crate::counts::{Books, Told};
 use crate::naming::Naming;
 use crate::records::Recorded;
 use oe_core::{Advanced, Core};
 use oe_history::{Caller, History};
 use oe_moments::{KeeperSeat, Moments, Pin};
-use oe_requests::{Column, Query, QueryReply, Refusal, Reply, Request};
+use oe_requests::{Query, QueryReply, Refusal, Reply, Request};
 use oe_values::{Moment, Terminal};
 use std::marker::Model;
 use std::sync::Arc;
@@ -31,8 +32,6 @@ use std::sync::Arc;
 /// The hall of a shop. It can't be dropped, since the core can't.
 pub struct Hall<J: Naming> {
     recorded: Recorded<J>,
-    begun: u64,
-    rolled_back: u64,
     books: Books<J>,
     moments: Arc<Moments>,
     keeper: KeeperSeat,
@@ -57,12 +56,11 @@ impl<J: Naming> Model for Hall<J> {
       core = h.recorded.core;
       history = h.recorded.history;
       counts = h.books;
-      horizon = h.keeper.notes.horizon;
+      keeper = h.keeper.notes;
       words = arc_value h.moments;
     } };
 
-    ghost invariant = { λ h. (h.begun ≡ h.books.begun) × (h.rolled_back ≡ h.books.rolled_back)
-        × AreCounts h.books (world_of h.recorded.core) × (h.keeper.words ≡ arc_value h.moments)
+    ghost invariant = { λ h. AreCounts h.books (world_of h.recorded.core) × (h.keeper.words ≡ arc_value h.moments)
         × (h.keeper.notes.horizon ≡ horizon system (world_of h.recorded.core))
         × AreOfDesks (arc_value h.moments) 64 × (arc_value h.moments ≡ J.names.words)
         × ((world_of h.recorded.core).layout ≡ J.names.layout)
@@ -90,22 +88,19 @@ impl<J: Naming> Hall<J> {
           core = recorded.core;
           history = recorded.history;
           counts = none;
-          horizon = 0;
+          keeper = at_start;
           words = arc_value moments;
         } }
     {
         Hall {
             recorded,
-            begun: 0,
-            rolled_back: 0,
             books,
             moments,
             keeper,
         }
     }
 
-    /// Begins the terminal's transaction. A refusal has changed nothing; `Overflow` of H_NUMBER
-    /// also where 2^64 - 1 were begun.
+    /// Begins the terminal's transaction. A refusal has changed nothing.
     pub fn begin(
         &mut self,
         told: &mut Told<J>,
@@ -116,27 +111,18 @@ impl<J: Naming> Hall<J> {
         requires part { 0 < told.old.parts }
         requires here { caller.old.table ≡ J.names.history }
         requires own { caller.old.by ≡ terminal }
-        requires run { HasHappened J.names.opened caller.old.seen }
-        ensures counted { IsTold told.old self.old × IsTold told.new self.new }
         ensures hall { IsHall self.old × IsHall self.new }
         ensures turn { BeginTurn self.old terminal request.now result self.new }
         ensures told { told.new ≡ begin_told result told.old }
-        ensures fits { told.new.begun < 2 ^ 64 }
         ensures called { BeginCall caller.old terminal request.now result caller.new }
         ensures here { (caller.new.table ≡ caller.old.table) × (caller.new.by ≡ caller.old.by) }
         ensures run { HasHappened J.names.opened caller.new.seen }
         ensures open { BeginLeaves result (is_open caller.old.mine) (is_open caller.new.mine) }
     {
-        self.books.bound(told);
-        if self.begun == u64::MAX {
-            return Err(Refusal::Overflow(Column::HistoryNumber));
-        }
         if let Err(refusal) = self.recorded.begin(caller, terminal, request) {
             return Err(refusal);
         }
-        self.begun += 1;
         self.books.add_begun(told);
-        self.books.bound(told);
         Ok(())
     }
 
@@ -153,28 +139,21 @@ impl<J: Naming> Hall<J> {
         requires part { 0 < told.old.parts }
         requires here { caller.old.table ≡ J.names.history }
         requires own { caller.old.by ≡ terminal }
-        ensures counted { IsTold told.old self.old × IsTold told.new self.new }
         ensures hall { IsHall self.old × IsHall self.new }
         ensures turn { AdvanceTurn self.old terminal result reply.new self.new }
         ensures reply { LeavesReply result reply.old reply.new }
         ensures told { told.new ≡ told_of result told.old }
-        ensures fits { (told.new.committed < 2 ^ 64) × (told.new.rolled_back < 2 ^ 64) }
         ensures called { AdvanceCall caller.old terminal result reply.new caller.new }
         ensures here { (caller.new.table ≡ caller.old.table) × (caller.new.by ≡ caller.old.by) }
         ensures run { HasHappened J.names.opened caller.new.seen }
         ensures open { AdvanceLeaves result (is_open caller.old.mine) (is_open caller.new.mine) }
     {
-        self.books.bound(told);
         let ended = self.recorded.advance(caller, terminal, reply);
         match &ended {
             Advanced::More | Advanced::Kept(_) => {}
             Advanced::Committed(_) => self.books.add_committed(told),
-            Advanced::RolledBack(_) => {
-                self.rolled_back += 1;
-                self.books.add_rolled_back(told);
-            }
+            Advanced::RolledBack(_) => self.books.add_rolled_back(told),
         }
-        self.books.bound(told);
         ended
     }
 
@@ -189,28 +168,23 @@ impl<J: Naming> Hall<J> {
         requires part { 0 < told.old.parts }
         requires here { caller.old.table ≡ J.names.history }
         requires own { caller.old.by ≡ terminal }
-        ensures counted { IsTold told.old self.old × IsTold told.new self.new }
         ensures hall { IsHall self.old × IsHall self.new }
         ensures turn { EndTurn self.old terminal result self.new }
         ensures told { told.new ≡ end_told result told.old }
-        ensures fits { told.new.rolled_back < 2 ^ 64 }
         ensures called { EndCall caller.old terminal result caller.new }
         ensures here { (caller.new.table ≡ caller.old.table) × (caller.new.by ≡ caller.old.by) }
         ensures run { HasHappened J.names.opened caller.new.seen }
         ensures open { EndLeaves result (is_open caller.old.mine) (is_open caller.new.mine) }
     {
-        self.books.bound(told);
         if let Err(refusal) = self.recorded.end(caller, terminal) {
             return Err(refusal);
         }
-        self.rolled_back += 1;
         self.books.add_rolled_back(told);
-        self.books.bound(told);
         Ok(())
     }
 
-    /// Answers a query of the moment that a pin holds: never `TooOld`. `NotPinned` where the pin's
-    /// word is another.
+    /// Looks at the word of a pin's desk, and answers a query of the moment that the pin holds: never
+    /// `TooOld`. `NotPinned` with the word that was found, where it is another.
     pub fn read(
         &mut self,
         caller: &mut Caller,
@@ -220,14 +194,15 @@ impl<J: Naming> Hall<J> {
         requires here { caller.old.table ≡ J.names.history }
         requires run { HasHappened J.names.opened caller.old.seen }
         ensures hall { IsHall self.old × IsHall self.new }
-        ensures turn { ReadTurn self.old caller.old.by pin.now.moment query.now result self.new }
+        ensures turn { ReadTurn self.old caller.old.by pin.now query.now result self.new }
         ensures young { IsYoung result }
-        ensures called { ReadCall caller.old caller.old.by pin.now.moment query.now result
+        ensures called { ReadCall J.names.words caller.old caller.old.by pin.now query.now result
             caller.new }
         ensures here { (caller.new.table ≡ caller.old.table) × (caller.new.by ≡ caller.old.by) }
         ensures run { HasHappened J.names.opened caller.new.seen }
     {
         let moments = &*self.moments;
+        // The call tells the prover the range of a terminal: there is a word for its desk.
         let _terminal = pin.terminal().get();
         if let Err(other) = moments.find(&mut self.keeper, pin) {
             return Err(Refusal::NotPinned(other.word));
@@ -235,12 +210,14 @@ impl<J: Naming> Hall<J> {
         self.recorded.read(caller, pin.moment(), query)
     }
 
-    /// Purges up to a moment, no further than the newest and each pin, and gives the horizon.
+    /// Has the keeper claim a moment, and no more than the newest, and purges as far as the pins
+    /// allow. Gives the horizon.
     pub fn purge(&mut self, caller: &mut Caller, moment: Moment) -> Moment
         requires here { caller.old.table ≡ J.names.history }
         requires own { caller.old.by ≡ 0 }
         ensures hall { IsHall self.old × IsHall self.new }
         ensures turn { PurgeTurn self.old moment result self.new }
+        ensures words { self.old.words ≡ J.names.words }
         ensures called { PurgeCall caller.old result caller.new }
         ensures seen { self.new.history.log ≡ caller.new.seen }
         ensures here { (caller.new.table ≡ caller.old.table) × (caller.new.by ≡ caller.old.by) }
@@ -253,20 +230,15 @@ impl<J: Naming> Hall<J> {
         reached
     }
 
-    /// Counts what was told, where all of it is in one hand.
-    pub(crate) fn audit(&mut self, all: &mut Told<J>) -> Counted
+    /// Shows that what was told, where all of it is in one hand, is what the hall counts. This is a
+    /// law, and changes nothing.
+    pub(crate) fn audit(&mut self, all: &mut Told<J>)
         requires whole { all.old.parts ≡ 65 }
         ensures same { (self.new ≡ self.old) × (all.new ≡ all.old) }
         ensures hall { IsHall self.old }
-        ensures counts { AreTotals (tally 1 result) self.old.counts }
         ensures told { AreTotals all.old self.old.counts }
     {
         self.books.audit(all);
-        Counted {
-            begun: self.begun,
-            committed: self.recorded.newest().get(),
-            rolled_back: self.rolled_back,
-        }
     }
 
     /// Shows that a caller's calls are the entries of its number. This is a law, and changes
@@ -289,8 +261,6 @@ impl<J: Naming> Hall<J> {
     {
         let Hall {
             recorded,
-            begun: _,
-            rolled_back: _,
             books: _,
             moments: _,
             keeper: _,

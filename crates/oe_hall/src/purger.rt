@@ -33,7 +33,7 @@ impl<J: Naming> Model for Purger<J> {
 impl<J: Naming> Purger<J> {
     /// Purges up to a moment, no further than the newest and each pin, and gives the horizon.
     pub fn purge<W: Wait>(&mut self, rt: &W, front: &Front<J>, moment: Moment) -> Moment
-        ensures turn { APurge self.old moment result self.new }
+        ensures turn { APurge front.now self.old moment result self.new }
         ensures run { HasHappened J.names.opened self.new.seen }
     {
         enter(rt, &front.hall).purge(&mut self.caller, moment)

@@ -27,7 +27,7 @@ ghost use Rattle.oe_hall.specs.Counts.{untold, tally, with_one_more, AreTotals};
 ghost use Rattle.oe_hall.specs.Histories.{IsHistory, HasHappened, is_open};
 ghost use Rattle.oe_hall.specs.Turns.{TheHall, IsHall, open_count, begin_told, told_of, end_told, LeavesReply, IsYoung, BeginLeaves, AdvanceLeaves, EndLeaves};
 ghost use Rattle.oe_hall.specs.Seats.{ThePlace, TheRoom, IsHere, AreHere, HasCalled, HaveCalled, silent, fresh_seat, fresh_place, AreFresh, waiting};
-ghost use Rattle.oe_hall.specs.Desks.{TheDesk, TheShop, TheSeats, AreSums, AreOpen, begun_by, committed_by, rolled_back_by, with_told, with_reply, with_seat, with_calls, seat_for, IsOwn, Keeps, KeepsOnErr, begins, advances, ends, ABegin, AnAdvance, AnEnd, ARead, AreKnown, IsNobodys};
+ghost use Rattle.oe_hall.specs.Desks.{TheDesk, TheShop, TheSeats, AreSums, AreOpen, begun_by, committed_by, rolled_back_by, with_told, with_reply, with_seat, with_calls, seat_for, IsOwn, Keeps, KeepsOnErr, begins, advances, ends, IsBalanced, ABegin, AnAdvance, AnEnd, ARead, AreKnown, IsNobodys, HasRoom};
 
 use crate::counts::{Blanks, Counted, Told, open_books};
 use crate::hall::Hall;
@@ -37,7 +37,7 @@ use crate::records::Recorded;
 use oe_core::{Advanced, Core};
 use oe_history::{Caller, History};
 use oe_moments::{DealerSeat, DeskSeat, KeeperSeat, Moments, NotPinned, Pin, TooOld};
-use oe_requests::{Query, QueryReply, Refusal, Reply, Request};
+use oe_requests::{Column, Query, QueryReply, Refusal, Reply, Request};
 use oe_rows::Layout;
 use oe_store::Tables;
 use oe_values::{ExtentCount, Moment, NoMemory, Number, Terminal};
@@ -190,7 +190,8 @@ impl<J: Naming> Model for Desk<J> {
       committed = d.committed;
       rolled_back = d.rolled_back;
     }) × (d.caller.table ≡ J.names.history) × (d.caller.by ≡ d.seat.terminal)
-        × HasHappened J.names.opened d.caller.seen };
+        × HasHappened J.names.opened d.caller.seen
+        × IsBalanced d.told (is_open d.caller.mine) };
 }
 
 /// What a closed shop leaves: its core, how much its desks were told in sum, and the history, which
@@ -210,16 +211,21 @@ pub struct NotQuiet<J: Naming> {
     pub purger: Purger<J>,
 }
 
-/// How often a turn asks for the lock again before it sleeps. A turn is shorter than a sleep.
-const TRIES: u32 = 64;
+/// How many transactions a desk begins at most: so the counts of 64 desks have a sum.
+const MOST_BEGUN: u64 = u64::MAX / 64;
 
-/// How many pauses come between two such tries. Who has the hall's rows in its cache does some tens
-/// of turns meanwhile, and the rows change hands less often.
-const PAUSES: u32 = 256;
+/// How often a turn asks for the lock again before it sleeps: behind 4 pauses of the processor, 8,
+/// and so on to 1,024. A turn is shorter than a sleep; but where more threads run than there are
+/// processors, who spins takes the time that the holder needs to give the lock back.
+const TRIES: u32 = 9;
 
-// Lets some turns of others pass.
-fn pause() {
-    for _ in 0..PAUSES {
+/// How many pauses come before the first such try.
+const FIRST_PAUSES: u32 = 4;
+
+// Lets some turns of others pass. Who has the hall's rows in its cache does some tens of turns in
+// the longest pause, and the rows change hands less often.
+fn pause(pauses: u32) {
+    for _ in 0..pauses {
         hint::spin_loop();
     }
 }
@@ -242,11 +248,13 @@ fn enter_later<'h, J: Naming, W: Wait>(
     rt: &W,
     hall: &'h Mutex<Hall<J>>,
 ) -> MutexGuard<'h, Hall<J>> {
+    let mut pauses = FIRST_PAUSES;
     for _ in 0..TRIES {
-        pause();
+        pause(pauses);
         if let Some(guard) = hall.try_lock() {
             return guard;
         }
+        pauses = pauses.saturating_mul(2);
     }
     hall.lock(rt)
 }
@@ -471,7 +479,7 @@ impl<J: Naming> Shop<J> {
         let mut purger = purger;
         let Front { hall, moments } = front;
         let mut hall = hall.into_inner();
-        let counted = audit_list(&mut hall, &mut rest, &mut desks);
+        let counted = audit_list(&mut hall, &mut rest, &mut desks, Counted::none());
         hall.look(&mut purger.caller);
         look_at_list(&mut hall, &mut seats);
         let open = counted.begun - counted.committed - counted.rolled_back;
@@ -535,39 +543,54 @@ fn look_at_place<J: Naming>(hall: &mut Hall<J>, place: &mut Option<Place>)
     }
 }
 
-// Counts what the desks of a list were told.
-fn audit_list<J: Naming>(hall: &mut Hall<J>, all: &mut Told<J>, desks: &mut Vec<Desk<J>>) -> Counted
+// Counts what the desks of a list were told, and what one hand was told before.
+fn audit_list<J: Naming>(
+    hall: &mut Hall<J>,
+    all: &mut Told<J>,
+    desks: &mut Vec<Desk<J>>,
+    before: Counted,
+) -> Counted
     requires parts { all.old.parts + length desks.old.items ≡ 65 }
     requires some { 0 < all.old.parts }
+    requires before { all.old ≡ tally all.old.parts before }
+    requires room { HasRoom before (length desks.old.items) }
     ensures same { (hall.new ≡ hall.old) × (all.new ≡ all.old) }
     ensures desks { desks.new.items ≡ desks.old.items }
     ensures hall { IsHall hall.old }
     ensures counts { AreTotals (tally 1 result) hall.old.counts }
     ensures known { AreKnown hall.old.history.log desks.old.items }
-    ensures told { (result.begun ≡ all.old.begun + sum_by begun_by desks.old.items)
-        × (result.committed ≡ all.old.committed + sum_by committed_by desks.old.items)
-        × (result.rolled_back ≡ all.old.rolled_back + sum_by rolled_back_by desks.old.items) }
+    ensures told { (result.begun ≡ before.begun + sum_by begun_by desks.old.items)
+        × (result.committed ≡ before.committed + sum_by committed_by desks.old.items)
+        × (result.rolled_back ≡ before.rolled_back + sum_by rolled_back_by desks.old.items) }
 {
-    audit_desks(hall, all, desks.as_mut_slice())
+    audit_desks(hall, all, desks.as_mut_slice(), before)
 }
 
 // Counts what the desks were told: lends it to one hand, and looks at the totals.
 #[cycle(audit)]
-fn audit_desks<J: Naming>(hall: &mut Hall<J>, all: &mut Told<J>, desks: &mut [Desk<J>]) -> Counted
+fn audit_desks<J: Naming>(
+    hall: &mut Hall<J>,
+    all: &mut Told<J>,
+    desks: &mut [Desk<J>],
+    before: Counted,
+) -> Counted
     requires parts { all.old.parts + length desks.old ≡ 65 }
     requires some { 0 < all.old.parts }
+    requires before { all.old ≡ tally all.old.parts before }
+    requires room { HasRoom before (length desks.old) }
     ensures same { (hall.new ≡ hall.old) × (all.new ≡ all.old) × (desks.new ≡ desks.old) }
     ensures hall { IsHall hall.old }
     ensures counts { AreTotals (tally 1 result) hall.old.counts }
     ensures known { AreKnown hall.old.history.log desks.old }
-    ensures told { (result.begun ≡ all.old.begun + sum_by begun_by desks.old)
-        × (result.committed ≡ all.old.committed + sum_by committed_by desks.old)
-        × (result.rolled_back ≡ all.old.rolled_back + sum_by rolled_back_by desks.old) }
+    ensures told { (result.begun ≡ before.begun + sum_by begun_by desks.old)
+        × (result.committed ≡ before.committed + sum_by committed_by desks.old)
+        × (result.rolled_back ≡ before.rolled_back + sum_by rolled_back_by desks.old) }
 {
     let Some((first, others)) = desks.split_first_mut() else {
-        return hall.audit(all);
+        hall.audit(all);
+        return before;
     };
-    audit_first(hall, all, first, others)
+    audit_first(hall, all, first, others, before)
 }
 
 #[cycle(audit)]
@@ -576,9 +599,12 @@ fn audit_first<J: Naming>(
     all: &mut Told<J>,
     first: &mut Desk<J>,
     others: &mut [Desk<J>],
+    before: Counted,
 ) -> Counted
     requires parts { all.old.parts + length others.old + 1 ≡ 65 }
     requires some { 0 < all.old.parts }
+    requires before { all.old ≡ tally all.old.parts before }
+    requires room { HasRoom before (length others.old + 1) }
     ensures same { (hall.new ≡ hall.old) × (all.new ≡ all.old) × (first.new ≡ first.old)
         × (others.new ≡ others.old) }
     ensures hall { IsHall hall.old }
@@ -586,11 +612,11 @@ fn audit_first<J: Naming>(
     ensures known { Knows hall.old.history.log first.old.calls
         × AreKnown hall.old.history.log others.old }
     ensures told { (result.begun
-        ≡ all.old.begun + (begun_by first.old + sum_by begun_by others.old))
+        ≡ before.begun + (begun_by first.old + sum_by begun_by others.old))
         × (result.committed
-        ≡ all.old.committed + (committed_by first.old + sum_by committed_by others.old))
+        ≡ before.committed + (committed_by first.old + sum_by committed_by others.old))
         × (result.rolled_back
-        ≡ all.old.rolled_back + (rolled_back_by first.old + sum_by rolled_back_by others.old)) }
+        ≡ before.rolled_back + (rolled_back_by first.old + sum_by rolled_back_by others.old)) }
 {
     let told = Counted {
         begun: first.begun,
@@ -599,7 +625,7 @@ fn audit_first<J: Naming>(
     };
     hall.look(&mut first.caller);
     first.told.give(all, told);
-    let counted = audit_desks(hall, all, others);
+    let counted = audit_desks(hall, all, others, before.with(&told));
     all.give(&mut first.told, told);
     counted
 }
@@ -612,8 +638,8 @@ impl<J: Naming> Desk<J> {
         self.seat.terminal()
     }
 
-    /// Begins a transaction. `AlreadyOpen` where the terminal has one open. A refusal has changed
-    /// nothing.
+    /// Begins a transaction. `AlreadyOpen` where the terminal has one open. `Overflow` of H_NUMBER
+    /// also where the desk has begun 2^58 - 1. A refusal has changed nothing.
     pub fn begin<W: Wait>(
         &mut self,
         rt: &W,
@@ -629,6 +655,9 @@ impl<J: Naming> Desk<J> {
         ensures open { IfOk result (λ o. (o.shop ≡ self.old.seat.shop)
             × (o.terminal ≡ self.old.seat.terminal)) }
     {
+        if self.begun == MOST_BEGUN {
+            return Err(Refusal::Overflow(Column::HistoryNumber));
+        }
         let terminal = self.seat.terminal();
         let mut hall = enter(rt, &front.hall);
         match hall.begin(&mut self.told, &mut self.caller, terminal, request) {

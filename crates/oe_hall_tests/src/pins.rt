@@ -33,11 +33,14 @@ fn beside_a_purge(alloc: Global, step: u32) -> Option<(u64, u64, Option<u64>)> {
         moments.clear(&mut desk);
         return Some((first.max(second), claim.get(), None));
     }
-    moments.sure(&mut desk, newest);
+    let pin = moments.sure(&mut desk, newest);
     let fourth = turn(&moments, &mut keeper, step == 4);
     let seen = moments.purged(&mut desk);
     let fifth = turn(&moments, &mut keeper, step == 5);
-    moments.clear(&mut desk);
+    match moments.unpin(&mut desk, pin) {
+        Ok(()) => {}
+        Err(_) => unreachable!(),
+    }
     let last = turn(&moments, &mut keeper, step == 6);
     let reached = third.max(fourth).max(fifth).max(last);
     Some((reached, claim.get(), Some(seen.get())))

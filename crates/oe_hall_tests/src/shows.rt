@@ -103,8 +103,8 @@ pub(crate) fn seats(rt: &impl Abort, alloc: Global, shop: u32, layout: Layout) -
     }
 }
 
-// Gives a terminal its desk.
-fn desk<J: Naming>(rt: &impl Abort, shop: &mut Shop<J>, number: u32) -> Desk<J>
+/// Gives a terminal its desk.
+pub(crate) fn desk<J: Naming>(rt: &impl Abort, shop: &mut Shop<J>, number: u32) -> Desk<J>
     ensures { shop.new.given ≡ shop.old.given + 1 }
 {
     let terminal = Terminal::new(number).expect(rt, "a terminal");

@@ -162,6 +162,22 @@ pub(crate) fn of_turns(most: i64, requests: &'static str) -> [Argument; 4] {
     ]
 }
 
+/// Lists the options of `drive`.
+pub(crate) fn of_drive() -> [Argument; 2] {
+    [
+        option(
+            "FILE",
+            "commits",
+            Takes::Word,
+            "Writes the commits in their order, for serial FILE",
+        ),
+        flag(
+            "busy",
+            "Tells on standard error which locks were in the way",
+        ),
+    ]
+}
+
 /// Names the tables that a load begins on, in place of a scale.
 pub(crate) fn of_following() -> [Argument; 1] {
     [from("Begins on the tables in the nine files of a directory, for W C I")]

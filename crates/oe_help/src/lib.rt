@@ -9,7 +9,7 @@ mod arguments;
 mod texts;
 
 use arguments::{
-    Argument, of_audit, of_following, of_load, of_scale, of_script, of_serial, of_turns,
+    Argument, of_audit, of_drive, of_following, of_load, of_scale, of_script, of_serial, of_turns,
 };
 use clap::error::ErrorKind;
 use clap::{Command, Error};
@@ -120,7 +120,7 @@ fn with<'a>(
 fn drive_grammar<'a>(alloc: Global) -> Result<Command<'a>, Error> {
     let scaled = with(alloc, command(alloc, "drive", DRIVE), &of_scale())?;
     let turns = of_turns(1_000, "Requests of each terminal, 1 to 1000");
-    with(alloc, scaled, &turns)
+    with(alloc, with(alloc, scaled, &turns)?, &of_drive())
 }
 
 /// Tells whether words ask for a load on tables that are there.

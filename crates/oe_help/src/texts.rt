@@ -27,7 +27,7 @@ pub(crate) const USAGE: &str = "oe_server script [--explain] < FILE
        oe_server script [--explain] FILE
        oe_server script --from DIR [--extents E] [--layout L] [FILE]
        oe_server serial FILE [--from DIR] [--tables DIR2] [--csv]
-       oe_server drive W C I E T N SEED
+       oe_server drive W C I E T N SEED [--commits FILE] [--busy]
        oe_server audit DIR [--before DIR2] [--csv] [--first N] [--initial N] [--json]
        oe_server audit FILE [--first N] [--initial N] [--json]
        oe_server audit - [--first N] [--initial N] [--json]
@@ -97,6 +97,9 @@ deliveries out. At the end it audits conditions 1 to 4, rewinds to moment 0 and 
 the tables with a new population. It writes two lines:
   conditions 1 2 3 4 hold, or condition N fails
   population restored, or population differs
+With --commits it writes the commits to FILE, in the order of their moments, as a file of replies.
+With --busy it tells on standard error how often each kind of lock was in the way (KIND Busy n),
+the longest row of answers Busy that a transaction had, and how many transactions were given up.
 
 A file of replies begins with a line open W C I E, as a script. Each other line tells of a
 reply of another engine, in their order: T, the words of the request as behind a script's
@@ -165,7 +168,8 @@ memory or output ends with 3.
 docs/SCRIPTS.md is the manual: stages, locks, refusals and columns; examples/ has scripts.";
 
 pub(crate) const DRIVE_WORDS: &str =
-    "a number is digits alone, and no 0 stands before another digit";
+    "a number is digits alone, and no 0 stands before another digit; behind the numbers --commits \
+FILE comes first, then --busy";
 
 pub(crate) const SCRIPT_WORDS: &str =
     "--explain comes right behind script, and then FILE; or --from DIR, and then \

@@ -22,7 +22,8 @@ use Rattle.oe_moments.specs.Rule.{most, newest, claim, purged, pin_at, pin_word,
 use Rattle.oe_moments.specs.Rule.{FitsDealer, Fits, Apart, AreWords, Kept, saw, with_pin, looked_pin, looked}
 use Rattle.oe_moments.specs.Rule.{sees_newest, tells, announces, looks, makes_sure, clears, reads_purged, raised}
 use Rattle.oe_moments.specs.Rule.{claimed, lowered, scanned, settled, claims, scans, settles, finds, dealer_first}
-use Rattle.oe_moments.specs.Rule.{dealt_on, next_desk, keeper_out, first_keeper}
+use Rattle.oe_moments.specs.Rule.{saw_pin, dealt_on, next_desk, keeper_out, first_keeper}
+use Rattle.oe_moments.specs.Pins.{is_pinned, is_sure}
 use Rattle.oe_moments.proofs.KeepFacts.{kept_split, DeskMove, DeskTurn, desk_turn, KeeperTurn, keeper_turn}
 
 abbrev desk_or : DeskNotes → Notes → DeskNotes
@@ -427,14 +428,16 @@ stores_purged desks slots id me k x is on all what s r _ at _ =
     )
 
 pub finds_pin : (desks slots id : ℕ) (me : Me ℕ Notes) (k : KeeperNotes) (d word : ℕ) → me.0 ≡ Keeper k → d < desks
-    → word ≡ d + 3 → Allows (Kept desks) slots id me word (λ n. n) (finds (step 0 0 0 0 none) me)
+    → word ≡ d + 3 → Allows (Kept desks) slots id me word (λ n. n) (finds (step 0 word 0 0 none) me)
 finds_pin desks slots id me k d word is lt where_is s r _ at _ =
     let at' : get_elem? s.views id ≡ some (Keeper k) = at ∙ ap some is in
-    let f : FitsKeeper desks s.words k = r.fits id (Keeper k) at' in (
-      Keeper k,
+    let f : FitsKeeper desks s.words k = r.fits id (Keeper k) at' in
+    let x : ℕ = slice_index s.words word in
+    let k' : KeeperNotes = saw_pin (word - 3) x k in (
+      Keeper k',
       keeps,
       tt,
-      keeper_load desks s id word k k r at' (record {
+      keeper_load desks s id word k k' r at' (record {
         size = refl;
         newest_is = refl;
         claim_up = le_refl _;
@@ -446,12 +449,12 @@ finds_pin desks slots id me k d word is lt where_is s r _ at _ =
         least = λ on d q t lt below is_word old. old on below;
         purges = λ d q t lt g old. g;
       }),
-      (
-        sym is,
-        for_keeper me.0 k is (λ (l : KeeperNotes). (n : ℕ) → slice_index s.words word ≡ 2 * n + 2 → l.horizon ≤ n)
-            (λ n e. subst (λ (y : ℕ). y ≤ n) (sym f.horizon)
-            (r.words.sure d n lt (ap (λ (i : ℕ). slice_index s.words i) (sym where_is) ∙ e))),
-      ),
+      for_keeper me.0 k is (λ (l : KeeperNotes). (Keeper k' ≡ Keeper (saw_pin (word - 3) x l))
+          × ((n : ℕ) → x ≡ 2 * n + 2 → l.horizon ≤ n)) (
+            refl,
+            λ n e. subst (λ (y : ℕ). y ≤ n) (sym f.horizon)
+                (r.words.sure d n lt (ap (λ (i : ℕ). slice_index s.words i) (sym where_is) ∙ e)),
+          ),
     )
 
 -- the opening seat
@@ -532,8 +535,9 @@ pub deals_keeper : (desks id : ℕ) (v : Notes) (o : DealerNotes) → v ≡ Deal
 deals_keeper desks id v o is off = subst (λ (x : Notes). Splits (Kept desks) id x (keeper_out x) (first_keeper x))
     (sym is) (deals_keeper_at desks id o off)
 
-pub not_announced : (t : PinState) → ((x : ℕ) → t ≡ Announced x → ⊥) → looked_pin t ≡ t
-not_announced Free not = refl
-not_announced (Announced n) not = absurd (not n refl)
-not_announced (Looked n) not = refl
-not_announced (Sure n) not = refl
+-- a desk without a pin has none that is sure
+pub free_is_unsure : (t : PinState) → is_pinned t ≡ false → is_sure t ≡ false
+free_is_unsure Free e = refl
+free_is_unsure (Announced n) e = refl
+free_is_unsure (Looked n) e = refl
+free_is_unsure (Sure n) e = absurd (true≢false e)

@@ -6,13 +6,14 @@ use Rattle.oe_moments.specs.declared.notes.PinState.TheVariants.{Free, Announced
 use Rattle.oe_moments.specs.declared.notes.DeskNotes.{DeskNotes}
 use Rattle.oe_moments.specs.declared.notes.KeeperNotes.{KeeperNotes}
 use Rattle.oe_moments.specs.declared.notes.DealerNotes.{DealerNotes}
+use Rattle.oe_moments.specs.Rule.{first_pin}
 
 -- the words are of that number of desks, or have a word for the desk of that number
 abbrev pub AreOfDesks : TableId → ℕ → Type 0
-AreOfDesks words desks = words.words ≡ desks + 3
+AreOfDesks words desks = words.words ≡ desks + first_pin
 
 abbrev pub HaveDesk : TableId → ℕ → Type 0
-HaveDesk words number = number + 3 < words.words
+HaveDesk words number = number + first_pin < words.words
 
 -- a desk's seat: its words, shop and terminal, and what the desk knows
 pub record TheSeat : Type 0 where
@@ -50,6 +51,12 @@ is_pinned Free = false
 is_pinned (Announced n) = true
 is_pinned (Looked n) = true
 is_pinned (Sure n) = true
+
+abbrev pub is_sure : PinState → Bool
+is_sure Free = false
+is_sure (Announced n) = false
+is_sure (Looked n) = false
+is_sure (Sure n) = true
 
 -- the pin is the desk's, of its shop, and sure
 abbrev pub Holds : TheSeat → ThePin → Type 0

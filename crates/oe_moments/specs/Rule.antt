@@ -1,6 +1,5 @@
--- The rule of the words: what they keep, and what each step makes of what its seat's holder knows. Word 0 is the newest
--- moment that was told, word 1 what the keeper claims, word 2 the moment up to which it has purged, and word d + 3 the
--- pin of desk d: 0 for none, 2 n + 1 for an announced pin of n, and 2 n + 2 for a sure one.
+-- The rule of the words: what they keep, and what each step makes of what its seat's holder knows. There is the newest
+-- moment that was told, what the keeper claims, the moment up to which it has purged, and then each desk's pin.
 use Rattle.std.specs.Prelude.{◌≡◌, ◌≢◌, ℕ, ◌+◌, ◌*◌, ◌-◌, ◌/◌, ◌<◌, ◌≤◌, min, max, true, false, List, length}
 use Rattle.std.specs.Prelude.{slice_index, ◌==◌, if◌then◌else◌, Bool}
 use mathlib.Core.Option.{some}
@@ -18,23 +17,46 @@ use Rattle.oe_moments.specs.declared.notes.Notes.TheVariants.{Gone, Dealer, Desk
 abbrev pub most : ℕ
 most = 999999999999
 
+-- where each word stands
+abbrev pub newest_index : ℕ
+newest_index = 0
+
+abbrev pub claim_index : ℕ
+claim_index = 1
+
+abbrev pub purged_index : ℕ
+purged_index = 2
+
+abbrev pub first_pin : ℕ
+first_pin = 3
+
 abbrev pub newest : List ℕ → ℕ
-newest ws = slice_index ws 0
+newest ws = slice_index ws newest_index
 
 abbrev pub claim : List ℕ → ℕ
-claim ws = slice_index ws 1
+claim ws = slice_index ws claim_index
 
 abbrev pub purged : List ℕ → ℕ
-purged ws = slice_index ws 2
+purged ws = slice_index ws purged_index
 
 abbrev pub pin_at : List ℕ → ℕ → ℕ
-pin_at ws d = slice_index ws (d + 3)
+pin_at ws d = slice_index ws (d + first_pin)
+
+-- the words of a desk that has no pin, or one of the moment n
+abbrev pub no_pin : ℕ
+no_pin = 0
+
+abbrev pub announced_word : ℕ → ℕ
+announced_word n = 2 * n + 1
+
+abbrev pub sure_word : ℕ → ℕ
+sure_word n = 2 * n + 2
 
 abbrev pub pin_word : PinState → ℕ
-pin_word Free = 0
-pin_word (Announced n) = 2 * n + 1
-pin_word (Looked n) = 2 * n + 1
-pin_word (Sure n) = 2 * n + 2
+pin_word Free = no_pin
+pin_word (Announced n) = announced_word n
+pin_word (Looked n) = announced_word n
+pin_word (Sure n) = sure_word n
 
 -- a sure pin is not below the limit, nor is one whose desk has looked and found a claim of at most its moment
 abbrev pub Guards : ℕ → ℕ → PinState → Type 0
@@ -51,7 +73,7 @@ IsMoment (Sure n) = n ≤ most
 
 -- no sure pin below the number k is below the limit
 abbrev pub SureAbove : List ℕ → ℕ → ℕ → Type 0
-SureAbove ws limit k = (d n : ℕ) → d < k → pin_at ws d ≡ 2 * n + 2 → limit ≤ n
+SureAbove ws limit k = (d n : ℕ) → d < k → pin_at ws d ≡ sure_word n → limit ≤ n
 
 -- what a desk knows
 pub record FitsDesk (desks : ℕ) (ws : List ℕ) (p : DeskNotes) : Type 0 where
@@ -76,7 +98,7 @@ pub record FitsKeeper (desks : ℕ) (ws : List ℕ) (k : KeeperNotes) : Type 0 w
 -- what the dealer knows
 pub record FitsDealer (desks : ℕ) (ws : List ℕ) (o : DealerNotes) : Type 0 where
   pub dealt : o.dealt ≤ desks
-  pub free : (d : ℕ) → o.dealt ≤ d → d < desks → pin_at ws d ≡ 0
+  pub free : (d : ℕ) → o.dealt ≤ d → d < desks → pin_at ws d ≡ no_pin
   pub unpurged : o.keeper ≡ false → purged ws ≡ 0
 
 abbrev pub Fits : ℕ → List ℕ → Notes → Type 0
@@ -107,7 +129,7 @@ Apart (Keeper k) (Keeper l) = ⊥
 
 -- what the words keep: a sure pin is not below what is purged
 pub record AreWords (desks : ℕ) (ws : List ℕ) : Type 0 where
-  pub size : length ws ≡ desks + 3
+  pub size : length ws ≡ desks + first_pin
   pub newest_fits : newest ws ≤ most
   pub claim_fits : claim ws ≤ most
   pub purged_fits : purged ws ≤ claim ws
@@ -142,7 +164,7 @@ looked_pin (Sure n) = Sure n
 
 -- the desk has looked at what the keeper claims
 abbrev pub looked : ℕ → DeskNotes → DeskNotes
-looked c p = record { number = p.number; seen = p.seen; claim = c; pin = looked_pin p.pin; turned = p.turned }
+looked c p = record p { claim = c; pin = looked_pin p.pin }
 
 -- a desk reads the newest moment, which is not below what it has seen
 abbrev pub sees_newest : Step ℕ → Me ℕ Notes → ℕ → Me ℕ Notes → Type 0
@@ -178,21 +200,25 @@ reads_purged s v found w = (w.0 ≡ v.0) × (found ≤ most)
 abbrev pub raised : ℕ → ℕ → ℕ
 raised m n = max n m
 
--- the keeper begins a scan
+-- the keeper has claimed m, and begins a scan
 abbrev pub claimed : ℕ → KeeperNotes → KeeperNotes
-claimed m k = record { scanning = true; passed = 0; least = m; horizon = k.horizon }
+claimed m k = record k { scanning = true; passed = 0; claim = m; least = m; turned = turn k.turned }
 
--- the least after a pin word was found
+-- the least after a pin word was found, which holds a moment unless there is no pin
 abbrev pub lowered : ℕ → ℕ → ℕ
-lowered least found = if found == 0 then least else min least ((found - 1) / 2)
+lowered least found = if found == no_pin then least else min least ((found - 1) / 2)
 
 -- the keeper has passed a desk, whose pin word it found
 abbrev pub scanned : ℕ → KeeperNotes → KeeperNotes
-scanned found k = record { scanning = true; passed = k.passed + 1; least = lowered k.least found; horizon = k.horizon }
+scanned found k = record k { scanning = true; passed = k.passed + 1; least = lowered k.least found }
 
 -- the keeper has purged up to the least moment of the scan, or no further than before
 abbrev pub settled : KeeperNotes → KeeperNotes
-settled k = record { scanning = false; passed = k.passed; least = k.least; horizon = max k.horizon k.least }
+settled k = record k { scanning = false; horizon = max k.horizon k.least }
+
+-- the keeper has looked at the pin of desk d, and found that word
+abbrev pub saw_pin : ℕ → ℕ → KeeperNotes → KeeperNotes
+saw_pin d found k = record k { found = record { desk = d; word = found; turned = turn k.found.turned } }
 
 abbrev pub claims : Step ℕ → Me ℕ Notes → ℕ → Me ℕ Notes → Type 0
 claims s v found w = (k : KeeperNotes) → v.0 ≡ Keeper k → w.0 ≡ Keeper (claimed s.first k)
@@ -203,9 +229,10 @@ scans s v found w = (k : KeeperNotes) → v.0 ≡ Keeper k → w.0 ≡ Keeper (s
 abbrev pub settles : Step ℕ → Me ℕ Notes → ℕ → Me ℕ Notes → Type 0
 settles s v found w = (k : KeeperNotes) → v.0 ≡ Keeper k → w.0 ≡ Keeper (settled k)
 
--- a pin that the keeper finds sure is not below the horizon
+-- the keeper looks at the pin of a desk; one that it finds sure is not below the horizon
 abbrev pub finds : Step ℕ → Me ℕ Notes → ℕ → Me ℕ Notes → Type 0
-finds s v found w = (w.0 ≡ v.0) × ((k : KeeperNotes) → v.0 ≡ Keeper k → (n : ℕ) → found ≡ 2 * n + 2 → k.horizon ≤ n)
+finds s v found w = (k : KeeperNotes) → v.0 ≡ Keeper k → (w.0 ≡ Keeper (saw_pin (s.word - first_pin) found k))
+    × ((n : ℕ) → found ≡ sure_word n → k.horizon ≤ n)
 
 -- THE DEALER
 
@@ -234,7 +261,15 @@ keeper_out (Keeper k) = Keeper k
 
 -- a keeper that has done nothing
 abbrev pub at_start : KeeperNotes
-at_start = record { scanning = false; passed = 0; least = 0; horizon = 0 }
+at_start = record {
+  scanning = false;
+  passed = 0;
+  claim = 0;
+  least = 0;
+  horizon = 0;
+  turned = false;
+  found = record { desk = 0; word = no_pin; turned = false };
+}
 
 abbrev pub first_keeper : Notes → Notes
 first_keeper (Dealer o) = Keeper at_start

@@ -27,14 +27,27 @@ pub struct DeskNotes {
     pub turned: bool,
 }
 
-/// What the keeper knows: whether it scans, how many desks' pins it has passed, the least moment so
-/// far, and its horizon.
+/// What the keeper found where it looked for a pin last: the number of the desk, and its word.
+/// `turned` turns over with each look, so that a clause can say that there was one.
+#[derive(Clone, Copy)]
+pub struct Found {
+    pub desk: u64,
+    pub word: u64,
+    pub turned: bool,
+}
+
+/// What the keeper knows: whether it scans, how many desks' pins it has passed since its last
+/// claim, what it claimed, the least of that and of those pins, its horizon, and what it found.
+/// `turned` turns over with each claim.
 #[derive(Clone, Copy)]
 pub struct KeeperNotes {
     pub scanning: bool,
     pub passed: u64,
+    pub claim: Moment,
     pub least: Moment,
     pub horizon: Moment,
+    pub turned: bool,
+    pub found: Found,
 }
 
 /// What the dealer knows: how many desks have a seat, and whether the keeper has one.

@@ -5,12 +5,12 @@
 //! has a seat. Only `open` takes memory, and may be refused it. No call waits.
 ghost use Rattle.std.specs.Prelude.{◌≡◌, ◌≢◌, ◌↔◌, ℕ, ◌+◌, ◌-◌, ◌<◌, ◌≤◌, max, true, false, IfOk, IfErr, OnOk, OnErr, IsTrue};
 ghost use Rattle.atomic_table.specs.Seated.{TableId};
-ghost use Rattle.oe_moments.specs.Rule.{saw, turn, with_pin, looked, looked_pin, claimed, lowered, scanned, settled, fresh, at_start, pin_word};
-ghost use Rattle.oe_moments.specs.Pins.{TheSeat, TheKeeper, TheDealer, AreOfDesks, HaveDesk, with_notes, with_watch, with_deal, is_pinned, Holds};
+ghost use Rattle.oe_moments.specs.Rule.{saw, turn, with_pin, looked, looked_pin, claimed, lowered, scanned, settled, saw_pin, fresh, at_start, no_pin, announced_word, sure_word, pin_word};
+ghost use Rattle.oe_moments.specs.Pins.{TheSeat, TheKeeper, TheDealer, AreOfDesks, HaveDesk, with_notes, with_watch, with_deal, is_pinned, is_sure, Holds};
 ghost use Rattle.oe_moments.specs.declared.notes.PinState.TheVariants.{Free, Announced, Looked, Sure};
 ghost use Rattle.oe_moments.specs.declared.notes.Notes.TheVariants.{Dealer, Desk, Keeper};
 
-use crate::notes::{DealerNotes, DeskNotes, KeeperNotes, Notes, PinState};
+use crate::notes::{DealerNotes, DeskNotes, Found, KeeperNotes, Notes, PinState};
 use crate::pins::{NotPinned, Pin, TooOld};
 use crate::rules::{
     Announces, Claims, Clears, DealsDesk, DealsKeeper, Finds, Looks, MakesSure, PinRule,
@@ -20,6 +20,19 @@ use atomic_table::{Seat, Table};
 use oe_values::{Moment, Terminal, TerminalCount};
 use std::alloc::{AllocError, Global};
 use std::marker::Model;
+
+// The words by their numbers: the newest moment, what the keeper claims, the moment up to which it
+// has purged, and from `PINS` on a pin for each desk.
+const NEWEST: usize = 0;
+
+const CLAIM: usize = 1;
+
+const PURGED: usize = 2;
+
+const PINS: usize = 3;
+
+// The word of a desk that has no pin.
+const NONE: u64 = 0;
 
 /// The words: the newest moment, what the keeper claims, the moment up to which it has purged, and
 /// a pin for each desk.
@@ -74,7 +87,7 @@ impl Model for DeskSeat {
     } };
 
     ghost invariant = { λ s. (s.chair.me.0 ≡ Desk s.knows)
-        × (s.knows.number + 3 < s.chair.table_id.words) × (s.knows.number + 1 ≡ s.terminal) };
+        × HaveDesk s.chair.table_id s.knows.number × (s.knows.number + 1 ≡ s.terminal) };
 }
 
 /// The seat of the keeper, who purges.
@@ -99,7 +112,8 @@ impl DeskSeat {
         ensures terminal { result.number + 1 ≡ self.now.terminal }
         ensures word { HaveDesk self.now.words result.number }
     {
-        let _known = self.terminal;
+        // A read of a field tells the prover what the seat's invariant says.
+        let _terminal = self.terminal;
         self.knows
     }
 
@@ -144,9 +158,9 @@ impl DeskSeat {
         ensures { result ≡ pin_word self.now.notes.pin }
     {
         match self.knows.pin {
-            PinState::Free => 0,
-            PinState::Announced(moment) | PinState::Looked(moment) => 2 * moment.get() + 1,
-            PinState::Sure(moment) => 2 * moment.get() + 2,
+            PinState::Free => NONE,
+            PinState::Announced(moment) | PinState::Looked(moment) => announced(moment),
+            PinState::Sure(moment) => sure(moment),
         }
     }
 }
@@ -167,7 +181,7 @@ impl Moments {
         }) }
     {
         let desks = desks.get() as u64;
-        let zeros = vec![in alloc; 0u64; desks as usize + 3]?;
+        let zeros = vec![in alloc; NONE; desks as usize + PINS]?;
         let (table, chair) = Table::of_words(alloc, zeros.as_slice(), &desks)?;
         let knows = DealerNotes {
             dealt: 0,
@@ -221,7 +235,8 @@ impl Moments {
         ensures seat { result ≡ record { words = self.now; notes = at_start } }
     {
         let shared = &self.table.shared;
-        let _known = dealer.knows.keeper;
+        // A read of a field tells the prover what the seat's invariant says.
+        let _keeper = dealer.knows.keeper;
         let chair = shared.split_seat::<DealsKeeper>(&mut dealer.chair);
         dealer.knows.keeper = true;
         let start = Moment::new(0).unwrap();
@@ -230,8 +245,15 @@ impl Moments {
             knows: KeeperNotes {
                 scanning: false,
                 passed: 0,
+                claim: start,
                 least: start,
                 horizon: start,
+                turned: false,
+                found: Found {
+                    desk: 0,
+                    word: NONE,
+                    turned: false,
+                },
             },
         }
     }
@@ -243,7 +265,7 @@ impl Moments {
         ensures rises { seat.old.notes.seen ≤ result }
     {
         let shared = &self.table.shared;
-        let found = shared.load::<SeesNewest>(&mut seat.chair, 0);
+        let found = shared.load::<SeesNewest>(&mut seat.chair, NEWEST);
         let newest = Moment::new(found).unwrap();
         seat.knows.seen = newest;
         seat.knows.turned = !seat.knows.turned;
@@ -258,22 +280,23 @@ impl Moments {
         ensures told { moment ≤ seat.new.notes.seen }
     {
         let shared = &self.table.shared;
-        let found = shared.fetch_max::<Tells>(&mut seat.chair, 0, moment.get());
+        let found = shared.fetch_max::<Tells>(&mut seat.chair, NEWEST, moment.get());
         seat.knows.seen = Moment::new(found.max(moment.get())).unwrap();
         seat.knows.turned = !seat.knows.turned;
     }
 
-    /// Announces a pin of the newest moment, which it loads.
+    /// Announces a pin of the newest moment, which it loads. A sure pin has to be ended first.
     pub fn announce(&self, seat: &mut DeskSeat) -> Moment
-        requires { seat.old.words ≡ self.now }
+        requires words { seat.old.words ≡ self.now }
+        requires unsure { is_sure seat.old.notes.pin ≡ false }
         ensures seat { seat.new ≡
             with_notes (with_pin (Announced result) (saw result seat.old.notes)) seat.old }
         ensures rises { seat.old.notes.seen ≤ result }
     {
         let newest = self.newest(seat);
         let shared = &self.table.shared;
-        let word = seat.knows.number as usize + 3;
-        shared.store::<Announces>(&mut seat.chair, word, 2 * newest.get() + 1);
+        let word = seat.knows.number as usize + PINS;
+        shared.store::<Announces>(&mut seat.chair, word, announced(newest));
         seat.knows.pin = PinState::Announced(newest);
         newest
     }
@@ -284,7 +307,7 @@ impl Moments {
         ensures seat { seat.new ≡ with_notes (looked result seat.old.notes) seat.old }
     {
         let shared = &self.table.shared;
-        let found = shared.load::<Looks>(&mut seat.chair, 1);
+        let found = shared.load::<Looks>(&mut seat.chair, CLAIM);
         let claim = Moment::new(found).unwrap();
         seat.knows.claim = claim;
         seat.knows.pin = after_look(&seat.knows.pin);
@@ -292,31 +315,47 @@ impl Moments {
     }
 
     /// Makes the pin of a moment sure, since the claim that the desk looked at is not above it.
-    pub fn sure(&self, seat: &mut DeskSeat, moment: Moment)
+    pub fn sure(&self, seat: &mut DeskSeat, moment: Moment) -> Pin
         requires words { seat.old.words ≡ self.now }
         requires looked { seat.old.notes.pin ≡ Looked moment }
         requires claim { seat.old.notes.claim ≤ moment }
-        ensures { seat.new ≡ with_notes (with_pin (Sure moment) seat.old.notes) seat.old }
+        ensures seat { seat.new ≡ with_notes (with_pin (Sure moment) seat.old.notes) seat.old }
+        ensures pin { result ≡ record {
+          shop = seat.old.shop;
+          terminal = seat.old.terminal;
+          moment = moment;
+        } }
     {
         let shared = &self.table.shared;
-        let word = seat.knows.number as usize + 3;
-        shared.store::<MakesSure>(&mut seat.chair, word, 2 * moment.get() + 2);
+        let word = seat.knows.number as usize + PINS;
+        shared.store::<MakesSure>(&mut seat.chair, word, sure(moment));
         seat.knows.pin = PinState::Sure(moment);
+        Pin::new(seat.shop, seat.terminal, moment)
     }
 
-    /// Takes the desk's pin away, however far it has come.
+    /// Withdraws the desk's pin, which is announced at most. A sure one ends in `unpin`.
     pub fn clear(&self, seat: &mut DeskSeat)
-        requires { seat.old.words ≡ self.now }
+        requires words { seat.old.words ≡ self.now }
+        requires unsure { is_sure seat.old.notes.pin ≡ false }
         ensures { seat.new ≡ with_notes (with_pin Free seat.old.notes) seat.old }
     {
+        self.withdraw(seat);
+    }
+
+    // Takes the desk's pin away, however far it has come.
+    fn withdraw(&self, seat: &mut DeskSeat)
+        requires { seat.old.words ≡ self.now }
+        ensures free { seat.new ≡ with_notes (with_pin Free seat.old.notes) seat.old }
+    {
         let shared = &self.table.shared;
-        let word = seat.knows.number as usize + 3;
-        shared.store::<Clears>(&mut seat.chair, word, 0);
+        let word = seat.knows.number as usize + PINS;
+        shared.store::<Clears>(&mut seat.chair, word, NONE);
         seat.knows.pin = PinState::Free;
     }
 
     /// Pins the newest moment, which it loads. `TooOld` with the keeper's claim, where that is above
     /// it.
+    #[tactic(auto, using(crate::proofs::StepFacts::free_is_unsure))]
     pub fn pin(&self, seat: &mut DeskSeat) -> Result<Pin, TooOld>
         requires words { seat.old.words ≡ self.now }
         requires free { is_pinned seat.old.notes.pin ≡ false }
@@ -335,8 +374,7 @@ impl Moments {
             self.clear(seat);
             return Err(TooOld { claim });
         }
-        self.sure(seat, newest);
-        Ok(Pin::new(seat.shop, seat.terminal, newest))
+        Ok(self.sure(seat, newest))
     }
 
     /// Ends a pin of this desk. Any other is handed back with `NotPinned` and this desk's pin word,
@@ -353,7 +391,7 @@ impl Moments {
             return Err((NotPinned { word: seat.word() }, pin));
         }
         pin.spend();
-        self.clear(seat);
+        self.withdraw(seat);
         Ok(())
     }
 
@@ -365,8 +403,9 @@ impl Moments {
         ensures sure { (n : ℕ) → seat.old.notes.pin ≡ Sure n → result ≤ n }
     {
         let shared = &self.table.shared;
+        // A read of a field tells the prover what the seat's invariant says.
         let _number = seat.knows.number;
-        let found = shared.load::<ReadsPurged>(&mut seat.chair, 2);
+        let found = shared.load::<ReadsPurged>(&mut seat.chair, PURGED);
         Moment::new(found).unwrap()
     }
 
@@ -376,11 +415,12 @@ impl Moments {
         ensures { keeper.new ≡ with_watch (claimed moment keeper.old.notes) keeper.old }
     {
         let shared = &self.table.shared;
-        let _horizon = keeper.knows.horizon;
-        shared.fetch_max::<Claims>(&mut keeper.chair, 1, moment.get());
+        shared.fetch_max::<Claims>(&mut keeper.chair, CLAIM, moment.get());
         keeper.knows.scanning = true;
         keeper.knows.passed = 0;
+        keeper.knows.claim = moment;
         keeper.knows.least = moment;
+        keeper.knows.turned = !keeper.knows.turned;
     }
 
     /// Passes the next desk's pin, and gives its word.
@@ -391,14 +431,10 @@ impl Moments {
         ensures { keeper.new ≡ with_watch (scanned result keeper.old.notes) keeper.old }
     {
         let shared = &self.table.shared;
-        let word = keeper.knows.passed as usize + 3;
+        let word = keeper.knows.passed as usize + PINS;
         let found = shared.load::<Scans>(&mut keeper.chair, word);
-        keeper.knows = KeeperNotes {
-            scanning: true,
-            passed: keeper.knows.passed + 1,
-            least: lower(keeper.knows.least, found),
-            horizon: keeper.knows.horizon,
-        };
+        keeper.knows.passed += 1;
+        keeper.knows.least = lower(keeper.knows.least, found);
         found
     }
 
@@ -413,20 +449,26 @@ impl Moments {
     {
         let shared = &self.table.shared;
         let horizon = later(keeper.knows.horizon, keeper.knows.least);
-        shared.store::<Settles>(&mut keeper.chair, 2, horizon.get());
+        shared.store::<Settles>(&mut keeper.chair, PURGED, horizon.get());
         keeper.knows.scanning = false;
         keeper.knows.horizon = horizon;
         horizon
     }
 
-    /// Claims a moment, scans each desk's pin, and settles. Gives the horizon, which is above the
-    /// moment only where it was.
+    /// Claims a moment, scans each desk's pin, and settles: the horizon is then the later of the
+    /// old one and the least of the moment and of those pins.
     pub fn purge(&self, keeper: &mut KeeperSeat, moment: Moment) -> Moment
         requires { keeper.old.words ≡ self.now }
         ensures keeper { keeper.new ≡ with_watch keeper.new.notes keeper.old }
-        ensures horizon { result ≡ keeper.new.notes.horizon }
+        ensures claimed { (keeper.new.notes.claim ≡ moment)
+            × (keeper.new.notes.turned ≡ turn keeper.old.notes.turned) }
+        ensures all { AreOfDesks self.now keeper.new.notes.passed }
+        ensures horizon { (result ≡ max keeper.old.notes.horizon keeper.new.notes.least)
+            × (keeper.new.notes.horizon ≡ result) }
         ensures rises { keeper.old.notes.horizon ≤ result }
         ensures bound { result ≤ max keeper.old.notes.horizon moment }
+        ensures ended { (keeper.new.notes.scanning ≡ false)
+            × (keeper.new.notes.found ≡ keeper.old.notes.found) }
     {
         self.claim(keeper, moment);
         for _desk in 0..self.desks {
@@ -435,24 +477,45 @@ impl Moments {
         self.settle(keeper)
     }
 
-    /// Finds a pin in its desk's word. Then the horizon is not above its moment. `NotPinned` with
-    /// the word, where it is another.
+    /// Looks at the word of a pin's desk. Where the pin is found, the horizon is not above its
+    /// moment. `NotPinned` with the word that was found, where it is another.
     pub fn find(&self, keeper: &mut KeeperSeat, pin: &Pin) -> Result<(), NotPinned>
         requires words { keeper.old.words ≡ self.now }
         requires desk { HaveDesk self.now (pin.now.terminal - 1) }
-        ensures same { keeper.new ≡ keeper.old }
-        ensures ok { OnOk result (keeper.old.notes.horizon ≤ pin.now.moment) }
-        ensures err { IfErr result (λ e. e.word ≢ pin_word (Sure pin.now.moment)) }
+        ensures found { keeper.new ≡ with_watch (saw_pin (pin.now.terminal - 1)
+            keeper.new.notes.found.word keeper.old.notes) keeper.old }
+        ensures ok { OnOk result (keeper.new.notes.found.word ≡ sure_word pin.now.moment) }
+        ensures young { OnOk result (keeper.old.notes.horizon ≤ pin.now.moment) }
+        ensures err { IfErr result (λ e. (e.word ≡ keeper.new.notes.found.word)
+            × (e.word ≢ sure_word pin.now.moment)) }
     {
         let shared = &self.table.shared;
-        let _horizon = keeper.knows.horizon;
-        let word = (pin.terminal().get() - 1) as usize + 3;
-        let found = shared.load::<Finds>(&mut keeper.chair, word);
-        if found != 2 * pin.moment().get() + 2 {
+        let desk = (pin.terminal().get() - 1) as u64;
+        let found = shared.load::<Finds>(&mut keeper.chair, desk as usize + PINS);
+        keeper.knows.found = Found {
+            desk,
+            word: found,
+            turned: !keeper.knows.found.turned,
+        };
+        if found != sure(pin.moment()) {
             return Err(NotPinned { word: found });
         }
         Ok(())
     }
+}
+
+// Gives the word of a pin that is announced.
+fn announced(moment: Moment) -> u64
+    ensures { result ≡ announced_word moment }
+{
+    2 * moment.get() + 1
+}
+
+// Gives the word of a pin that is sure.
+fn sure(moment: Moment) -> u64
+    ensures { result ≡ sure_word moment }
+{
+    2 * moment.get() + 2
 }
 
 // Gives the pin after a look at the claim.
@@ -469,7 +532,7 @@ fn after_look(pin: &PinState) -> PinState
 fn lower(least: Moment, found: u64) -> Moment
     ensures { result ≡ lowered least found }
 {
-    if found == 0 {
+    if found == NONE {
         return least;
     }
     Moment::new(least.get().min((found - 1) / 2)).unwrap()

@@ -30,8 +30,10 @@ use Rattle.oe_model.proofs.LawFacts.{holds_more}
 use Rattle.oe_engine.specs.View.{EngineState, View, view_of, Handle, IsOpen}
 use Rattle.oe_engine.specs.Programs.{GoesOn, IsReady, IsRefused, new_order_reply, wanted}
 use Rattle.oe_engine.specs.Stages.{Does, HoldsAll}
+use Rattle.oe_engine.specs.declared.programs.Progress.{Progress}
+use Rattle.oe_engine.specs.declared.programs.Progress.TheVariants as progress
 use Rattle.oe_neworder.specs.Program.{filled_by, position_at, line_position}
-use Rattle.oe_neworder.specs.Stages.{Fills}
+use Rattle.oe_neworder.specs.Stages.{Advances, Fills}
 use Rattle.oe_neworder.specs.declared.fillings.Filled.{Filled}
 use Rattle.oe_neworder.specs.declared.fillings.Filling.{Filling}
 
@@ -110,8 +112,8 @@ module _ (q : NewOrderRequest) (f : Filling) (l : RequestLine) (here : slice_get
 
   -- its two stages
   module _ (s : EngineState) (x : Handle) where
-    pub fills_on : (s' : EngineState) (g : Filled) (k : ℕ) → k ≡ length f.done + 1 → f.filled ≡ None
-        → Fills q x s l k (Ok g) s'
+    fills_on : (s' : EngineState) (g : Filled) (k : ℕ) → k ≡ length f.done + 1 → f.filled ≡ None
+        → Fills q x s l k progress.More s' (Some g)
         → GoesOn s x (request.NewOrder q) (InNewOrder q (line_position q f)) s'
         (InNewOrder q (line_position q (record { seen = f.seen; done = f.done; filled = Some g })))
     fills_on s' g k number none done =
@@ -125,13 +127,30 @@ module _ (q : NewOrderRequest) (f : Filling) (l : RequestLine) (here : slice_get
         (done (seen_by f.seen) (take (length f.done) q.lines) f.done (drop (suc (length f.done)) q.lines)
         (count_at q.lines (length f.done) l here ∙ sym number)))
 
-    pub fill_refused : (s' : EngineState) (e : Refusal) (k : ℕ) → k ≡ length f.done + 1 → f.filled ≡ None
-        → Fills q x s l k (Err e) s'
+    fill_refused : (s' : EngineState) (e : Refusal) (o : Option Filled) (k : ℕ) → k ≡ length f.done + 1
+        → f.filled ≡ None → Fills q x s l k (progress.Refused e) s' o
         → IsRefused s x (request.NewOrder q) (InNewOrder q (line_position q f)) e
-    fill_refused s' e k number none done =
+    fill_refused s' e o k number none done =
         subst (λ p. IsRefused s x (request.NewOrder q) (InNewOrder q p) e) (sym (stock_at none))
         (done.0 (seen_by f.seen) (take (length f.done) q.lines) f.done (drop (suc (length f.done)) q.lines)
         (count_at q.lines (length f.done) l here ∙ sym number))
+
+    -- the line with what its place holds after the stage of its stock
+    abbrev placed : Option Filled → Filling
+    placed o = record { seen = f.seen; done = f.done; filled = o }
+
+    pub fill_advances : (s' : EngineState) (y : Progress) (o : Option Filled) (k : ℕ) → k ≡ length f.done + 1
+        → f.filled ≡ None → Fills q x s l k y s' o
+        → Advances q x s (line_position q f) y s' (line_position q (placed o))
+    fill_advances s' progress.More (Some g) k number none h = fills_on s' g k number none h
+    fill_advances s' progress.More None k number none h = absurd h
+    fill_advances s' progress.Ready o k number none h = absurd h
+    fill_advances s' (progress.Refused e) o k number none h = (
+      fill_refused s' e o k number none h,
+      h.1,
+      h.2,
+      ap (λ (z : Option Filled). InNewOrder q (line_position q (placed z))) (h.3 ∙ sym none),
+    )
 
     asks_none : (g : Filled) → f.filled ≡ Some g → new_order_ask q (line_position q f) (view_of s).rows ≡ Plain
     asks_none g e = ap (λ p. new_order_ask q p (view_of s).rows) (line_at g e)

@@ -77,34 +77,41 @@ impl Filling {
 }
 
 /// Takes the stock's name alone, and sets its counters; before that, `InvalidItem` stops an order
-/// of an unused item.
+/// of an unused item. The line is filled in its place before the counters are set, so that its row
+/// is written once; where the stage is refused, it is taken back.
 fn fill(
     request: &NewOrderRequest,
     line: &RequestLine,
     number: LineNumber,
+    place: &mut Option<Filled>,
     engine: &mut Engine,
     tx: &Tx,
-) -> Result<Filled, Refusal>
-    requires { IsOpen engine.old tx.now }
-    ensures { Fills request.now tx.now engine.old line.now number result engine.new }
+) -> Progress
+    requires open { IsOpen engine.old tx.now }
+    requires none { place.old ≡ None }
+    ensures { Fills request.now tx.now engine.old line.now number result engine.new place.new }
 {
     match supply_of(request, line, number, engine.tables()) {
-        Supply::Unused => Err(Refusal::InvalidItem),
+        Supply::Unused => Progress::Refused(Refusal::InvalidItem),
         Supply::Fails(key, refusal) => {
             let lock = Lock {
                 name: Name::Stock(key),
                 mode: Mode::Exclusive,
             };
-            Err(failed(engine, tx, lock, refusal))
+            Progress::Refused(failed(engine, tx, lock, refusal))
         }
         Supply::Fills(key, counters, filled) => {
+            *place = Some(filled);
             let write = updates::StockCounts {
                 stock: key,
                 counters,
             };
             match put(engine, tx, &write) {
-                Ok(()) => Ok(filled),
-                Err(refusal) => Err(refusal),
+                Ok(()) => Progress::More,
+                Err(refusal) => {
+                    *place = None;
+                    Progress::Refused(refusal)
+                }
             }
         }
     }
@@ -186,13 +193,8 @@ impl Filling {
         ensures { Advances request.now tx.now engine.old (line_position request.now self.old)
             result engine.new (line_position request.now self.new) }
     {
-        match fill(request, line, number_after(&self.done), engine, tx) {
-            Ok(filled) => {
-                self.filled = Some(filled);
-                Progress::More
-            }
-            Err(refusal) => Progress::Refused(refusal),
-        }
+        let number = number_after(&self.done);
+        fill(request, line, number, &mut self.filled, engine, tx)
     }
 
     // The ORDER-LINE row of the line that is filled, after which the line is done.

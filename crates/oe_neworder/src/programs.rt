@@ -9,7 +9,7 @@ ghost use Rattle.oe_model.specs.NewOrder.{new_order_ask};
 ghost use Rattle.oe_store.specs.Places.{rows};
 ghost use Rattle.oe_engine.specs.Programs.{Progresses, hold_of, new_order_reply, wanted};
 ghost use Rattle.oe_neworder.specs.Program.{position_of, IsBeforeLines};
-ghost use Rattle.oe_neworder.specs.Stages.{HoldsTaken, Steps};
+ghost use Rattle.oe_neworder.specs.Stages.{HoldsTaken};
 
 use crate::fillings::Filling;
 use crate::stages::{insert_new_order, insert_order, read_customer, read_warehouse, take_number};
@@ -101,34 +101,9 @@ impl Program {
         }
     }
 
-    // One stage before the lines.
-    fn stage(
-        &self,
-        request: &NewOrderRequest,
-        engine: &mut Engine,
-        tx: &Tx,
-    ) -> Result<Program, Refusal>
-        requires position { IsBeforeLines self.now }
-        requires open { IsOpen engine.old tx.now }
-        requires held { HoldsTaken request.now tx.now engine.old
-            (position_of request.now self.now) }
-        ensures { Steps request.now tx.now engine.old (position_of request.now self.now)
-            result engine.new }
-    {
-        match self {
-            Program::Warehouse => read_warehouse(request, engine, tx),
-            Program::District(tax) => take_number(request, *tax, engine, tx),
-            Program::Customer(order, warehouse, district) => {
-                read_customer(request, *order, *warehouse, *district, engine, tx)
-            }
-            Program::Order(seen) => insert_order(request, seen, engine, tx),
-            Program::Queue(seen) => insert_new_order(request, seen, engine, tx),
-            Program::Lines(_) => unreachable!(),
-        }
-    }
-
-    // Carries out one stage before the lines, whose program it takes the place of. It has room for
-    // another program, which a line's stage does without.
+    // Carries out one stage before the lines, which writes the program after it in its place. It
+    // stands apart, since a line's stage is carried out ten times as often. What was seen is copied
+    // before its stage writes over it.
     #[inline(never)]
     fn next_before_lines(
         &mut self,
@@ -144,12 +119,27 @@ impl Program {
             engine.old (InNewOrder request.now (position_of request.now self.old)) result
             engine.new (InNewOrder request.now (position_of request.now self.new)) }
     {
-        match self.stage(request, engine, tx) {
-            Ok(after) => {
-                *self = after;
-                Progress::More
+        match self {
+            Program::Warehouse => read_warehouse(request, self, engine, tx),
+            Program::District(tax) => {
+                let tax = *tax;
+                take_number(request, tax, self, engine, tx)
             }
-            Err(refusal) => Progress::Refused(refusal),
+            Program::Customer(order, warehouse, district) => {
+                let order = *order;
+                let warehouse = *warehouse;
+                let district = *district;
+                read_customer(request, order, warehouse, district, self, engine, tx)
+            }
+            Program::Order(seen) => {
+                let seen = seen.copied();
+                insert_order(request, seen, self, engine, tx)
+            }
+            Program::Queue(seen) => {
+                let seen = seen.copied();
+                insert_new_order(request, seen, self, engine, tx)
+            }
+            Program::Lines(_) => unreachable!(),
         }
     }
 

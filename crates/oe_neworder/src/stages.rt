@@ -1,4 +1,5 @@
-//! The stages of a New-Order before its lines, each done on an engine or refused by it.
+//! The stages of a New-Order before its lines, each done on an engine or refused by it. A stage that
+//! is done writes the program after it in its place; a refused one leaves it.
 ghost use Rattle.std.specs.Prelude.{◌≡◌, IsSome};
 ghost use Rattle.oe_rows.specs.declared.locks.Name.TheVariants as name;
 ghost use Rattle.oe_model.specs.Keys.{order_in};
@@ -12,7 +13,7 @@ use crate::looks::{next_number, seen, warehouse_tax};
 use crate::programs::Program;
 use oe_engine::kinds::{inserts, updates};
 use oe_engine::stages::{failed, hold, put};
-use oe_engine::{Engine, Lock, Tx};
+use oe_engine::{Engine, Lock, Progress, Tx};
 use oe_formulas::orders::{Seen, order_row};
 use oe_requests::{LineReplies, NewOrderRequest, Refusal};
 use oe_rows::{Mode, Name};
@@ -21,21 +22,26 @@ use oe_values::{OrderNumber, Rate};
 /// Takes the warehouse's name beside others.
 pub fn read_warehouse(
     request: &NewOrderRequest,
+    program: &mut Program,
     engine: &mut Engine,
     tx: &Tx,
-) -> Result<Program, Refusal>
+) -> Progress
     requires { IsOpen engine.old tx.now }
-    ensures { Steps request.now tx.now engine.old NewOrderWarehouse result engine.new }
+    ensures { Steps request.now tx.now engine.old NewOrderWarehouse program.old
+        result engine.new program.new }
 {
     let lock = Lock {
         name: Name::Warehouse(request.district.warehouse_key()),
         mode: Mode::Shared,
     };
     match warehouse_tax(request, engine.tables()) {
-        Err(refusal) => Err(failed(engine, tx, lock, refusal)),
+        Err(refusal) => Progress::Refused(failed(engine, tx, lock, refusal)),
         Ok(tax) => match hold(engine, tx, lock) {
-            Ok(()) => Ok(Program::District(tax)),
-            Err(refusal) => Err(refusal),
+            Ok(()) => {
+                *program = Program::District(tax);
+                Progress::More
+            }
+            Err(refusal) => Progress::Refused(refusal),
         },
     }
 }
@@ -44,26 +50,31 @@ pub fn read_warehouse(
 pub fn take_number(
     request: &NewOrderRequest,
     tax: Rate,
+    program: &mut Program,
     engine: &mut Engine,
     tx: &Tx,
-) -> Result<Program, Refusal>
+) -> Progress
     requires { IsOpen engine.old tx.now }
-    ensures { Steps request.now tx.now engine.old (NewOrderDistrict tax) result engine.new }
+    ensures { Steps request.now tx.now engine.old (NewOrderDistrict tax) program.old
+        result engine.new program.new }
 {
     let lock = Lock {
         name: Name::District(request.district),
         mode: Mode::Exclusive,
     };
     match next_number(request, engine.tables()) {
-        Err(refusal) => Err(failed(engine, tx, lock, refusal)),
+        Err(refusal) => Progress::Refused(failed(engine, tx, lock, refusal)),
         Ok(numbered) => {
             let write = updates::NextOrder {
                 district: request.district,
                 order: numbered.next,
             };
             match put(engine, tx, &write) {
-                Ok(()) => Ok(Program::Customer(numbered.order, tax, numbered.tax)),
-                Err(refusal) => Err(refusal),
+                Ok(()) => {
+                    *program = Program::Customer(numbered.order, tax, numbered.tax);
+                    Progress::More
+                }
+                Err(refusal) => Progress::Refused(refusal),
             }
         }
     }
@@ -76,67 +87,80 @@ pub fn read_customer(
     order: OrderNumber,
     warehouse_tax: Rate,
     district_tax: Rate,
+    program: &mut Program,
     engine: &mut Engine,
     tx: &Tx,
-) -> Result<Program, Refusal>
+) -> Progress
     requires { IsOpen engine.old tx.now }
     ensures { Steps request.now tx.now engine.old
-        (NewOrderCustomer order warehouse_tax district_tax) result engine.new }
+        (NewOrderCustomer order warehouse_tax district_tax) program.old
+        result engine.new program.new }
 {
     let Some(seen) = seen(request, order, warehouse_tax, district_tax, engine.tables()) else {
-        return Err(Refusal::NoCustomer);
+        return Progress::Refused(Refusal::NoCustomer);
     };
     let lock = Lock {
         name: Name::Customer(request.district.customer(request.customer)),
         mode: Mode::Shared,
     };
     match hold(engine, tx, lock) {
-        Ok(()) => Ok(Program::Order(seen)),
-        Err(refusal) => Err(refusal),
+        Ok(()) => {
+            *program = Program::Order(seen);
+            Progress::More
+        }
+        Err(refusal) => Progress::Refused(refusal),
     }
 }
 
 /// Takes the order's name alone, and inserts its row.
 pub fn insert_order(
     request: &NewOrderRequest,
-    seen: &Seen,
+    seen: Seen,
+    program: &mut Program,
     engine: &mut Engine,
     tx: &Tx,
-) -> Result<Program, Refusal>
+) -> Progress
     ensures { Steps request.now tx.now engine.old
-        (NewOrderOrder (seen_by seen.now)) result engine.new }
+        (NewOrderOrder (seen_by seen)) program.old result engine.new program.new }
 {
     let write = inserts::InsertOrder {
         order: request.district.order(seen.order),
         row: order_row(request),
     };
     match put(engine, tx, &write) {
-        Ok(()) => Ok(Program::Queue(seen.copied())),
-        Err(refusal) => Err(refusal),
+        Ok(()) => {
+            *program = Program::Queue(seen);
+            Progress::More
+        }
+        Err(refusal) => Progress::Refused(refusal),
     }
 }
 
 /// Takes the name of the district's queue alone, and inserts the NEW-ORDER row.
 pub fn insert_new_order(
     request: &NewOrderRequest,
-    seen: &Seen,
+    seen: Seen,
+    program: &mut Program,
     engine: &mut Engine,
     tx: &Tx,
-) -> Result<Program, Refusal>
+) -> Progress
     requires { IsOpen engine.old tx.now → IsSome ((view_of engine.old).held tx.now.terminal
-        (name.Order (order_in request.now.district seen.now.order))) }
+        (name.Order (order_in request.now.district seen.order))) }
     ensures { Steps request.now tx.now engine.old
-        (NewOrderQueue (seen_by seen.now)) result engine.new }
+        (NewOrderQueue (seen_by seen)) program.old result engine.new program.new }
 {
     let write = inserts::InsertNewOrder {
         order: request.district.new_order(seen.order),
     };
     match put(engine, tx, &write) {
-        Ok(()) => Ok(Program::Lines(Filling {
-            seen: seen.copied(),
-            done: LineReplies::new(),
-            filled: None,
-        })),
-        Err(refusal) => Err(refusal),
+        Ok(()) => {
+            *program = Program::Lines(Filling {
+                seen,
+                done: LineReplies::new(),
+                filled: None,
+            });
+            Progress::More
+        }
+        Err(refusal) => Progress::Refused(refusal),
     }
 }

@@ -24,8 +24,16 @@ fn beside_the_newest(alloc: Global, newest: u64, later: u64) -> Option<[u64; 2]>
     if claim.get() > announced.get() {
         return None;
     }
-    moments.sure(&mut desk, announced);
+    let pin = moments.sure(&mut desk, announced);
     let purged = moments.purge(&mut keeper, later);
+    let found = moments.find(&mut keeper, &pin).is_ok();
+    match moments.unpin(&mut desk, pin) {
+        Ok(()) => {}
+        Err(_) => unreachable!(),
+    }
+    if !found {
+        return None;
+    }
     Some([horizon.get(), purged.get()])
 }
 

@@ -1,5 +1,5 @@
 -- Each step keeps the rule of the queue.
-use Rattle.std.proofs.Common.{◌≡◌, ◌≢◌, ◌⊎◌, ℕ, zero, suc, ◌+◌, ◌≤◌, ◌==◌, Bool, true, false, cond, Some, List, [], ◌∷◌}
+use Rattle.std.proofs.Common.{◌≡◌, ◌≢◌, ◌⊎◌, ℕ, zero, suc, ◌+◌, ◌≤◌, ◌==◌, Bool, true, false, cond, List, [], ◌∷◌}
 use Rattle.std.proofs.Common.{◌++◌, length, set, sym, refl, ap, ◌∙◌, subst, ⊎_elim, inl, inr, arith, append_assoc}
 use Rattle.std.proofs.lemmas.Bool.Decides.{nat_tests}
 use Rattle.std.specs.Prelude.{slice_set}
@@ -17,8 +17,8 @@ use Rattle.oe_queue.specs.declared.rules.Knowledge.{Knowledge}
 use Rattle.oe_queue.specs.declared.rules.Knowledge.TheVariants.{Gone, Sending, Taking}
 use Rattle.oe_queue.specs.Ends.{TheSender, sent_in, hand_of}
 use Rattle.oe_queue.specs.Order.{IsBeginning, sender_of, messages_of}
-use Rattle.oe_queue.specs.Rule.{IsTaker, IsSound, IsInOrder, Agree, Kept, nothing_taken, submitted, taken, Submits}
-use Rattle.oe_queue.specs.Rule.{Takes, one_more, new_sender, with_next, next_sender, told, told_by, Tells}
+use Rattle.oe_queue.specs.Rule.{IsAmong, IsTaker, IsSound, IsInOrder, Agree, Kept, nothing_taken, submitted, taken}
+use Rattle.oe_queue.specs.Rule.{Submits, Takes, one_more, new_sender, with_next, next_sender, told, told_by, Tells}
 
 -- MESSAGES OF ONE TERMINAL
 
@@ -217,12 +217,12 @@ one_view v (suc i) w e = absurd (some-ne-none w (sym e))
 pub begins : Kept [] (Taking nothing_taken ∷ [])
 begins = record {
   each = λ i v e. subst (IsSound []) (one_view (Taking nothing_taken) i v e).1
-      (record { unmade = λ d _. refl; told = λ s on. let no : ⊥ = cc in absurd no });
+      (record { unmade = λ d _. refl; told = λ s on. absurd on });
   pairs = λ i j v w ei ej ne. absurd
       (ne ((one_view (Taking nothing_taken) i v ei).0 ∙ sym (one_view (Taking nothing_taken) j w ej).0));
 }
 
--- what the taker learns of a sender that is gone
+-- what the taker learns of senders that are gone
 pub tells : (pass : ℕ) (v : Knowledge) → Learns Kept pass v (Tells v)
 tells pass v queued views k at t is s on = ((subst (IsSound queued) is (k.each pass v at)).told s on).1
 
@@ -344,15 +344,12 @@ merges_at pass t other s queued views k at apart there =
           (cases i a ea);
     }
   where
-    -- the sender that is told is the one that is gone now
-    is_told : (gone : Submitted) → (told t s).told ≡ Some gone → s ≡ gone
-    is_told gone on = let e : s ≡ gone = cc in e
-
     hears : (queued : List Message) → IsTaker queued t → IsInOrder queued t s → IsTaker queued (told t s)
     hears queued f own = record {
       unmade = f.unmade;
-      told = λ gone on. subst (λ (q : Submitted). (q.terminal ≤ t.senders)
-          × (messages_of q.terminal (t.messages ++ queued) ≡ q.messages)) (is_told gone on) (own.made, own.whole);
+      told = λ gone on. ⊎_elim (λ (now : gone ≡ s). subst (λ (q : Submitted). (q.terminal ≤ t.senders)
+          × (messages_of q.terminal (t.messages ++ queued) ≡ q.messages)) (sym now) (own.made, own.whole))
+          (λ (was : IsAmong gone t.told). f.told gone was) on;
     }
 
     meets : (queued : List Message) (u : Knowledge) → Agree queued (Taking t) u → Agree queued u (Sending s)
@@ -362,8 +359,9 @@ merges_at pass t other s queued views k at apart there =
       record {
         made = a.made;
         whole = a.whole;
-        here = λ gone on. subst (λ (r : Submitted). q.terminal ≢ r.terminal)
-            (is_told gone on) b;
+        here = λ gone on. ⊎_elim
+            (λ (now : gone ≡ s). subst (λ (r : Submitted). q.terminal ≢ r.terminal) (sym now) b)
+            (λ (was : IsAmong gone t.told). a.here gone was) on;
       },
       tt,
     )
@@ -391,7 +389,16 @@ pub begins_with : (v w u : Knowledge) (t : Taken) (s : Submitted) (queued : List
     → u ≡ told_by v w → Tells u queued → IsBeginning (messages_of s.terminal t.messages) s.messages
 begins_with v w u t s queued is is' both tell =
     let at : u ≡ Taking (told t s) = both ∙ (ap (λ (x : Knowledge). told_by x w) is ∙ ap (told_by (Taking t)) is') in
-    (messages_of s.terminal queued, sym (messages_of-append s.terminal t.messages queued) ∙ tell (told t s) at s refl)
+    let whole = tell (told t s) at s (inl refl) in
+    (messages_of s.terminal queued, sym (messages_of-append s.terminal t.messages queued) ∙ whole)
+
+-- where nothing is queued, all that was told is taken
+pub takes_all : (v : Knowledge) → v ≡ Taking (hand_of v) → (queued : List Message) → length queued ≡ 0
+    → Tells v queued → (s : Submitted) → IsAmong s (hand_of v).told
+    → messages_of s.terminal (hand_of v).messages ≡ s.messages
+takes_all v is [] none tell s on = ap (messages_of s.terminal) (sym (append_nil (hand_of v).messages))
+    ∙ tell (hand_of v) is s on
+takes_all v is (x ∷ queued) none tell s on = let no : ⊥ = cc in absurd no
 
 pub beginning_as : (k k' : ℕ) (l l' s s' : List Message) → IsBeginning (messages_of k l) s → k ≡ k' → l ≡ l' → s ≡ s'
     → IsBeginning (messages_of k' l') s'

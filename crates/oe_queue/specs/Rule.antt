@@ -1,5 +1,5 @@
 -- The rule of the queue: of each sender, what was taken and then what is queued is what it submitted.
-use Rattle.std.specs.Prelude.{◌≡◌, ◌≢◌, ℕ, ◌+◌, ◌<◌, ◌≤◌, List, [], ◌∷◌, ◌++◌, None, Some}
+use Rattle.std.specs.Prelude.{◌≡◌, ◌≢◌, ◌⊎◌, ℕ, ◌+◌, ◌<◌, ◌≤◌, List, [], ◌∷◌, ◌++◌}
 use mathlib.Core.Option.{some}
 use lib.ListN.{get_elem?}
 use Rattle.oe_queue.specs.declared.messages.Message.{Message}
@@ -9,11 +9,16 @@ use Rattle.oe_queue.specs.declared.rules.Knowledge.{Knowledge}
 use Rattle.oe_queue.specs.declared.rules.Knowledge.TheVariants.{Gone, Sending, Taking}
 use Rattle.oe_queue.specs.Order.{messages_of}
 
--- the taker: a terminal that got no sender yet has submitted nothing, and a sender that is gone had submitted what it
--- told
+-- it is one of these
+abbrev pub IsAmong : Submitted → List Submitted → Type 0
+IsAmong s [] = ⊥
+IsAmong s (q ∷ qs) = (s ≡ q) ⊎ IsAmong s qs
+
+-- the taker: a terminal that got no sender yet has submitted nothing, and each sender that is gone had submitted what
+-- it told
 pub record IsTaker (queued : List Message) (t : Taken) : Type 0 where
   pub unmade : (terminal : ℕ) → t.senders < terminal → messages_of terminal (t.messages ++ queued) ≡ []
-  pub told : (s : Submitted) → t.told ≡ Some s
+  pub told : (s : Submitted) → IsAmong s t.told
       → (s.terminal ≤ t.senders) × (messages_of s.terminal (t.messages ++ queued) ≡ s.messages)
 
 -- what one of them knows holds of what is queued
@@ -22,11 +27,11 @@ IsSound queued Gone = Unit {0}
 IsSound queued (Sending s) = Unit {0}
 IsSound queued (Taking t) = IsTaker queued t
 
--- what was taken of a sender and then what is queued of it is what it submitted, and it is not the one that is gone
+-- what was taken of a sender and then what is queued of it is what it submitted, and it is none that is gone
 pub record IsInOrder (queued : List Message) (t : Taken) (s : Submitted) : Type 0 where
   pub made : s.terminal ≤ t.senders
   pub whole : messages_of s.terminal (t.messages ++ queued) ≡ s.messages
-  pub here : (gone : Submitted) → t.told ≡ Some gone → s.terminal ≢ gone.terminal
+  pub here : (gone : Submitted) → IsAmong gone t.told → s.terminal ≢ gone.terminal
 
 -- there is one taker, and no two senders of one terminal
 abbrev pub Agree : List Message → Knowledge → Knowledge → Type 0
@@ -46,7 +51,7 @@ pub record Kept (queued : List Message) (views : List Knowledge) : Type 0 where
 
 -- the taker of a new queue
 abbrev pub nothing_taken : Taken
-nothing_taken = record { messages = []; senders = 0; told = None }
+nothing_taken = record { messages = []; senders = 0; told = [] }
 
 -- a message is submitted
 abbrev pub submitted : Submitted → Message → Submitted
@@ -81,7 +86,7 @@ next_sender (Sending s) = Gone
 
 -- a sender tells what it submitted
 abbrev pub told : Taken → Submitted → Taken
-told t s = record t { told = Some s }
+told t s = record t { told = s ∷ t.told }
 
 abbrev pub told_by : Knowledge → Knowledge → Knowledge
 told_by (Taking t) (Sending s) = Taking (told t s)
@@ -90,8 +95,8 @@ told_by (Taking t) (Taking u) = Taking t
 told_by Gone w = Gone
 told_by (Sending s) w = Sending s
 
--- what is learnt of it: what was taken of it, and then what is queued of it, is what it submitted
+-- what is learnt of each that has told: what was taken of it, and then what is queued of it, is what it submitted
 abbrev pub Tells : Knowledge → List Message → Type 0
 Tells v queued =
-    (t : Taken) → v ≡ Taking t → (s : Submitted) → t.told ≡ Some s
+    (t : Taken) → v ≡ Taking t → (s : Submitted) → IsAmong s t.told
     → messages_of s.terminal (t.messages ++ queued) ≡ s.messages

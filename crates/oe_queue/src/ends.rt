@@ -6,7 +6,7 @@
 ghost use Rattle.std.specs.Prelude.{◌≡◌, ◌+◌, ◌<◌, ◌++◌, [], ◌∷◌, OnOk, OnErr, IfOk, IfSome, IfNone};
 ghost use Rattle.crossbeam_channel.specs.Claims.{view as known, IsSeatAt};
 ghost use Rattle.crossbeam_channel.specs.Ends.{sends_on, receives_on};
-ghost use Rattle.oe_queue.specs.Ends.{TheSender, TheTaker, sent_in, hand_of, unused};
+ghost use Rattle.oe_queue.specs.Ends.{TheSender, TheTaker, sent_in, hand_of, unused, with_heard, HasTakenAll};
 ghost use Rattle.oe_queue.specs.Order.{sender_of, messages_of, IsBeginning};
 ghost use Rattle.oe_queue.specs.Rule.{one_more};
 ghost use Rattle.oe_queue.specs.declared.rules.Knowledge.TheVariants.{Sending, Taking};
@@ -57,6 +57,7 @@ impl Model for Taker {
     ghost view = { λ t. record {
       queue = record { table = t.pass.table_id; key = t.pass.me.0.of };
       taken = (hand_of (known t.pass)).messages;
+      heard = (hand_of (known t.pass)).told;
     } };
 
     ghost invariant = { λ t. IsSeatAt (receives_on t.end) t.pass
@@ -122,16 +123,18 @@ impl Taker {
         requires taker { known pass ≡ Taking (hand_of (known pass)) }
         ensures queue { result.queue ≡ record { table = pass.table_id; key = pass.me.0.of } }
         ensures taken { result.taken ≡ (hand_of (known pass)).messages }
+        ensures heard { result.heard ≡ (hand_of (known pass)).told }
     {
         Taker { end, pass }
     }
 
     /// Takes the oldest message, once there is one. There is none where nothing is queued and all
-    /// senders are gone.
+    /// senders are gone: of each sender that was compared, the whole was then taken.
     pub fn take<W: Wait>(&mut self, rt: &W) -> Option<Message>
         ensures some { IfSome result (λ m.
             self.new ≡ record self.old { taken = self.old.taken ++ m ∷ [] }) }
         ensures none { IfNone result (self.new ≡ self.old) }
+        ensures whole { IfNone result (HasTakenAll self.old) }
     {
         let end = &self.end;
         if let Ok(message) = end.recv_as::<Removing, W>(rt, &mut self.pass) {
@@ -143,7 +146,7 @@ impl Taker {
     /// Learns what a sender submitted.
     pub(crate) fn hear(&mut self, sender: SendingEnd)
         requires { sender.queue ≡ self.old.queue }
-        ensures same { self.new ≡ self.old }
+        ensures heard { self.new ≡ with_heard sender self.old }
         ensures beginning { IsBeginning (messages_of sender.terminal self.old.taken) sender.sent }
     {
         let SendingEnd {

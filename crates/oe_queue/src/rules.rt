@@ -16,12 +16,12 @@ pub struct Submitted {
     pub messages: LinkedList<Message>,
 }
 
-/// What the taker knows: what it took, how many senders were made, and what the sender submitted
-/// that was compared last.
+/// What the taker knows: what it took, how many senders were made, and what those submitted that
+/// were compared, the newest first.
 pub struct Taken {
     pub messages: LinkedList<Message>,
     pub senders: u32,
-    pub told: Option<Submitted>,
+    pub told: LinkedList<Submitted>,
 }
 
 /// What the holder of a pass knows: a sender, the taker, or a sender that is gone.
@@ -59,7 +59,7 @@ impl Outcome<Message, Knowledge> for Removing {
 }
 
 impl Lesson<Message, Knowledge> for Removing {
-    ghost fact = { λ known queued. ⊤ };
+    ghost fact = { Tells };
 }
 
 /// The taker's step: the next terminal gets a sender.

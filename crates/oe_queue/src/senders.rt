@@ -4,7 +4,7 @@
 //! last. So a sender that has ended can submit nothing more.
 ghost use Rattle.std.specs.Prelude.{◌≡◌, ◌+◌, ◌++◌, ℕ, [], ◌∷◌, Some, false, vec_len, slice_get, OnOk, OnErr, IfOk, IfErr};
 ghost use Rattle.std.specs.List.{Contains};
-ghost use Rattle.oe_queue.specs.Ends.{TheSender, unused};
+ghost use Rattle.oe_queue.specs.Ends.{TheSender, unused, with_heard};
 ghost use Rattle.oe_queue.specs.Order.{messages_of, IsBeginning, has_end, IsEnded};
 ghost use Rattle.oe_queue.specs.declared.messages.Message.TheVariants.{Delivery, End};
 
@@ -51,7 +51,7 @@ pub fn open(alloc: Global, terminals: TerminalCount) -> Result<(Vec<Sender>, Tak
     ensures count { IfOk result (λ r. vec_len r.0 ≡ terminals) }
     ensures senders { IfOk result (λ r. (k : ℕ) (s : TheSender) → slice_get r.0.items k ≡ Some s
         → s ≡ unused r.1.queue (k + 1)) }
-    ensures taker { IfOk result (λ r. r.1.taken ≡ []) }
+    ensures taker { IfOk result (λ r. (r.1.taken ≡ []) × (r.1.heard ≡ [])) }
 {
     let (end, receiver, mut pass) = bounded_with(alloc, CAPACITY)?;
     let mut senders = Vec::new(alloc);
@@ -115,11 +115,11 @@ impl Sender {
         }
     }
 
-    /// Compares what was taken with what was submitted: it is a beginning. This does nothing: it is
-    /// a law.
+    /// Compares what was taken with what was submitted: it is a beginning. The taker hears the whole,
+    /// and finds no message only once it has taken that. This does nothing else: it is a law.
     pub fn compare(self, taker: &mut Taker)
         requires { self.queue ≡ taker.old.queue }
-        ensures same { taker.new ≡ taker.old }
+        ensures heard { taker.new ≡ with_heard self taker.old }
         ensures beginning { IsBeginning (messages_of self.terminal taker.old.taken) self.sent }
     {
         let Sender { end } = self;
@@ -129,11 +129,11 @@ impl Sender {
 
 impl Finished {
     /// Compares what was taken with what was submitted: it is a beginning, and with the end mark
-    /// the whole. This does nothing: it is a law.
+    /// the whole. The taker hears it. This does nothing else: it is a law.
     #[tactic(auto, using(crate::proofs::EndFacts::is_whole))]
     pub fn compare(self, taker: &mut Taker)
         requires { self.queue ≡ taker.old.queue }
-        ensures same { taker.new ≡ taker.old }
+        ensures heard { taker.new ≡ with_heard self taker.old }
         ensures beginning { IsBeginning (messages_of self.terminal taker.old.taken) self.sent }
         ensures whole { Contains taker.old.taken (End self.terminal)
             → messages_of self.terminal taker.old.taken ≡ self.sent }

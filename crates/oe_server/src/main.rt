@@ -7,10 +7,12 @@ use oe_answers::{
     Audited, Progress, Replies, answer_audit, answer_following, answer_load, explain, open_audited,
     open_before, open_script, opened_script, refuse, script, serial, tell_usage,
 };
-use oe_drive_answer::answer_drive;
+use oe_drive_answer::files::{Written, unmade};
+use oe_drive_answer::progress::Shown;
+use oe_drive_answer::{answer_drive, answer_drive_to};
 use oe_explain::Explainer;
 use oe_file_loading::{Pace, open_named, open_tables};
-use oe_numbers::FollowingNumbers;
+use oe_numbers::{DriveNumbers, FollowingNumbers};
 use oe_ports::standard::{Printed, Standard};
 use oe_rows::Layout;
 use oe_tasks::{AuditOptions, LoadOptions, Separator, Task, job};
@@ -85,7 +87,33 @@ fn answer<
             numbers,
             options,
         } => follow(rt, errors, directory, numbers, options),
-        Task::Drive(numbers) => answer_drive(rt, numbers, errors.is_terminal(), out),
+        Task::Drive {
+            numbers,
+            commits,
+            is_busy,
+        } => drive(rt, errors, numbers, *commits, *is_busy),
+    }
+}
+
+/// Makes the file to which a drive's commits go, where one is named, and runs the drive.
+fn drive<R: Threads + Wait + Files<File = File> + Clock + Print + Eprint + AllocGlobal + Sync>(
+    rt: &R,
+    errors: &Stderr,
+    numbers: &DriveNumbers,
+    commits: Option<&str>,
+    is_busy: bool,
+) -> io::Result<u8> {
+    let shown = Shown {
+        progress: errors.is_terminal(),
+        busy: is_busy,
+    };
+    let out = &mut Printed::new(rt);
+    let Some(name) = commits else {
+        return answer_drive(rt, numbers, shown, out);
+    };
+    match File::create(rt, name) {
+        Ok(file) => answer_drive_to(rt, numbers, shown, &mut Written::new(file), out),
+        Err(cause) => unmade(rt, name, &cause),
     }
 }
 

@@ -20,8 +20,9 @@ use Rattle.oe_tasks.specs.declared.Numbered.{Numbered}
 use Rattle.oe_tasks.specs.declared.options.LoadOptions.{LoadOptions}
 use Rattle.oe_tasks.specs.Words.{directory_words}
 use Rattle.oe_tasks.specs.Words.{IsDirectory, AreTablesOptions, AreSerialOptions, layout_word, AsksFile, AsksLayout}
-use Rattle.oe_tasks.specs.Words.{AsksExtents, AsksOpened}
+use Rattle.oe_tasks.specs.Words.{AsksExtents, AsksOpened, AreDriveOptions}
 use Rattle.oe_tasks.specs.declared.SerialOptions.{SerialOptions}
+use Rattle.oe_tasks.specs.declared.DriveOptions.{DriveOptions}
 use Rattle.oe_tasks.specs.declared.options.AuditOptions.{AuditOptions}
 use Rattle.oe_tasks.specs.declared.options.Options.{Options}
 use Rattle.oe_tasks.specs.declared.options.Separator.{Separator}
@@ -78,7 +79,7 @@ no_script f (x ∷ y ∷ z ∷ r) h n task.Script a = cc
 no_script f (x ∷ y ∷ r) h n (task.File name) a = n name.now a.1
 no_script f (x ∷ y ∷ r) h n (task.Explain name) a = a
 no_script f (x ∷ y ∷ r) h n (task.Serial name from tables between) a = a
-no_script f (x ∷ y ∷ r) h n (task.Drive d) a = a
+no_script f (x ∷ y ∷ r) h n (task.Drive d commits is_busy) a = a
 no_script f (x ∷ y ∷ r) h n (task.Opened d e l file) a = a
 no_script f (x ∷ y ∷ r) h n (task.Audit name before options) a = a
 no_script f (x ∷ y ∷ r) h n (task.Load d load) a = a
@@ -125,20 +126,11 @@ no_explain {X = X} f (x ∷ y ∷ z ∷ r) h n (task.Explain (Some name)) a =
 no_explain f (x ∷ y ∷ z ∷ r) h n task.Script a = a
 no_explain f (x ∷ y ∷ z ∷ r) h n (task.File name) a = a
 no_explain f (x ∷ y ∷ z ∷ r) h n (task.Serial name from tables between) a = a
-no_explain f (x ∷ y ∷ z ∷ r) h n (task.Drive d) a = a
+no_explain f (x ∷ y ∷ z ∷ r) h n (task.Drive d commits is_busy) a = a
 no_explain f (x ∷ y ∷ z ∷ r) h n (task.Opened d e l file) a = a
 no_explain f (x ∷ y ∷ z ∷ r) h n (task.Audit name before options) a = a
 no_explain f (x ∷ y ∷ z ∷ r) h n (task.Load d load) a = a
 no_explain f (x ∷ y ∷ z ∷ r) h n (task.Following directory d load) a = a
-
-pub drives : {X : Type 0} (f : X → List ℕ) (ws : List X) (b : X) (d : DriveNumbers) → 2 ≤ length ws → b ≡ get_or ws 1 b
-    → f b ≡ codes "drive" → AreInRange d
-    → map f (take (length ws - 2) (drop 2 ws)) ≡ words_of d → AsksDrive (map f ws) (task.Drive d)
-drives f [] b d h i e ranges words = absurd (omega (arith, h))
-drives f (x ∷ []) b d h i e ranges words = absurd (omega (arith, h))
-drives f (x ∷ y ∷ r) b d h i e ranges words =
-    let whole : take (length (x ∷ y ∷ r) - 2) r ≡ r = take_all (length (x ∷ y ∷ r) - 2) r (omega arith) in
-    (ap f (sym i) ∙ e, ranges, ap (map f) (sym whole) ∙ words)
 
 -- what stands behind the first word
 second : (a b : List ℕ) (x y : List (List ℕ)) {m n : List ℕ} → m ∷ a ∷ x ≡ n ∷ b ∷ y → a ≡ b
@@ -175,7 +167,7 @@ no_audit f (x ∷ y ∷ z ∷ r) n task.Script a = a
 no_audit f (x ∷ y ∷ z ∷ r) n (task.File name) a = a
 no_audit f (x ∷ y ∷ z ∷ r) n (task.Explain name) a = a
 no_audit f (x ∷ y ∷ z ∷ r) n (task.Serial name from tables between) a = a
-no_audit f (x ∷ y ∷ z ∷ r) n (task.Drive d) a = a
+no_audit f (x ∷ y ∷ z ∷ r) n (task.Drive d commits is_busy) a = a
 no_audit f (x ∷ y ∷ z ∷ r) n (task.Opened d e l file) a = a
 no_audit {X = X} f (x ∷ y ∷ z ∷ r) n (task.Audit name before options) (verb, named, source, said) =
     let whole : take (length (x ∷ y ∷ z ∷ r) - 3) r ≡ r = take_all (length (x ∷ y ∷ z ∷ r) - 3) r (omega arith) in
@@ -246,6 +238,62 @@ seven f (x1 ∷ x2 ∷ x3 ∷ x4 ∷ x5 ∷ []) a b c d e g h options is = cc
 seven f (x1 ∷ x2 ∷ x3 ∷ x4 ∷ x5 ∷ x6 ∷ []) a b c d e g h options is = cc
 seven f (x1 ∷ x2 ∷ x3 ∷ x4 ∷ x5 ∷ x6 ∷ x7 ∷ r) a b c d e g h options is = (cc, cc, omega arith)
 
+pub drive_parts : {X : Type 0} (f : X → List ℕ) (ws : List X) (d : DriveNumbers) (commits : Option (Bor (List ℕ)))
+    (is_busy : Bool) → AsksDrive (map f ws) (task.Drive d commits is_busy)
+    → (9 ≤ length ws) × AreInRange d × (map f (take 7 (drop 2 ws)) ≡ words_of d)
+    × AreDriveOptions (map f (take (length ws - 9) (drop 9 ws))) commits is_busy
+drive_parts f [] d commits is_busy a = absurd a
+drive_parts f (x ∷ []) d commits is_busy a = absurd a
+drive_parts f (x ∷ y ∷ r) d commits is_busy (verb, ranges, (options, is, said)) =
+    let parts = seven f r (decimal d.scale.warehouses) (decimal d.scale.customers) (decimal d.scale.items)
+    (decimal d.extents) (decimal d.terminals) (decimal d.requests) (decimal d.seed) options is in
+    let long : length (drop 7 r) ≡ length r - 7 = length-drop 7 r in
+    let whole : take (length (x ∷ y ∷ r) - 9) (drop 7 r) ≡ drop 7 r =
+    take_all (length (x ∷ y ∷ r) - 9) (drop 7 r) (omega (arith, long)) in (
+      omega (arith, parts.2),
+      ranges,
+      parts.0,
+      subst (λ (ts : List (List ℕ)). AreDriveOptions ts commits is_busy) (sym (ap (map f) whole ∙ parts.1)) said,
+    )
+
+pub drives : {X : Type 0} (f : X → List ℕ) (ws : List X) (b : X) (d : DriveNumbers) (commits : Option (Bor (List ℕ)))
+    (is_busy : Bool) → 9 ≤ length ws → b ≡ get_or ws 1 b → f b ≡ codes "drive" → AreInRange d
+    → map f (take 7 (drop 2 ws)) ≡ words_of d
+    → AreDriveOptions (map f (take (length ws - 9) (drop 9 ws))) commits is_busy
+    → AsksDrive (map f ws) (task.Drive d commits is_busy)
+drives f [] b d commits is_busy h i e ranges words said = absurd (omega (arith, h))
+drives f (x ∷ []) b d commits is_busy h i e ranges words said = absurd (omega (arith, h))
+drives {X = X} f (x ∷ y ∷ r) b d commits is_busy h i e ranges words said =
+    let long : length (drop 7 r) ≡ length r - 7 = length-drop 7 r in
+    let whole : take (length (x ∷ y ∷ r) - 9) (drop 7 r) ≡ drop 7 r =
+    take_all (length (x ∷ y ∷ r) - 9) (drop 7 r) (omega (arith, long)) in (
+      ap f (sym i) ∙ e,
+      ranges,
+      (
+        map f (drop 7 r),
+        ap (map f) (sym (take-append-drop 7 r))
+            ∙ (map-append f (take 7 r) (drop 7 r) ∙ ap (λ z. z ++ map f (drop 7 r)) words),
+        subst (λ (ts : List X). AreDriveOptions (map f ts) commits is_busy) whole said,
+      ),
+    )
+
+pub no_drive : {X : Type 0} (f : X → List ℕ) (ws : List X)
+    → ((o : DriveOptions)
+    → AreDriveOptions (map f (take (length ws - 9) (drop 9 ws))) o.commits o.is_busy → ⊥)
+    → (t : Task) → AsksDrive (map f ws) t → ⊥
+no_drive f [] n t a = a
+no_drive f (x ∷ []) n t a = a
+no_drive f (x ∷ y ∷ r) n task.Script a = a
+no_drive f (x ∷ y ∷ r) n (task.File name) a = a
+no_drive f (x ∷ y ∷ r) n (task.Explain name) a = a
+no_drive f (x ∷ y ∷ r) n (task.Serial name from tables between) a = a
+no_drive f (x ∷ y ∷ r) n (task.Opened d g l file) a = a
+no_drive f (x ∷ y ∷ r) n (task.Audit name before options) a = a
+no_drive f (x ∷ y ∷ r) n (task.Following directory d load) a = a
+no_drive f (x ∷ y ∷ r) n (task.Load d load) a = a
+no_drive f (x ∷ y ∷ r) n (task.Drive d commits is_busy) a =
+    n (record { commits = commits; is_busy = is_busy }) (drive_parts f (x ∷ y ∷ r) d commits is_busy a).3
+
 pub load_parts : {X : Type 0} (f : X → List ℕ) (ws : List X) (d : LoadNumbers) (load : LoadOptions)
     → AsksLoad (map f ws) (task.Load d load)
     → (9 ≤ length ws) × AreOfLoad d × (map f (take 7 (drop 2 ws)) ≡ load_words_of d)
@@ -301,7 +349,7 @@ no_load f (x ∷ y ∷ r) e ranges words n task.Script a = a
 no_load f (x ∷ y ∷ r) e ranges words n (task.File name) a = a
 no_load f (x ∷ y ∷ r) e ranges words n (task.Explain name) a = a
 no_load f (x ∷ y ∷ r) e ranges words n (task.Serial name from tables between) a = a
-no_load f (x ∷ y ∷ r) e ranges words n (task.Drive d) a = a
+no_load f (x ∷ y ∷ r) e ranges words n (task.Drive d commits is_busy) a = a
 no_load f (x ∷ y ∷ r) e ranges words n (task.Opened d g l file) a = a
 no_load f (x ∷ y ∷ r) e ranges words n (task.Audit name before options) a = a
 no_load f (x ∷ y ∷ r) e ranges words n (task.Following directory d load) a = a
@@ -391,7 +439,7 @@ no_following f (x ∷ y ∷ r) none task.Script a = a
 no_following f (x ∷ y ∷ r) none (task.File name) a = a
 no_following f (x ∷ y ∷ r) none (task.Explain name) a = a
 no_following f (x ∷ y ∷ r) none (task.Serial name from tables between) a = a
-no_following f (x ∷ y ∷ r) none (task.Drive d) a = a
+no_following f (x ∷ y ∷ r) none (task.Drive d commits is_busy) a = a
 no_following f (x ∷ y ∷ r) none (task.Opened d g l file) a = a
 no_following f (x ∷ y ∷ r) none (task.Audit name before options) a = a
 no_following f (x ∷ y ∷ r) none (task.Load d load) a = a
@@ -472,7 +520,7 @@ module _ (d : List ℕ) (n : ℕ) where
   not_file l mark w ws other (task.File name) a = a
   not_file l mark w ws other (task.Explain name) a = a
   not_file l mark w ws other (task.Serial name from tables between) a = a
-  not_file l mark w ws other (task.Drive e) a = a
+  not_file l mark w ws other (task.Drive e commits is_busy) a = a
   not_file l mark w ws other (task.Audit name before options) a = a
   not_file l mark w ws other (task.Load e load) a = a
   not_file l mark w ws other (task.Following directory e load) a = a
@@ -486,7 +534,7 @@ module _ (d : List ℕ) (n : ℕ) where
   no_file l ws some none (task.File name) a = a
   no_file l ws some none (task.Explain name) a = a
   no_file l ws some none (task.Serial name from tables between) a = a
-  no_file l ws some none (task.Drive e) a = a
+  no_file l ws some none (task.Drive e commits is_busy) a = a
   no_file l ws some none (task.Audit name before options) a = a
   no_file l ws some none (task.Load e load) a = a
   no_file l ws some none (task.Following directory e load) a = a
@@ -751,7 +799,7 @@ no_serial f (x ∷ y ∷ r) n m task.Script a = a
 no_serial f (x ∷ y ∷ r) n m (task.File name) a = a
 no_serial f (x ∷ y ∷ r) n m (task.Explain name) a = a
 no_serial f (x ∷ y ∷ r) n m (task.Opened d e l file) a = a
-no_serial f (x ∷ y ∷ r) n m (task.Drive d) a = a
+no_serial f (x ∷ y ∷ r) n m (task.Drive d commits is_busy) a = a
 no_serial f (x ∷ y ∷ r) n m (task.Audit name before options) a = a
 no_serial f (x ∷ y ∷ r) n m (task.Load d load) a = a
 no_serial f (x ∷ y ∷ r) n m (task.Following directory d load) a = a
@@ -775,7 +823,7 @@ no_option f (x ∷ y ∷ z ∷ r) c file h n j is o task.Script a = a
 no_option f (x ∷ y ∷ z ∷ r) c file h n j is o (task.File name) a = a
 no_option f (x ∷ y ∷ z ∷ r) c file h n j is o (task.Explain name) a = a
 no_option f (x ∷ y ∷ z ∷ r) c file h n j is o (task.Opened d e l name) a = a
-no_option f (x ∷ y ∷ z ∷ r) c file h n j is o (task.Drive d) a = a
+no_option f (x ∷ y ∷ z ∷ r) c file h n j is o (task.Drive d commits is_busy) a = a
 no_option f (x ∷ y ∷ z ∷ r) c file h n j is o (task.Audit name before options) a = a
 no_option f (x ∷ y ∷ z ∷ r) c file h n j is o (task.Load d load) a = a
 no_option f (x ∷ y ∷ z ∷ r) c file h n j is o (task.Following directory d load) a = a

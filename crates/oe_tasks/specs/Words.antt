@@ -57,7 +57,7 @@ abbrev pub csv_words : Separator → List (List ℕ)
 csv_words separator.Commas = codes "--csv" ∷ []
 csv_words separator.Tabs = []
 
--- the words that name a directory behind a mark, if any, which is not taken for an option
+-- the words that name a directory or a file behind a mark, if any, which is not taken for an option
 abbrev pub directory_words : List ℕ → Option (Bor (List ℕ)) → List (List ℕ)
 directory_words mark None = []
 directory_words mark (Some directory) = mark ∷ directory.now ∷ []
@@ -135,9 +135,21 @@ AsksOpened (program ∷ verb ∷ rest) t =
     × (rest ≡ codes "--from" ∷ directory ∷ options) × AsksExtents directory options t)
 AsksOpened words t = ⊥
 
--- the program's name, `drive`, and its seven numbers in order, each in its range
+-- the word that asks for a table of locks that were in the way, if one is asked for
+abbrev pub busy_words : Bool → List (List ℕ)
+busy_words true = codes "--busy" ∷ []
+busy_words false = []
+
+-- the words name the file of commits, if any, and say whether the table is asked for
+abbrev pub AreDriveOptions : List (List ℕ) → Option (Bor (List ℕ)) → Bool → Type 0
+AreDriveOptions words commits is_busy =
+    IsDirectory commits × (words ≡ directory_words (codes "--commits") commits ++ busy_words is_busy)
+
+-- the program's name, `drive`, its seven numbers in order, each in its range, and the options
 abbrev pub AsksDrive : List (List ℕ) → Task → Type 0
-AsksDrive (program ∷ verb ∷ rest) (task.Drive d) = (verb ≡ codes "drive") × AreInRange d × (rest ≡ words_of d)
+AsksDrive (program ∷ verb ∷ rest) (task.Drive d commits is_busy) = (verb ≡ codes "drive") × AreInRange d
+    × ((options : List (List ℕ)) × (rest ≡ words_of d ++ options)
+    × AreDriveOptions options commits is_busy)
 AsksDrive words task = ⊥
 
 -- no option

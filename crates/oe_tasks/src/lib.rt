@@ -9,6 +9,7 @@ ghost use Rattle.oe_tasks.specs.Words.{AsksLoad, AsksFollowing};
 ghost use Rattle.oe_tasks.specs.Words.{AsksExplain, AsksOpened, AsksExtents, AsksLayout, AsksFile};
 ghost use Rattle.oe_tasks.specs.Words.{Names, NamesFile, IsPlain, csv_words, layout_word};
 ghost use Rattle.oe_tasks.specs.Words.{AreSerialOptions, AreTablesOptions};
+ghost use Rattle.oe_tasks.specs.Words.{AreDriveOptions, busy_words};
 ghost use Rattle.oe_tasks.specs.Words.{AreNumbered, AreAudited, AreBehindSource, AreLoaded};
 ghost use Rattle.oe_tasks.specs.declared.BehindSource.{BehindSource};
 ghost use Rattle.oe_tasks.specs.declared.options.AuditOptions.{AuditOptions};
@@ -16,6 +17,7 @@ ghost use Rattle.oe_tasks.specs.declared.options.LoadOptions.{LoadOptions};
 ghost use Rattle.oe_tasks.specs.declared.options.Separator.{Separator};
 ghost use Rattle.oe_tasks.specs.declared.Numbered.{Numbered};
 ghost use Rattle.oe_tasks.specs.declared.SerialOptions.{SerialOptions};
+ghost use Rattle.oe_tasks.specs.declared.DriveOptions.{DriveOptions};
 ghost use Rattle.oe_tasks.specs.declared.Task.{Task};
 
 mod options;
@@ -57,8 +59,13 @@ pub enum Task<'a> {
         tables: Option<&'a str>,
         separator: Separator,
     },
-    /// To run terminals in threads of their own.
-    Drive(DriveNumbers),
+    /// To run terminals in threads of their own, to write their commits to the file of that name,
+    /// where one is named, and to tell which locks were in the way, where that is asked for.
+    Drive {
+        numbers: DriveNumbers,
+        commits: Option<&'a str>,
+        is_busy: bool,
+    },
     /// To audit the tables in the files of a directory, or in a file, or on standard input where
     /// the name is `-`, and to compare them with the files of another directory, as they were
     /// before, where one is named.
@@ -86,6 +93,13 @@ struct SerialOptions<'a> {
     from: Option<&'a str>,
     tables: Option<&'a str>,
     separator: Separator,
+}
+
+/// The options of a drive.
+#[derive(Clone, Copy)]
+struct DriveOptions<'a> {
+    commits: Option<&'a str>,
+    is_busy: bool,
 }
 
 /// What the words behind an audit's source say.
@@ -441,10 +455,60 @@ fn drive_of<'a, S: AsStr>(words: &'a [S]) -> Option<Task<'a>>
     if words.len() < 2 || words[1].as_str() != "drive" {
         return None;
     }
-    match DriveNumbers::read(&words[2..]) {
-        Some(numbers) => Some(Task::Drive(numbers)),
+    if words.len() < 9 {
+        return None;
+    }
+    let Some(numbers) = DriveNumbers::read(&words[2..9]) else {
+        return None;
+    };
+    match drive_options_of(&words[9..]) {
+        Some(options) => Some(Task::Drive {
+            numbers,
+            commits: options.commits,
+            is_busy: options.is_busy,
+        }),
         None => None,
     }
+}
+
+// Finds the options of a drive that these words say.
+fn drive_options_of<'a, S: AsStr>(words: &'a [S]) -> Option<DriveOptions<'a>>
+    ensures { MatchOption result
+        ((o : DriveOptions) → AreDriveOptions (map S.text words.now) o.commits o.is_busy → ⊥)
+        (λ o. AreDriveOptions (map S.text words.now) o.commits o.is_busy) }
+{
+    let Some((commits, rest)) = directory_behind("--commits", words) else {
+        return match busy_said(words) {
+            Some(is_busy) => Some(DriveOptions {
+                commits: None,
+                is_busy,
+            }),
+            None => None,
+        };
+    };
+    match busy_said(rest) {
+        Some(is_busy) => Some(DriveOptions {
+            commits: Some(commits),
+            is_busy,
+        }),
+        None => None,
+    }
+}
+
+// Tells whether these words ask for a table of locks that were in the way; none where they are
+// others.
+fn busy_said<S: AsStr>(words: &[S]) -> Option<bool>
+    ensures { MatchOption result
+        ((is_busy : Bool) → map S.text words.now ≡ busy_words is_busy → ⊥)
+        (λ is_busy. map S.text words.now ≡ busy_words is_busy) }
+{
+    if words.is_empty() {
+        return Some(false);
+    }
+    if words.len() != 1 || words[0].as_str() != "--busy" {
+        return None;
+    }
+    Some(true)
 }
 
 // Finds the audit that these words ask for.

@@ -1,4 +1,4 @@
-use Rattle.std.proofs.Common.{◌≡◌, Some, subst}
+use Rattle.std.proofs.Common.{◌≡◌, Some, refl, subst}
 use Rattle.std.specs.Prelude.{option_map}
 use Rattle.std.specs.FinMap.{get}
 use Rattle.oe_requests.specs.declared.requests.Request.TheVariants as request
@@ -32,4 +32,5 @@ returns-in-Err c =
           (InDelivery c.args.request.now (line_position c.in-Some.remainder)) d.2 d.3,
       c.in-Err.ensures.err,
       c.in-Err.ensures.name,
+      refl,
     )

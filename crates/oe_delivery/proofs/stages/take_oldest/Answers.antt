@@ -31,6 +31,7 @@ returns-in-Err c = (
       refl (none_waits c.args.engine.now c.args.tx.now c.args.request.now (none (goal.at.returns-in-Err c).After-hold)),
   c.in-Err.ensures.err,
   c.in-Err.ensures.name,
+  refl,
 )
 
 pub returns-in-Ok-put : goal.returns-in-Ok-put
@@ -52,4 +53,5 @@ returns-in-Err-put c = (
       c.new_order.ensures (some (goal.at.returns-in-Err-put c).After-put)),
   c.in-Err-put.ensures.err,
   c.in-Err-put.ensures.name,
+  refl,
 )

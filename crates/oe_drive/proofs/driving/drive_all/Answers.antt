@@ -33,20 +33,23 @@ close-requires g c =
 
 -- what the shop left is handed on
 pub returns-clause-ended : goal.returns-clause-ended
-returns-clause-ended g c = if_ok c.left.result c.left.ensures (λ d h. rw (h.1) c.in-Ok.ensures.ended)
+returns-clause-ended g c = if_ok c.left.result c.left.ensures.same (λ d h. rw (h.1) c.in-Ok.ensures.ended)
 
 pub returns-clause-quiet : goal.returns-clause-quiet
-returns-clause-quiet g c = if_ok c.left.result c.left.ensures (λ d h. rw (h.0) c.in-Ok.ensures.quiet)
+returns-clause-quiet g c = if_ok c.left.result c.left.ensures.same (λ d h. rw (h.0) c.in-Ok.ensures.quiet)
 
 pub returns-clause-newest : goal.returns-clause-newest
-returns-clause-newest g c = if_ok c.left.result c.left.ensures (λ d h. rw (h.0, h.1) c.in-Ok.ensures.newest)
+returns-clause-newest g c = if_ok c.left.result c.left.ensures.same (λ d h. rw (h.0, h.1) c.in-Ok.ensures.newest)
 
 pub returns-clause-layout : goal.returns-clause-layout
-returns-clause-layout g c = if_ok c.left.result c.left.ensures (λ d h. rw (h.0) c.in-Ok.ensures.layout)
+returns-clause-layout g c = if_ok c.left.result c.left.ensures.same (λ d h. rw (h.0) c.in-Ok.ensures.layout)
 
 pub returns-clause-run : goal.returns-clause-run
-returns-clause-run g c = if_ok c.left.result c.left.ensures (λ d h. rw (h.0, h.2) c.in-Ok.ensures.run)
+returns-clause-run g c = if_ok c.left.result c.left.ensures.same (λ d h. rw (h.0, h.2) c.in-Ok.ensures.run)
 
 pub returns-clause-unpurged : goal.returns-clause-unpurged
 returns-clause-unpurged g c =
-    if_ok c.left.result c.left.ensures (λ d h. rw (h.2) (c.in-Ok.ensures.purges ∙ c.requires.silent))
+    if_ok c.left.result c.left.ensures.same (λ d h. rw (h.2) (c.in-Ok.ensures.purges ∙ c.requires.silent))
+
+pub returns-clause-kept : goal.returns-clause-kept
+returns-clause-kept g c = if_ok c.left.result c.left.ensures.kept (λ d h. h.1)

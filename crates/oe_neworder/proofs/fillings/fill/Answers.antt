@@ -9,12 +9,13 @@ use Rattle.oe_neworder.proofs.fillings.fill.Goals as goal
 pub returns-in-Unused : goal.returns-in-Unused
 returns-in-Unused c = (
   λ y before done ls count. (
-    c.requires,
+    c.requires.open,
     inl (subst (λ r. IsSupply c.args.request.now r c.args.line.now c.args.number supply.Unused)
         c.tables.ensures c.in-Unused.ensures y before done ls),
   ),
   refl,
   refl,
+  c.requires.none,
 )
 
 pub returns-in-Fails : goal.returns-in-Fails
@@ -26,6 +27,7 @@ returns-in-Fails c = (
       (InNewOrder c.args.request.now (NewOrderStock y before done (c.args.line.now ∷ ls))) here.0 here.1,
   refl,
   refl,
+  c.requires.none,
 )
 
 pub returns-in-Ok : goal.returns-in-Ok
@@ -50,4 +52,5 @@ returns-in-Err c = (
       here.0 here.1.2,
   c.in-Err.ensures.err,
   c.in-Err.ensures.name,
+  refl,
 )

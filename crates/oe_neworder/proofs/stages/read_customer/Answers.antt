@@ -1,4 +1,4 @@
-use Rattle.std.proofs.Common.{Some, sym, ap, ◌∙◌, subst}
+use Rattle.std.proofs.Common.{Some, refl, sym, ap, ◌∙◌, subst}
 use Rattle.oe_theory.specs.Machine.{Take, Shared}
 use Rattle.oe_rows.specs.declared.locks.Name.TheVariants as name
 use Rattle.oe_requests.specs.declared.requests.Request.TheVariants as request
@@ -31,4 +31,5 @@ returns-in-Err c =
           (here.0 ∙ ap (λ k. Take (name.Customer k) Shared) (sym c.customer.ensures)) here.1,
       c.in-Err.ensures.err,
       c.in-Err.ensures.name,
+      refl,
     )

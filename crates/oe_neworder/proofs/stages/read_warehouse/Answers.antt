@@ -13,6 +13,7 @@ returns-in-Err c = (
       (subst (λ r. ReadsTax c.args.request.now r (Err c.in-Err.refusal)) c.tables.ensures c.in-Err.ensures).1,
   refl,
   refl,
+  refl,
 )
 
 pub returns-in-Ok-hold : goal.returns-in-Ok-hold
@@ -30,4 +31,5 @@ returns-in-Err-hold c = (
       (subst (λ r. ReadsTax c.args.request.now r (Ok c.in-Ok.tax)) c.tables.ensures c.in-Ok.ensures),
   c.in-Err-hold.ensures.err,
   c.in-Err-hold.ensures.name,
+  refl,
 )

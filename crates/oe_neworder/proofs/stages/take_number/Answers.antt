@@ -12,6 +12,7 @@ returns-in-Err c = (
       c.args.tax),
   refl,
   refl,
+  refl,
 )
 
 pub returns-in-Ok-put : goal.returns-in-Ok-put
@@ -33,4 +34,5 @@ returns-in-Err-put c =
           taken.2,
       c.in-Err-put.ensures.err,
       c.in-Err-put.ensures.name,
+      refl,
     )

@@ -1,4 +1,4 @@
-use Rattle.std.proofs.Common.{subst}
+use Rattle.std.proofs.Common.{rules, subst}
 use Rattle.oe_history.specs.Calls.{TheCaller}
 use Rattle.oe_hall.specs.Turns.{PurgeCall}
 use Rattle.oe_hall.proofs.purger.Purger.purge.Goals as goal
@@ -11,6 +11,7 @@ returns-clause-turn g c =
       c.purge.new.self,
       e.hall.0,
       e.hall.1,
+      search rules,
       e.turn,
       e.seen,
     )

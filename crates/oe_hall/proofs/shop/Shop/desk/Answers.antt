@@ -1,4 +1,8 @@
-use Rattle.std.proofs.Common.{rules, ◌-◌, Some, ap, sym, ◌∙◌, arith}
+use Rattle.std.proofs.Common.{rules, ◌-◌, Some, List, ap, sym, ◌∙◌, refl, subst, arith}
+use Rattle.oe_history.specs.declared.views.Entry.{Entry}
+use Rattle.oe_hall.specs.Counts.{Tally, untold}
+use Rattle.oe_hall.specs.Histories.{is_open}
+use Rattle.oe_hall.specs.Desks.{IsBalanced}
 use Rattle.oe_hall.specs.Seats.{ThePlace, waiting}
 use Rattle.oe_hall.proofs.SeatFacts.{fresh_set, waiting_set}
 use Rattle.oe_hall.proofs.HistoryFacts.{none_yet}
@@ -28,4 +32,7 @@ invariant_of-result g c =
       ap (λ (p : ThePlace). p.calls.table) is,
       ap (λ (p : ThePlace). p.calls.by) is ∙ sym (ap (λ (p : ThePlace). p.seat.terminal) is),
       none_yet _ _ (ap (λ (p : ThePlace). p.calls.seen) is),
+      subst (λ (t : Tally). IsBalanced t (is_open c.place.inside.caller.mine)) (sym c.split_one-told.ensures.one)
+          (subst (λ (m : List Entry). IsBalanced (untold 1) (is_open m))
+          (sym (ap (λ (p : ThePlace). p.calls.mine) is)) (refl, omega arith)),
     )

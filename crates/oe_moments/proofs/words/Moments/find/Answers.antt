@@ -11,8 +11,8 @@ load-found-requires c =
           refl,
     )
 
-pub returns-clause-ok : goal.returns-clause-ok
-returns-clause-ok c =
-    let found : c.load-found.result ≡ 2 * c.get-2.result + 2 = search rules in
-    let h = c.load-found.ensures.2.1 c.keeper.inside.knows c.keeper.invariant c.get-2.result found in
+pub returns-clause-young : goal.returns-clause-young
+returns-clause-young c =
+    let found : c.load-found.result ≡ 2 * c.moment.result + 2 = search rules in
+    let young = (c.load-found.ensures.2 c.keeper.inside.knows c.keeper.invariant).1 c.moment.result found in
     search rules

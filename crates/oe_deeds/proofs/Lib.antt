@@ -1,0 +1,2 @@
+pub mod FileFacts
+pub mod FrontFacts
