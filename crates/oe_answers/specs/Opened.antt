@@ -12,7 +12,7 @@ use Rattle.oe_file_audit.specs.declared.reading.TableSource.{TableSource}
 use Rattle.oe_file_loading.specs.Files.{nine, reader_of, LacksMemory}
 use Rattle.oe_file_loading.specs.declared.files.TableFile.{TableFile}
 use Rattle.oe_numbers.specs.declared.forms.Form.{Form}
-use Rattle.oe_tasks.specs.declared.options.AuditOptions.{AuditOptions}
+use Rattle.oe_command_line.specs.declared.options.AuditOptions.{AuditOptions}
 use Rattle.oe_from.specs.Loads.{LoadFromRan}
 use Rattle.oe_from.specs.declared.loads.Following.{Following}
 use Rattle.oe_from.specs.Scripts.{ScriptFromRan}
@@ -20,7 +20,7 @@ use Rattle.oe_from.specs.Serials.{ComparisonFromRan, SerialFromRan}
 use Rattle.oe_comparison.specs.Runs.{ComparisonRan}
 use Rattle.oe_file_loading.specs.Loading.{Nine}
 use Rattle.oe_file_loading.specs.declared.loading.Sources.{Sources}
-use Rattle.oe_ports.specs.Ports.{Source, Sink}
+use Rattle.oe_io.specs.Ports.{Source, Sink}
 use Rattle.oe_file_tables.specs.declared.formats.Format.{Format}
 use Rattle.oe_file_tables.specs.declared.formats.Format.TheVariants as format
 use Rattle.oe_rows.specs.declared.keys.Table.{Table}

@@ -9,11 +9,11 @@ use Rattle.oe_file_tables.specs.declared.formats.Format.TheVariants as row
 use Rattle.oe_from.specs.declared.loads.Following.{Following}
 use Rattle.oe_numbers.specs.declared.drives.FollowingNumbers.{FollowingNumbers}
 use Rattle.oe_numbers.specs.declared.drives.LoadNumbers.{LoadNumbers}
-use Rattle.oe_plans.specs.declared.plans.Plan.{Plan}
-use Rattle.oe_tasks.specs.declared.options.AuditOptions.{AuditOptions}
-use Rattle.oe_tasks.specs.declared.options.LoadOptions.{LoadOptions}
-use Rattle.oe_tasks.specs.declared.options.Separator.{Separator}
-use Rattle.oe_tasks.specs.declared.options.Separator.TheVariants as separator
+use Rattle.oe_terms.specs.declared.plans.Plan.{Plan}
+use Rattle.oe_command_line.specs.declared.options.AuditOptions.{AuditOptions}
+use Rattle.oe_command_line.specs.declared.options.LoadOptions.{LoadOptions}
+use Rattle.oe_command_line.specs.declared.options.Separator.{Separator}
+use Rattle.oe_command_line.specs.declared.options.Separator.TheVariants as separator
 
 -- files whose rows are compared or loaded
 abbrev pub row_format : Separator → rows.Format

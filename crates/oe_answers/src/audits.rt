@@ -14,15 +14,15 @@ use crate::endings::{Aim, Output, fail, unread};
 use crate::folders::{Audited, BeforeFolder, before_name};
 use crate::formats::{audit_options, field_format};
 use crate::notes::tell_audit;
+use oe_command_line::AuditOptions;
 use oe_fields::Format;
 use oe_file_audit::{
     AuditFault, Options, Side, TableSource, Unread, Verdict, audit_dump as run_dump, audit_tables,
     status,
 };
 use oe_filelines::Stop;
-use oe_ports::faults::SystemFault;
-use oe_ports::ports::Outlet;
-use oe_tasks::AuditOptions;
+use oe_io::faults::SystemFault;
+use oe_io::ports::Outlet;
 use std::io;
 use std::io::Read;
 use std::thread::Threads;

@@ -3,9 +3,9 @@
 ghost use Rattle.std.specs.Prelude.{◌≡◌};
 ghost use Rattle.oe_answers.specs.Endings.{fault_status, EndsUnread, EndsWith};
 
-use oe_ports::faults::SystemFault;
-use oe_ports::ports::Outlet;
-use oe_ports::standard::Printed;
+use oe_io::faults::SystemFault;
+use oe_io::ports::Outlet;
+use oe_io::standard::Printed;
 use std::fmt::Display;
 use std::io;
 use std::io::ErrorKind;

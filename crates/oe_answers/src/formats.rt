@@ -2,8 +2,8 @@
 ghost use Rattle.std.specs.Prelude.{◌≡◌};
 ghost use Rattle.oe_answers.specs.Said.{row_format, field_format, audit_options};
 
+use oe_command_line::{AuditOptions, Separator};
 use oe_file_audit::{Form, Options};
-use oe_tasks::{AuditOptions, Separator};
 
 /// Gives the format of files whose rows are compared or loaded.
 pub(crate) fn row_format(separator: Separator) -> oe_file_tables::Format

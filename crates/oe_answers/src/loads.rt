@@ -10,14 +10,14 @@ ghost use Rattle.oe_answers.specs.Statuses.{load_status, following_status};
 
 use crate::endings::{Aim, Output, fail};
 use crate::nine::{closed_status, no_population};
+use oe_command_line::LoadOptions;
 use oe_file_loading::{Sources, TableFile};
 use oe_file_tables::Format;
 use oe_from::{Following, FollowingFault, FromFault, run_load_from, write_gap};
+use oe_io::ports::Outlet;
 use oe_load::{LoadFault, Origin, run_load};
 use oe_numbers::{FollowingNumbers, LoadNumbers};
-use oe_plans::Plan;
-use oe_ports::ports::Outlet;
-use oe_tasks::LoadOptions;
+use oe_terms::Plan;
 use std::io;
 use std::io::Read;
 use std::time::Clock;

@@ -10,9 +10,9 @@ use crate::endings::{Aim, fail};
 use oe_comparison::write_faults;
 use oe_file_loading::{LoadError, Openness, Sources, TableFile, tell_closed, tell_unread};
 use oe_file_tables::Stop;
+use oe_io::faults::SystemFault;
+use oe_io::ports::Outlet;
 use oe_origin::{NoPopulation, write_lack};
-use oe_ports::faults::SystemFault;
-use oe_ports::ports::Outlet;
 use std::io;
 
 /// Says which of nine files can't be opened, and gives the status then.

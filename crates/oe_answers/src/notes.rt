@@ -6,7 +6,7 @@ use oe_comparison::Verdict as ComparisonVerdict;
 use oe_fields::Format;
 use oe_file_audit::{Side, Verdict as AuditVerdict};
 use oe_file_serial::Verdict;
-use oe_ports::ports::Outlet;
+use oe_io::ports::Outlet;
 
 /// Tells why lines of a file of replies have no form.
 #[tactic(auto, using(crate::proofs::NoteFacts::told))]

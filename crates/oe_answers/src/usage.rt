@@ -10,8 +10,8 @@ use crate::endings::{Aim, fail};
 use clap::Error;
 use clap::error::ErrorKind;
 use oe_explain::write_forms;
-use oe_ports::faults::SystemFault;
-use oe_ports::standard::Printed;
+use oe_io::faults::SystemFault;
+use oe_io::standard::Printed;
 use std::io;
 
 /// Says why the words of a command line could not be had.

@@ -2,9 +2,8 @@
 use Rattle.std.proofs.Common.{◌≡◌, ℕ, suc, ◌+◌, ◌-◌, ◌<◌, refl, sym, ◌∙◌, ap, subst, Bool, true, false, List, [], ◌∷◌}
 use Rattle.std.proofs.Common.{map, length, Some, None, arith}
 use Rattle.std.specs.Prelude.{T, ◌&&◌, ◌==◌, sum_by}
-use Rattle.std.specs.declared.cmp.Ordering.{Ordering}
-use Rattle.std.specs.declared.cmp.Ordering.TheVariants.{Less, Equal, Greater}
-use Rattle.std.specs.Cmp.{ranked, nat_cmp_is}
+use Rattle.std.specs.declared.cmp.Ordering.TheVariants.{Equal}
+use Rattle.std.specs.Cmp.{nat_cmp_is}
 use Rattle.std.specs.Ordering.{eq_by_cmp, is_lt, nat_cmp, ordering_then}
 use Rattle.std.specs.FinMap.{get, entries, entries_sorted, retain_keys}
 use Rattle.std.specs.FinMap.Entries.{is_sorted, below_all}
@@ -25,6 +24,7 @@ use Rattle.oe_model.proofs.EntryFacts.{EachOf, each_of, kept_at}
 use Rattle.oe_store.specs.Places.{entries_of}
 use Rattle.oe_audit.specs.Tests.{are_counted, lines_agree}
 use Rattle.oe_model.proofs.GroupFacts.{sum_of_group}
+use Rattle.oe_versions.proofs.ClimbFacts.{lower}
 use Rattle.oe_audit.proofs.NumberFacts.{Rises, Rise, has_no_gap, gaps_counted, least_first}
 
 left : (a b : Bool) → T (a && b) → T a
@@ -34,11 +34,6 @@ left false b p = p
 right : (a b : Bool) → T (a && b) → T b
 right true b p = p
 right false b p = absurd p
-
-lower : (x y : ℕ) (r : Ordering) → r ≡ nat_cmp x y → T (is_lt r) → x < y
-lower x y Less e h = ranked x y Less e
-lower x y Equal e h = absurd h
-lower x y Greater e h = absurd h
 
 same_number : (n m : ℕ) → n ≡ m → nat_cmp n m ≡ Equal
 same_number n m e = sym (nat_cmp_is n m Equal e)

@@ -1,7 +1,7 @@
 -- One text behind another; the last may not go out.
 use Rattle.std.proofs.Common.{◌≡◌, List, ℕ, ◌++◌, Option, Result, Ok, Err, refl}
-use Rattle.oe_ports.specs.Ports.{Sink, Sent, Cut, Streams}
-use Rattle.oe_ports.proofs.Streaming.{sent_then, sent_cut, cut_more, streams_as}
+use Rattle.oe_io.specs.Ports.{Sink, Sent, Cut, Streams}
+use Rattle.oe_io.proofs.Streaming.{sent_then, sent_cut, cut_more, streams_as}
 
 pub streams_then : {T E : Type 0} (a b c : Option Sink) (h i j t u : List ℕ) (r : Result T E) → Sent a h b i t
     → Streams b i c j u r → Streams a h c j (t ++ u) r

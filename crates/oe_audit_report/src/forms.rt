@@ -1,13 +1,13 @@
 //! The forms of a report.
 ghost use Rattle.std.specs.Prelude.{◌≡◌, []};
-ghost use Rattle.oe_ports.specs.Ports.{Streams};
+ghost use Rattle.oe_io.specs.Ports.{Streams};
 ghost use Rattle.oe_audit_report.specs.Forms.{report_of};
 
 use crate::json::put_json;
 use crate::report::put_report;
 use oe_books::Results;
-use oe_ports::output::flush;
-use oe_ports::ports::{Failed, Outlet};
+use oe_io::output::flush;
+use oe_io::ports::{Failed, Outlet};
 use oe_texts::Pending;
 
 /// How a report is written.

@@ -2,7 +2,7 @@
 //! so that no memory is taken. Only a write can fail: a beginning of the object is then written.
 ghost use Rattle.std.specs.Prelude.{◌≡◌, ◌≤◌, ◌-◌, ◌+◌, ◌++◌, length};
 ghost use Rattle.arrayvec.specs.ArrayVec.{array_vec_len};
-ghost use Rattle.oe_ports.specs.Ports.{Streams};
+ghost use Rattle.oe_io.specs.Ports.{Streams};
 ghost use Rattle.oe_audit_report.specs.Labels.{named};
 ghost use Rattle.oe_audit_report.specs.Report.{fails};
 ghost use Rattle.oe_audit_report.specs.Json.{listing, rows_member, figures_json, finding_json, part_head, part_json, rows_failing, truth_text, check_head, check_json, counts_tail, report_json};
@@ -13,7 +13,7 @@ use crate::lines::{LineOf, Lines, TextOf, put, put_joined, put_line};
 use crate::report::{Counts, counted, fails, shown};
 use crate::texts::{decimal, figure, listed, string};
 use oe_books::{CheckFound, Finding, PartFound, TableRows};
-use oe_ports::ports::{Failed, Outlet};
+use oe_io::ports::{Failed, Outlet};
 use oe_texts::columns::number;
 use oe_texts::{LONGEST, Pending, SIZE, text};
 

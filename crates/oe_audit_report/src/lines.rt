@@ -4,11 +4,11 @@
 ghost use Rattle.std.specs.Prelude.{◌≡◌, ◌≤◌, ◌+◌, ◌++◌, ℕ, List, length, codes};
 ghost use Rattle.arrayvec.specs.ArrayVec.{array_vec_len};
 ghost use Rattle.std.specs.List.{flat_map};
-ghost use Rattle.oe_ports.specs.Ports.{Streams};
+ghost use Rattle.oe_io.specs.Ports.{Streams};
 ghost use Rattle.oe_audit_report.specs.Texts.{joined};
 
-use oe_ports::output::make_room;
-use oe_ports::ports::{Failed, Outlet};
+use oe_io::output::make_room;
+use oe_io::ports::{Failed, Outlet};
 use oe_texts::{LONGEST, Pending, SIZE, text};
 
 /// What makes a line of an item, or another short text.

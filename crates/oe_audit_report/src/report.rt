@@ -6,7 +6,7 @@
 ghost use Rattle.std.specs.Prelude.{if◌then◌else◌, ◌≡◌, ◌≤◌, ◌+◌, ◌-◌, ◌++◌, [], length, codes, true, false, IfOk};
 ghost use Rattle.std.specs.List.{flat_map};
 ghost use Rattle.arrayvec.specs.ArrayVec.{array_vec_len};
-ghost use Rattle.oe_ports.specs.Ports.{Streams};
+ghost use Rattle.oe_io.specs.Ports.{Streams};
 ghost use Rattle.oe_audit_report.specs.Labels.{named, label_of, name_of};
 ghost use Rattle.oe_audit_report.specs.Report.{rows_text, read_line, failure_text, named_figure, row_line, shown, more_line, part_text, finds, fails, failing, holds_line, check_text, before_name, names_text, count_line, counts_of, last_line, report_text};
 
@@ -15,7 +15,7 @@ use crate::labels::{check_name, label_of};
 use crate::lines::{LineOf, Lines, TextOf, put, put_each, put_line};
 use crate::texts::{figure, numbers};
 use oe_books::{Check, CheckFound, Finding, PartFound, TableRows};
-use oe_ports::ports::{Failed, Outlet};
+use oe_io::ports::{Failed, Outlet};
 use oe_texts::columns::number;
 use oe_texts::{LONGEST, Pending, SIZE, text};
 

@@ -11,7 +11,7 @@ use Rattle.oe_rows.specs.declared.locks.Name.{Name}
 use Rattle.oe_locks.specs.Listed.{stands}
 use Rattle.oe_locks.specs.Held.{is_name}
 use Rattle.oe_locks.proofs.NameFacts.{name_true, name_refl}
-use Rattle.oe_busy.specs.Firsts.{is_left, name_line, precedes, sooner, AreFirst, IsFirst}
+use Rattle.oe_busy.specs.Firsts.{is_left, name_line, precedes, sooner, AreMostBusy, IsFirst}
 use Rattle.oe_busy.proofs.OrderFacts.{not_back, not_before, not_itself}
 
 -- THE FIRST OF A LIST
@@ -121,17 +121,17 @@ best_all f behind xs n (Some b) long h none = (h.0, λ q t. by_list q t (cases_B
 abbrev pub Shows : (Name → ℕ) → ℕ → List ℕ → List ℕ → Option Name → ℕ → Type 0
 Shows f most old new last k =
     (shown : List Name) × (new ≡ old ++ flat_map (name_line f) shown)
-    × ((ns : List Name) → AreFirst f last (most - k) ns → AreFirst f None most (shown ++ ns))
+    × ((ns : List Name) → AreMostBusy f last (most - k) ns → AreMostBusy f None most (shown ++ ns))
 
 -- so many names, or all
 abbrev pub AreShown : (Name → ℕ) → ℕ → List ℕ → List ℕ → Type 0
-AreShown f most old new = (ns : List Name) × AreFirst f None most ns × (new ≡ old ++ flat_map (name_line f) ns)
+AreShown f most old new = (ns : List Name) × AreMostBusy f None most ns × (new ≡ old ++ flat_map (name_line f) ns)
 
 module _ (f : Name → ℕ) (most : ℕ) (old : List ℕ) where
   pub shows_none : Shows f most old old None 0
   shows_none =
       let all : most - 0 ≡ most = omega arith in
-      ([], sym (append-nil old), λ ns h. subst (λ j. AreFirst f None j ns) all h)
+      ([], sym (append-nil old), λ ns h. subst (λ j. AreMostBusy f None j ns) all h)
 
   pub shows_more : (mid new : List ℕ) (last : Option Name) (n : Name) (k : ℕ) → k < most → IsFirst f last n
       → Shows f most old mid last k → new ≡ mid ++ name_line f n → Shows f most old new (Some n) (k + 1)
@@ -140,22 +140,22 @@ module _ (f : Name → ℕ) (most : ℕ) (old : List ℕ) where
     e ∙ (ap (λ z. z ++ name_line f n) is ∙ flat_map_more (name_line f) old shown n),
     λ ns h.
         let one : suc (most - (k + 1)) ≡ most - k = omega (arith, few) in
-        subst (AreFirst f None most) (sym (append_assoc shown (n ∷ []) ns))
-        (rest (n ∷ ns) (subst (λ j. AreFirst f last j (n ∷ ns)) one (first, h))),
+        subst (AreMostBusy f None most) (sym (append_assoc shown (n ∷ []) ns))
+        (rest (n ∷ ns) (subst (λ j. AreMostBusy f last j (n ∷ ns)) one (first, h))),
   )
 
-  ends : (new : List ℕ) (last : Option Name) (k : ℕ) → Shows f most old new last k → AreFirst f last (most - k) []
+  ends : (new : List ℕ) (last : Option Name) (k : ℕ) → Shows f most old new last k → AreMostBusy f last (most - k) []
       → AreShown f most old new
-  ends new last k (shown, is, rest) h = (shown, subst (AreFirst f None most) (append-nil shown) (rest [] h), is)
+  ends new last k (shown, is, rest) h = (shown, subst (AreMostBusy f None most) (append-nil shown) (rest [] h), is)
 
   pub shows_all : (new : List ℕ) (last : Option Name) (k : ℕ) → k < most → ((q : Name) → is_left f last q ≡ false)
       → Shows f most old new last k → AreShown f most old new
   shows_all new last k few none h =
       let one : suc (most - suc k) ≡ most - k = omega (arith, few) in
-      ends new last k h (subst (λ j. AreFirst f last j []) one none)
+      ends new last k h (subst (λ j. AreMostBusy f last j []) one none)
 
   pub shows_most : (new : List ℕ) (last : Option Name) (k : ℕ) → most ≤ k → Shows f most old new last k
       → AreShown f most old new
   shows_most new last k many h =
       let none : 0 ≡ most - k = omega (arith, many) in
-      ends new last k h (subst (λ j. AreFirst f last j []) none refl)
+      ends new last k h (subst (λ j. AreMostBusy f last j []) none refl)

@@ -8,7 +8,7 @@ use Rattle.oe_busy.specs.declared.tables.Busyness.{Busyness}
 use Rattle.oe_busy.specs.declared.waits.Waits.{Waits}
 use Rattle.oe_busy.specs.Happenings.{busy_count, cell, count_in, counted, counts, counts_in, longest, met_more, named}
 use Rattle.oe_busy.specs.Happenings.{AreWaits}
-use Rattle.oe_busy.specs.Firsts.{name_line, AreFirst}
+use Rattle.oe_busy.specs.Firsts.{name_line, AreMostBusy}
 use Rattle.oe_busy.specs.Tables.{kind_lines, wait_line, AreCounted, IsTable}
 use Rattle.oe_busy.proofs.FirstFacts.{AreShown}
 
@@ -32,7 +32,7 @@ pub tabled : (b : Busyness) (hs : List Happening) (old kinds names new : List �
     → (text : List ℕ) × IsTable hs text × (new ≡ old ++ text)
 tabled b hs old kinds names new h kinds_are (ns, first, names_are) new_is = (
   text,
-  record { names = ns; are_first = subst (λ f. AreFirst f None 10 ns) h.names_are first; text_is = refl },
+  record { names = ns; are_first = subst (λ f. AreMostBusy f None 10 ns) h.names_are first; text_is = refl },
   new_is ∙ (λ i. names_are i ++ wait_line (h.waits_are.longest_is i))
       ∙ (λ i. (kinds_are i ++ flat_map (name_line (h.names_are i)) ns) ++ wait_line (longest hs))
       ∙ (λ i. ((old ++ kind_lines (h.counts_are i)) ++ shown) ++ wait_line (longest hs))

@@ -24,10 +24,10 @@ IsFirst f behind n = (is_left f behind n ≡ true)
     × ((q : Name) → is_left f behind q ≡ true → precedes f q n ≡ false)
 
 -- at most so many names, each the first of those behind the last one
-abbrev pub AreFirst : (Name → ℕ) → Option Name → ℕ → List Name → Type 0
-AreFirst f behind zero ns = ns ≡ []
-AreFirst f behind (suc k) [] = (q : Name) → is_left f behind q ≡ false
-AreFirst f behind (suc k) (n ∷ ns) = IsFirst f behind n × AreFirst f (Some n) k ns
+abbrev pub AreMostBusy : (Name → ℕ) → Option Name → ℕ → List Name → Type 0
+AreMostBusy f behind zero ns = ns ≡ []
+AreMostBusy f behind (suc k) [] = (q : Name) → is_left f behind q ≡ false
+AreMostBusy f behind (suc k) (n ∷ ns) = IsFirst f behind n × AreMostBusy f (Some n) k ns
 
 -- the first so far, or one more where that is left and comes before it
 abbrev pub sooner : (Name → ℕ) → Option Name → Name → Bool → Option Name

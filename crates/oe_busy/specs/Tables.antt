@@ -5,7 +5,7 @@ use Rattle.oe_rows.specs.declared.locks.Name.{Name}
 use Rattle.oe_busy.specs.declared.happenings.Happening.{Happening}
 use Rattle.oe_busy.specs.declared.tables.Busyness.{Busyness}
 use Rattle.oe_busy.specs.Happenings.{counts, counts_in, count_in, busy_count, longest, AreWaits}
-use Rattle.oe_busy.specs.Firsts.{name_line, AreFirst}
+use Rattle.oe_busy.specs.Firsts.{name_line, AreMostBusy}
 
 -- `Warehouse S 43 X 45 Busy 70 cycles 3`, by the four counts of a kind
 abbrev pub kind_line : List ℕ → (ℕ → ℕ) → ℕ → List ℕ
@@ -26,7 +26,7 @@ wait_line n = codes "longest wait " ++ decimal n ++ codes "\n"
 -- the table of what happened: a line of each kind, the ten names most often in the way, and the longest wait
 pub record IsTable (hs : List Happening) (text : List ℕ) : Type 0 where
   pub names : List Name
-  pub are_first : AreFirst (busy_count hs) None 10 names
+  pub are_first : AreMostBusy (busy_count hs) None 10 names
   pub text_is : text ≡ kind_lines (counts hs) ++ flat_map (name_line (busy_count hs)) names ++ wait_line (longest hs)
 
 -- the counts are those of what happened

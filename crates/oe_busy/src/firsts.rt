@@ -6,7 +6,7 @@ ghost use Rattle.std.specs.List.{flat_map};
 ghost use Rattle.arrayvec.specs.ArrayVec.{array_vec_len};
 ghost use Rattle.oe_rows.specs.declared.locks.Name.{Name};
 ghost use Rattle.oe_busy.specs.Happenings.{count_in};
-ghost use Rattle.oe_busy.specs.Firsts.{is_left, name_line, precedes, sooner, AreFirst, IsFirst};
+ghost use Rattle.oe_busy.specs.Firsts.{is_left, name_line, precedes, sooner, AreMostBusy, IsFirst};
 
 use crate::names::NameCounts;
 use oe_rows::Name;
@@ -97,7 +97,7 @@ fn name_line(out: &mut Pending, counts: &NameCounts, name: &Name)
 /// Appends the lines of at most that many names, which were most often in the way.
 fn some_lines(out: &mut Pending, counts: &NameCounts, most: u32)
     requires { array_vec_len out.old + 72 * most ≤ SIZE }
-    ensures items { (ns : List Name) × AreFirst (count_in counts.now) None most ns
+    ensures items { (ns : List Name) × AreMostBusy (count_in counts.now) None most ns
         × (out.new.items ≡ out.old.items ++ flat_map (name_line (count_in counts.now)) ns) }
     ensures len { array_vec_len out.new ≤ array_vec_len out.old + 72 * most }
 {
@@ -114,7 +114,7 @@ fn some_lines(out: &mut Pending, counts: &NameCounts, most: u32)
 /// Appends the lines of the ten names that were most often in the way.
 pub(crate) fn first_lines(out: &mut Pending, counts: &NameCounts)
     requires { array_vec_len out.old + 800 ≤ SIZE }
-    ensures items { (ns : List Name) × AreFirst (count_in counts.now) None 10 ns
+    ensures items { (ns : List Name) × AreMostBusy (count_in counts.now) None 10 ns
         × (out.new.items ≡ out.old.items ++ flat_map (name_line (count_in counts.now)) ns) }
     ensures len { array_vec_len out.new ≤ array_vec_len out.old + 720 }
 {

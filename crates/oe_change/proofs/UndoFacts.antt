@@ -85,7 +85,7 @@ whole_stands (UpdateOrderLine k x) v r e = ap is_some e
 whole_stands (UpdateStock k x) v r e = ap is_some e
 whole_stands (DeleteNewOrder k) v r e = mapped_absent row.NewOrder _ e
 
-stands : (l : Layout) (c : Change) (v : Option Row) (r : Rows) → row_at r (key_of c) ≡ row_of c
+pub stands : (l : Layout) (c : Change) (v : Option Row) (r : Rows) → row_at r (key_of c) ≡ row_of c
     → Stands (record_in l c v) r
 stands WholeRows c v r e = whole_stands c v r e
 stands ChangedColumns (InsertHistory k x) v r e = ap is_some e

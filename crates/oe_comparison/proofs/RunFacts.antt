@@ -1,8 +1,8 @@
 -- What a run comes to.
 use Rattle.std.proofs.Common.{◌≡◌, ℕ, List, [], ◌++◌, Option, Result, Ok, Err, subst, sym}
 use Rattle.oe_model.specs.Rows.{Rows}
-use Rattle.oe_ports.specs.Ports.{Sink, Sent, Streams}
-use Rattle.oe_ports.proofs.Streaming.{sent_then, sent_cut}
+use Rattle.oe_io.specs.Ports.{Sink, Sent, Streams}
+use Rattle.oe_io.proofs.Streaming.{sent_then, sent_cut}
 use Rattle.oe_store.specs.Places.{Places, rows}
 use Rattle.oe_file_serial.specs.Verdicts.{IsDecided, IsDecision, verdict_of, verdict_text}
 use Rattle.oe_file_serial.specs.declared.origins.Origin.{Origin}

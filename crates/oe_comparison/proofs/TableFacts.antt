@@ -4,7 +4,7 @@ use Rattle.std.specs.declared.cmp.Ordering.{Ordering}
 use Rattle.oe_rows.specs.declared.keys.Key.{Key}
 use Rattle.oe_rows.specs.declared.keys.Table.{Table}
 use Rattle.oe_model.specs.Rows.{Rows}
-use Rattle.oe_ports.specs.Ports.{Source}
+use Rattle.oe_io.specs.Ports.{Source}
 use Rattle.oe_file_tables.specs.declared.formats.Format.{Format}
 use Rattle.oe_file_tables.specs.declared.lines.Numbered.{Numbered}
 use Rattle.oe_file_tables.specs.declared.faults.TableFault.{TableFault}

@@ -2,7 +2,7 @@
 use Rattle.std.specs.Prelude.{◌≡◌, ◌≢◌, ℕ, ◌<◌, ◌⊎◌, Option, Result, Ok, Err, List, []}
 use Rattle.oe_model.specs.Rows.{Rows}
 use Rattle.oe_model.specs.System.{system}
-use Rattle.oe_ports.specs.Ports.{Sink, Sent, Cut}
+use Rattle.oe_io.specs.Ports.{Sink, Sent, Cut}
 use Rattle.oe_file_serial.specs.InOrder.{Between}
 use Rattle.oe_file_serial.specs.Verdicts as serial
 use Rattle.oe_file_serial.specs.Verdicts.{IsOfFile, IsDecided, verdict_text}

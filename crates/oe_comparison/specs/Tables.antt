@@ -17,7 +17,7 @@ use Rattle.oe_file_rows.specs.Rows.{stock_values}
 use Rattle.oe_texts.specs.Dump.{warehouse_columns, district_columns, customer_columns, new_order_columns}
 use Rattle.oe_texts.specs.Dump.{order_columns, order_line_columns, item_columns, stock_columns}
 use Rattle.oe_model.specs.Rows.{Rows}
-use Rattle.oe_ports.specs.Ports.{Source}
+use Rattle.oe_io.specs.Ports.{Source}
 use Rattle.oe_file_tables.specs.declared.formats.Format.{Format}
 use Rattle.oe_file_tables.specs.declared.lines.Numbered.{Numbered}
 use Rattle.oe_file_tables.specs.Fault as fault

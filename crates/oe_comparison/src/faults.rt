@@ -3,7 +3,7 @@
 ghost use Rattle.std.specs.Prelude.{◌≡◌, ◌≤◌, ◌+◌, ◌-◌, ◌++◌, [], length, codes, decimal};
 ghost use Rattle.std.specs.List.{flat_map};
 ghost use Rattle.arrayvec.specs.ArrayVec.{array_vec_len};
-ghost use Rattle.oe_ports.specs.Ports.{Streams};
+ghost use Rattle.oe_io.specs.Ports.{Streams};
 ghost use Rattle.oe_comparison.specs.Names.{column_names, column_name};
 ghost use Rattle.oe_comparison.specs.Faults.{line_fault_text, miscount_text, wrong_text, fault_line, more_line, faults_text};
 
@@ -11,8 +11,8 @@ use crate::forms::form;
 use crate::names::{column_count, column_name};
 use oe_file_rows::LineFault;
 use oe_file_tables::{Faults, TableFault, Wrong};
-use oe_ports::output::{flush, make_room};
-use oe_ports::ports::{Failed, Outlet};
+use oe_io::output::{flush, make_room};
+use oe_io::ports::{Failed, Outlet};
 use oe_rows::Table;
 use oe_texts::columns::number;
 use oe_texts::keys::columns;

@@ -1,7 +1,7 @@
 //! A file of replies and nine files of tables: the verdict on the replies, and where these are
 //! serial, what differs between the files and the tables that the transactions leave.
 ghost use Rattle.std.specs.Prelude.{◌≡◌, ◌≤◌, [], length, OnOk};
-ghost use Rattle.oe_ports.specs.Ports.{Streams};
+ghost use Rattle.oe_io.specs.Ports.{Streams};
 ghost use Rattle.oe_file_loading.specs.Loading.{nine_of};
 ghost use Rattle.oe_file_serial.specs.Verdicts.{IsOrigin, IsShort, verdict_text};
 ghost use Rattle.oe_store.specs.Places.{rows};
@@ -16,8 +16,8 @@ use oe_file_serial::{
     AnswerText, Decision, Origin, Shortage, Verdict as Replies, decide, write_verdict,
 };
 use oe_file_tables::{Faults, Format, Stop};
-use oe_ports::output::{flush, write_all};
-use oe_ports::ports::{Failed, Intake, Outlet};
+use oe_io::output::{flush, write_all};
+use oe_io::ports::{Failed, Intake, Outlet};
 use oe_store::Tables;
 use oe_texts::{LONGEST, Pending};
 use std::alloc::Global;

@@ -12,7 +12,7 @@ use crate::reports::Report;
 use crate::rows::ComparedRow;
 use crate::sides::{Comparing, RowWalk, Turn, compare_sides, one_more};
 use oe_file_tables::{Batches, RowLine, Walk};
-use oe_ports::dumps::DumpedRow;
+use oe_io::dumps::DumpedRow;
 use oe_rows::Table;
 use oe_table::shelf_walks::Rows;
 use oe_texts::Pending;

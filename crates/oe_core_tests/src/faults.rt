@@ -3,7 +3,7 @@
 //! on by `?`.
 ghost use Rattle.std.specs.Prelude.{None};
 
-use oe_ports::ports::{Failed, Intake, Outlet};
+use oe_io::ports::{Failed, Intake, Outlet};
 use oe_script::script::run_script;
 use oe_script::session::ScriptFault;
 use std::alloc::Global;

@@ -2,8 +2,8 @@
 use Rattle.std.proofs.Common.{◌≡◌, ℕ, ◌+◌, ◌-◌, List, [], ◌∷◌, ◌++◌, length, take, drop, codes, sym, ap, ◌∙◌, refl}
 use Rattle.std.proofs.Common.{append_assoc, arith, Option, Result, Ok, Err}
 use Rattle.std.proofs.lemmas.List.{length-append, take_all}
-use Rattle.oe_ports.specs.Ports.{Sink, Sent, Streams}
-use Rattle.oe_ports.proofs.Streaming.{sent_then, sent_cut}
+use Rattle.oe_io.specs.Ports.{Sink, Sent, Streams}
+use Rattle.oe_io.proofs.Streaming.{sent_then, sent_cut}
 use Rattle.oe_requests.specs.declared.replies.Reply.{Reply}
 use Rattle.oe_requests.specs.declared.answers.Answer.TheVariants as answer
 use Rattle.oe_texts.specs.Answer.{answer_line}

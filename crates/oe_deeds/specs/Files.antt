@@ -6,7 +6,7 @@ use Rattle.oe_lines.specs.Grammar.{request_words}
 use Rattle.oe_lines.specs.declared.commands.Command.TheVariants as asks
 use Rattle.oe_requests.specs.declared.replies.Reply.{Reply}
 use Rattle.oe_texts.specs.Reply.{reply_text}
-use Rattle.oe_words.specs.Texts.{joined, line_text}
+use Rattle.oe_lines.specs.Texts.{joined, line_text}
 use Rattle.oe_deeds.specs.declared.commits.Commit.{Commit}
 
 -- a terminal and the words of its request, and what parts them from the reply

@@ -2,19 +2,19 @@
 ghost use Rattle.std.specs.Prelude.{◌≡◌, ◌≤◌, ◌+◌, ◌++◌, ℕ, List, [], length};
 ghost use Rattle.std.specs.List.{flat_map};
 ghost use Rattle.arrayvec.specs.ArrayVec.{array_vec_len};
-ghost use Rattle.oe_ports.specs.Ports.{Streams};
+ghost use Rattle.oe_io.specs.Ports.{Streams};
 ghost use Rattle.oe_deeds.specs.Files.{asked_text, commit_front, commit_line};
 ghost use Rattle.oe_deeds.specs.Files.{commits_text, reply_line};
 
 use crate::commits::Commit;
-use oe_ports::output::{flush, make_room};
-use oe_ports::ports::{Failed, Outlet};
+use oe_io::output::{flush, make_room};
+use oe_io::ports::{Failed, Outlet};
+use oe_lines::{open_line, request};
 use oe_requests::Answer;
 use oe_rows::Scale;
 use oe_texts::columns::number;
 use oe_texts::{LONGEST, Pending, SIZE, answer, small, text};
 use oe_values::{ExtentCount, Moment};
-use oe_words::{open_line, request};
 
 // Appends what an answer has before its reply.
 fn commit_front(out: &mut Pending, moment: Moment)

@@ -8,7 +8,7 @@ use Rattle.oe_drive.specs.Runs.{DriveRan}
 use Rattle.oe_drive.specs.declared.runs.Ran.{Ran}
 use Rattle.oe_drive.specs.declared.runs.DriveFault.{DriveFault}
 use Rattle.oe_numbers.specs.declared.drives.DriveNumbers.{DriveNumbers}
-use Rattle.oe_ports.specs.Ports.{Sink, Sent, Cut}
+use Rattle.oe_io.specs.Ports.{Sink, Sent, Cut}
 use Rattle.oe_rows.specs.declared.scales.Scale.{Scale}
 
 -- its own, which is 0 where conditions hold and the population is restored; or 1 after a fault

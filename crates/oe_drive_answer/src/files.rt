@@ -6,8 +6,8 @@ ghost use Rattle.std.specs.Prelude.{None};
 ghost use Rattle.oe_answers.specs.Endings.{EndsWith};
 
 use oe_answers::{Aim, Output, fail};
-use oe_ports::faults::SystemFault;
-use oe_ports::ports::{Failed, Outlet};
+use oe_io::faults::SystemFault;
+use oe_io::ports::{Failed, Outlet};
 use std::io;
 use std::io::Write;
 

@@ -27,7 +27,7 @@ use Rattle.oe_model.specs.Changes.{Change, InsertHistory, InsertNewOrder, Insert
 use Rattle.oe_model.specs.Changes.{UpdateDistrict, UpdateCustomer, UpdateOrder, UpdateOrderLine, UpdateStock}
 use Rattle.oe_model.specs.Changes.{DeleteNewOrder, key_of, row_of, changed, Record, InsertedHistory, InsertedNewOrder}
 use Rattle.oe_model.specs.Changes.{InsertedOrder, InsertedOrderLine, UpdatedWarehouse, UpdatedDistrict, UpdatedCustomer}
-use Rattle.oe_model.specs.Changes.{UpdatedOrder, UpdatedOrderLine, UpdatedStock, DeletedNewOrder, record_of, record_key}
+use Rattle.oe_model.specs.Changes.{UpdatedOrder, UpdatedOrderLine, UpdatedStock, DeletedNewOrder, record_key}
 use Rattle.oe_model.specs.Changes.{restore, put_back, record_in, columns_before, with_columns}
 use Rattle.oe_model.specs.Changes.{ChangedWarehouse, ChangedDistrict, ChangedCustomer, ChangedOrder, ChangedOrderLine}
 use Rattle.oe_model.specs.Changes.{ChangedStock}
@@ -39,6 +39,7 @@ use Rattle.oe_model.proofs.RowFacts.{key_true, key_refl, at_changed, at_put_back
 use Rattle.oe_model.proofs.PresenceFacts.{some-map, mapped_absent}
 use Rattle.oe_model.proofs.ChangeFacts.{accepted_meets}
 use Rattle.oe_change.specs.PutBack.{Stands}
+use Rattle.oe_change.proofs.UndoFacts.{stands}
 use Rattle.oe_engine.specs.GoesBack.{CanUnwind, CanUnwindAll}
 use Rattle.oe_engine.specs.Covered.{IsWhole, FindsNewest, put_newest, HaveNone, Unwinds}
 use Rattle.oe_engine.proofs.LockFacts.{set_own, set_at, set_twice}
@@ -97,38 +98,9 @@ stands_same (ChangedOrder k v) r s e h = subst (λ (o : Option Row). IsSome o) e
 stands_same (ChangedOrderLine k v) r s e h = subst (λ (o : Option Row). IsSome o) e h
 stands_same (ChangedStock k v) r s e h = subst (λ (o : Option Row). IsSome o) e h
 
--- and where a change was just made its record finds it
-stands_left : (c : Change) (v : Option Row) (r : Rows) → row_at r (key_of c) ≡ row_of c → Stands (record_of c v) r
-stands_left (InsertHistory k x) v r e = ap is_some e
-stands_left (InsertNewOrder k x) v r e = ap is_some e
-stands_left (InsertOrder k x) v r e = ap is_some e
-stands_left (InsertOrderLine k x) v r e = ap is_some e
-stands_left (UpdateWarehouse k x) v r e = ap is_some e
-stands_left (UpdateDistrict k x) v r e = ap is_some e
-stands_left (UpdateCustomer k x) v r e = ap is_some e
-stands_left (UpdateOrder k x) v r e = ap is_some e
-stands_left (UpdateOrderLine k x) v r e = ap is_some e
-stands_left (UpdateStock k x) v r e = ap is_some e
-stands_left (DeleteNewOrder k) v r e = mapped_absent row.NewOrder _ e
-
-stands_in : (l : Layout) (c : Change) (v : Option Row) (r : Rows) → row_at r (key_of c) ≡ row_of c
-    → Stands (record_in l c v) r
-stands_in WholeRows c v r e = stands_left c v r e
-stands_in ChangedColumns (InsertHistory k x) v r e = ap is_some e
-stands_in ChangedColumns (InsertNewOrder k x) v r e = ap is_some e
-stands_in ChangedColumns (InsertOrder k x) v r e = ap is_some e
-stands_in ChangedColumns (InsertOrderLine k x) v r e = ap is_some e
-stands_in ChangedColumns (UpdateWarehouse k x) v r e = ap is_some e
-stands_in ChangedColumns (UpdateDistrict k x) v r e = ap is_some e
-stands_in ChangedColumns (UpdateCustomer k x) v r e = ap is_some e
-stands_in ChangedColumns (UpdateOrder k x) v r e = ap is_some e
-stands_in ChangedColumns (UpdateOrderLine k x) v r e = ap is_some e
-stands_in ChangedColumns (UpdateStock k x) v r e = ap is_some e
-stands_in ChangedColumns (DeleteNewOrder k) v r e = mapped_absent row.NewOrder _ e
-
 pub stands_made : (l : Layout) (c : Change) (r : Rows) → Stands (record_on system l c r) (changed c r)
 stands_made l c r =
-    stands_in l c (row_at r (key_of c)) (changed c r)
+    stands l c (row_at r (key_of c)) (changed c r)
     (at_changed c r (key_of c) ∙ ap (λ z. cond z (row_of c) (row_at r (key_of c))) (key_refl (key_of c)))
 
 -- an accepted update has its row before

@@ -7,8 +7,8 @@ use Rattle.oe_lines.specs.declared.commands.Command.{Command}
 use Rattle.oe_lines.specs.declared.commands.Command.TheVariants as command
 use Rattle.oe_model.specs.System.{system}
 use Rattle.oe_theory.specs.World.{World}
-use Rattle.oe_ports.specs.Ports.{Sink, Sent, Cut, Streams}
-use Rattle.oe_ports.proofs.Streaming.{sent_none, sent_then, sent_cut, cut_more}
+use Rattle.oe_io.specs.Ports.{Sink, Sent, Cut, Streams}
+use Rattle.oe_io.proofs.Streaming.{sent_none, sent_then, sent_cut, cut_more}
 use Rattle.oe_reasons.specs.Reasons.{is_opening, IsTaken}
 use Rattle.oe_script.specs.Script.{State, Asks, IsAllowed}
 use Rattle.oe_script.specs.Hearing.{Heard, HearsEach}

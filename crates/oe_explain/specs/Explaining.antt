@@ -1,7 +1,7 @@
 -- What is said of the lines that are answered `BadLine`.
 use Rattle.std.specs.Prelude.{◌≡◌, ℕ, ◌≤◌, Bool, true, false, List, [], ◌∷◌, ◌++◌, Option, codes, decimal, length}
 use Rattle.oe_lines.specs.declared.commands.Command.{Command}
-use Rattle.oe_ports.specs.Ports.{Sink, Sent, Cut}
+use Rattle.oe_io.specs.Ports.{Sink, Sent, Cut}
 use Rattle.oe_reasons.specs.declared.reasons.Reason.{Reason}
 use Rattle.oe_reasons.specs.Reasons.{IsReason, IsTaken}
 use Rattle.oe_reasons.specs.Texts.{reason_text}

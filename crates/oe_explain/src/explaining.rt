@@ -1,15 +1,15 @@
 //! Who hears of lines that are answered `BadLine`, and says why they are.
 ghost use Rattle.std.specs.Prelude.{◌≡◌, ◌≤◌, ◌+◌, ◌++◌, ℕ, List, [], length, decimal, false, None};
 ghost use Rattle.arrayvec.specs.ArrayVec.{array_vec_len};
-ghost use Rattle.oe_ports.specs.Ports.{Streams};
+ghost use Rattle.oe_io.specs.Ports.{Streams};
 ghost use Rattle.oe_script.specs.Hearing.{IsBad};
 ghost use Rattle.oe_script.specs.Session.{ScriptHeard};
 ghost use Rattle.oe_explain.specs.Explaining.{Explains, IsLineWhy, IsUntaken, IsWhy, Said, SaysOne};
 
 use arrayvec::ArrayVec;
 use itoa::Buffer;
-use oe_ports::output::flush;
-use oe_ports::ports::{Failed, Intake, Outlet};
+use oe_io::output::flush;
+use oe_io::ports::{Failed, Intake, Outlet};
 use oe_reasons::{tell, why};
 use oe_script::listeners::{Listener, Place};
 use oe_script::script::hear_script;

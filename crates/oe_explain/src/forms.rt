@@ -1,11 +1,11 @@
 //! The forms of lines, for a person who asks for them.
 ghost use Rattle.std.specs.Prelude.{[]};
-ghost use Rattle.oe_ports.specs.Ports.{Streams};
+ghost use Rattle.oe_io.specs.Ports.{Streams};
 ghost use Rattle.oe_reasons.specs.Shapes.{forms_text};
 
 use arrayvec::ArrayVec;
-use oe_ports::output::flush;
-use oe_ports::ports::{Failed, Outlet};
+use oe_io::output::flush;
+use oe_io::ports::{Failed, Outlet};
 use oe_reasons::list_forms;
 use oe_texts::Pending;
 

@@ -5,7 +5,7 @@ use Rattle.std.proofs.lemmas.Bool.{eq-eqb, ne_eqb}
 use Rattle.std.specs.Prelude.{unwrap_or}
 use Rattle.oe_columns.specs.declared.constants.Wanted.{Wanted}
 use Rattle.oe_columns.specs.declared.prints.RowFact.{RowFact}
-use Rattle.oe_ports.specs.Ports.{Sink}
+use Rattle.oe_io.specs.Ports.{Sink}
 use Rattle.oe_sources.specs.Fault.{Told}
 use Rattle.oe_books.specs.Closing.{IsReady}
 use Rattle.oe_books.specs.declared.closing.Lack.{Lack}

@@ -7,7 +7,7 @@ use Rattle.oe_fields.specs.declared.fields.Format.{Format}
 use Rattle.oe_fields.specs.declared.fields.Format.TheVariants.{Tabs}
 use Rattle.oe_columns.specs.declared.constants.Wanted.{Wanted}
 use Rattle.oe_columns.specs.declared.prints.RowFact.{RowFact}
-use Rattle.oe_ports.specs.Ports.{Sink, Sent, Cut}
+use Rattle.oe_io.specs.Ports.{Sink, Sent, Cut}
 use Rattle.oe_audit_report.specs.Report.{failing}
 use Rattle.oe_audit_report.specs.Forms.{report_of}
 use Rattle.oe_sources.specs.Fault.{Told}

@@ -18,7 +18,7 @@ use oe_audit_report::{Form, counted, write_report};
 use oe_books::{Asked, Books, Closed, Lack, Settled};
 use oe_earlier::Compared;
 use oe_fields::Format;
-use oe_ports::ports::Outlet;
+use oe_io::ports::Outlet;
 use oe_sources::Faults;
 use std::alloc::Global;
 use std::io::Read;

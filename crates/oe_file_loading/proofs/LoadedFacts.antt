@@ -1,7 +1,7 @@
 -- Tables that are loaded one after another.
 use Rattle.std.proofs.Common.{◌≡◌, ℕ, zero, suc, ◌<◌, List, [], ◌∷◌, ap, sym, subst, refl, arith}
 use Rattle.std.specs.Prelude.{Option}
-use Rattle.oe_ports.specs.Ports.{Source}
+use Rattle.oe_io.specs.Ports.{Source}
 use Rattle.oe_rows.proofs.KeyFacts.{customer_total, history_total, new_order_total, order_total, order_line_total}
 use Rattle.oe_rows.proofs.KeyFacts.{item_total, stock_total}
 use Rattle.oe_rows.specs.declared.keys.Key.{Key}

@@ -1,6 +1,6 @@
 -- What is loaded: the rows of nine files, put table after table.
 use Rattle.std.specs.Prelude.{◌≡◌, ◌<◌, ℕ, List, [], ◌∷◌, length, Option}
-use Rattle.oe_ports.specs.Ports.{Source}
+use Rattle.oe_io.specs.Ports.{Source}
 use Rattle.oe_rows.specs.Key.{warehouse_cmp, district_cmp, customer_cmp, history_cmp, new_order_cmp, order_cmp}
 use Rattle.oe_rows.specs.Key.{order_line_cmp, item_cmp, stock_cmp}
 use Rattle.std.specs.FinMap.{FinMap, insert}

@@ -1,6 +1,6 @@
 -- The nine files.
 use Rattle.std.specs.Prelude.{◌≡◌, Option}
-use Rattle.oe_ports.specs.Ports.{Source}
+use Rattle.oe_io.specs.Ports.{Source}
 use Rattle.oe_file_loading.specs.declared.loading.Sources.{Sources}
 
 -- what is left to read of nine files

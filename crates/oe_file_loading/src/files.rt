@@ -1,11 +1,11 @@
 //! A table's file: it is read while it is open, and a read that fails closes it for that cause.
 ghost use Rattle.std.specs.Prelude.{◌≡◌, ◌≤◌, length, IfOk, None};
-ghost use Rattle.oe_ports.specs.Ports.{Reads};
+ghost use Rattle.oe_io.specs.Ports.{Reads};
 ghost use Rattle.oe_file_loading.specs.Files.{HandsOn, reader_of, cause_of};
 
 use crate::loading::Sources;
 use crate::pace::Pace;
-use oe_ports::ports::{Failed, Intake};
+use oe_io::ports::{Failed, Intake};
 use oe_rows::Table;
 use std::io;
 use std::io::Read;

@@ -15,7 +15,7 @@ use crate::counts::RowCounts;
 use crate::places::Placing;
 use crate::putting::{keep_homes, put_rows};
 use oe_file_tables::{Batches, Faults, Format, RowLine, Stop, read_table_as};
-use oe_ports::ports::Intake;
+use oe_io::ports::Intake;
 use oe_rows::{
     Customer, CustomerKey, District, DistrictKey, History, HistoryKey, Item, ItemKey, Key,
     NewOrder, NewOrderKey, Order, OrderKey, OrderLine, OrderLineKey, Stock, StockKey, Warehouse,

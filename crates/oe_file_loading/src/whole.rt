@@ -9,7 +9,7 @@ ghost use Rattle.oe_file_tables.specs.declared.formats.Format.{Format};
 
 use crate::loading::{Apart, LoadError, Loaded, Sources, load};
 use oe_file_tables::Format;
-use oe_ports::ports::Intake;
+use oe_io::ports::Intake;
 use oe_store::Tables;
 use std::alloc::Global;
 

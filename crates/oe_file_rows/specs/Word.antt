@@ -8,7 +8,7 @@ use Rattle.std.specs.Str.{bytes_eq}
 use Rattle.oe_values.specs.Front.{◌>>=◌, after_of, pair_of, decimal_of, alone}
 use Rattle.oe_rows.specs.declared.customers.Credit.{Credit}
 use Rattle.oe_rows.specs.declared.customers.Credit.TheVariants.{Good, Bad}
-use Rattle.oe_fronts.specs.ColumnFronts.{checked}
+use Rattle.oe_decode.specs.ColumnFronts.{checked}
 use Rattle.oe_lines.specs.Words.{within, stamp_of}
 use Rattle.oe_file_rows.specs.declared.forms.Form.{Form}
 use Rattle.oe_file_rows.specs.declared.forms.Form.TheVariants as form

@@ -1,7 +1,7 @@
 //! The texts of columns, each read whole.
 ghost use Rattle.std.specs.Prelude.{◌≡◌, ◌==◌, ◌<◌, ◌*◌, ◌+◌, ◌^◌, IfSome, length};
 ghost use Rattle.std.specs.List.{list_all};
-ghost use Rattle.oe_fronts.specs.ColumnFronts.{checked};
+ghost use Rattle.oe_decode.specs.ColumnFronts.{checked};
 ghost use Rattle.oe_lines.specs.Words.{stamp_of, within};
 ghost use Rattle.oe_file_rows.specs.Word.{is_word, number_of, number_within, cents_of, money_of, owed, owned, balance_of, rate_of, credit_of, flag_of, is_no_fraction, parted_of, stamp_at, is_null};
 

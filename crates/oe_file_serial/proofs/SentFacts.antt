@@ -1,7 +1,7 @@
 -- What is written of a verdict.
 use Rattle.std.proofs.Common.{◌≡◌, ℕ, List, [], ◌++◌, Option, Some, None, Result, Ok, Err, sym, ap, ◌∙◌}
 use Rattle.std.proofs.lemmas.List.{append-nil}
-use Rattle.oe_ports.specs.Ports.{Sink, Sent, Cut, Streams}
+use Rattle.oe_io.specs.Ports.{Sink, Sent, Cut, Streams}
 use Rattle.oe_file_serial.specs.Verdicts.{IsShort, IsDecided}
 use Rattle.oe_file_serial.specs.declared.origins.Origin.{Origin}
 use Rattle.oe_file_serial.specs.declared.verdicts.Verdict.{Verdict}

@@ -6,7 +6,7 @@ use Rattle.oe_model.specs.Rows.{Rows}
 use Rattle.oe_model.specs.Conditions.{IsPopulation}
 use Rattle.oe_model.specs.Population.{IsPopulated}
 use Rattle.oe_model.specs.System.{system}
-use Rattle.oe_ports.specs.Ports.{Sink, Sent, Cut}
+use Rattle.oe_io.specs.Ports.{Sink, Sent, Cut}
 use Rattle.oe_store.specs.Places.{rows}
 use Rattle.oe_file_serial.specs.InOrder.{Between, at_first}
 use Rattle.oe_file_serial.specs.declared.lines.Asked.{Asked}

@@ -1,13 +1,13 @@
 //! What is told of the lines of a file that have no form: a line for each, on an output.
 ghost use Rattle.std.specs.Prelude.{◌≡◌, []};
 ghost use Rattle.std.specs.List.{flat_map};
-ghost use Rattle.oe_ports.specs.Ports.{Streams};
+ghost use Rattle.oe_io.specs.Ports.{Streams};
 ghost use Rattle.oe_file_serial.specs.BadTexts.{bad_line_text, bad_lines_text, more_text};
 
 use crate::lines::BadLines;
 use crate::reasons::{BadLine, bad_line};
-use oe_ports::output::flush;
-use oe_ports::ports::{Failed, Outlet};
+use oe_io::output::flush;
+use oe_io::ports::{Failed, Outlet};
 use oe_reply_words::decimal;
 use oe_texts::{Pending, text};
 

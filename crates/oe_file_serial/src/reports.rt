@@ -1,14 +1,14 @@
 //! What is told of a file: a line on the output where it is decided, and an exit status.
 ghost use Rattle.std.specs.Prelude.{◌≡◌, ◌≤◌, ◌++◌, [], length};
-ghost use Rattle.oe_ports.specs.Ports.{Streams};
+ghost use Rattle.oe_io.specs.Ports.{Streams};
 ghost use Rattle.oe_file_serial.specs.Verdicts.{verdict_text, status_of, IsShort, IsOrigin, SerialRan};
 
 use crate::origins::Origin;
 use crate::texts::{differs_line, serial_line};
 use crate::verdicts::{Shortage, Verdict, decide};
 use arrayvec::ArrayVec;
-use oe_ports::output::flush;
-use oe_ports::ports::{Failed, Outlet};
+use oe_io::output::flush;
+use oe_io::ports::{Failed, Outlet};
 use oe_reply_words::other_line;
 use oe_texts::{LONGEST, Pending};
 use std::alloc::Global;

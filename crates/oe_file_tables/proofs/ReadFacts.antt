@@ -3,7 +3,7 @@ use Rattle.std.proofs.Common.{◌≡◌, ◌≢◌, ℕ, ◌+◌, ◌<◌, ◌�
 use Rattle.std.proofs.Common.{◌++◌, length, take, drop, get_or, Option, Some, None, sym, ap, subst, ◌∙◌, refl}
 use Rattle.std.proofs.Common.{append_assoc, arith}
 use Rattle.std.specs.Prelude.{All, ⊤, Result, Ok, Err}
-use Rattle.oe_ports.specs.Ports.{Source, Reads}
+use Rattle.oe_io.specs.Ports.{Source, Reads}
 use Rattle.std.specs.List.{flat_map}
 use Rattle.std.proofs.lemmas.List.{append-nil, length_push, drop_more, get_or-take, get_or_default, length-take-le}
 use Rattle.std.proofs.lemmas.List.{take-append-drop}

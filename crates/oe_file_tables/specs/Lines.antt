@@ -5,7 +5,7 @@ use Rattle.std.specs.Prelude.{codes, ⊤, Option, Some, None}
 use Rattle.std.specs.List.{flat_map}
 use Rattle.oe_rows.specs.declared.keys.Table.{Table}
 use Rattle.oe_values.specs.Front.{◌>>=◌, after_of, decimal_of, alone}
-use Rattle.oe_ports.specs.Ports.{Source}
+use Rattle.oe_io.specs.Ports.{Source}
 use Rattle.oe_file_tables.specs.declared.faults.TableFault.{TableFault}
 use Rattle.oe_file_tables.specs.declared.faults.Wrong.{Wrong}
 use Rattle.oe_file_tables.specs.declared.faults.Wrong.TheVariants as wrong

@@ -3,7 +3,7 @@
 //! A line that can't be read is a fault, and is passed. A line of more than 4,096 bytes is not
 //! kept.
 ghost use Rattle.std.specs.Prelude.{◌≡◌, ◌≢◌, ◌<◌, ◌≤◌, ◌+◌, ◌++◌, ◌∷◌, [], ◌⊎◌, ℕ, List, length, true, false, OnOk, IfOk, IfSome, ◌^◌};
-ghost use Rattle.oe_ports.specs.Ports.{Source};
+ghost use Rattle.oe_io.specs.Ports.{Source};
 ghost use Rattle.oe_file_tables.specs.declared.faults.Wrong.TheVariants as wrong;
 ghost use Rattle.oe_file_tables.specs.declared.faults.TableFault.{TableFault};
 ghost use Rattle.oe_file_tables.specs.Fault.{Told, shown, pushed};
@@ -20,7 +20,7 @@ use crate::rows::RowLine;
 use arrayvec::ArrayVec;
 use memchr::memchr;
 use oe_file_rows::LineFault;
-use oe_ports::ports::Intake;
+use oe_io::ports::Intake;
 use oe_rows::Table;
 use oe_values::TableKey;
 use oe_values::fronts::{after, decimal};

@@ -11,7 +11,7 @@ use crate::faults::{Faults, TableFault, Wrong};
 use crate::formats::Format;
 use crate::lines::{Numbered, Stop, read_file};
 use crate::rows::RowLine;
-use oe_ports::ports::Intake;
+use oe_io::ports::Intake;
 use oe_values::{NoMemory, TableKey};
 use std::alloc::Global;
 

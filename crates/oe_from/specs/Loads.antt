@@ -1,13 +1,13 @@
 -- What a load comes to that begins on the population of a folder.
 use Rattle.std.specs.Prelude.{◌≡◌, Option, Result, Ok, Err}
 use Rattle.oe_rows.specs.declared.scales.Scale.{Scale}
-use Rattle.oe_ports.specs.Ports.{Sink}
+use Rattle.oe_io.specs.Ports.{Sink}
 use Rattle.oe_store.specs.Places.{Places, rows}
 use Rattle.oe_file_tables.specs.declared.formats.Format.{Format}
 use Rattle.oe_file_loading.specs.Loading.{Nine}
 use Rattle.oe_origin.specs.Populations.{IsOpenedOn, IsNoPopulation}
 use Rattle.oe_numbers.specs.declared.forms.Form.{Form}
-use Rattle.oe_plans.specs.declared.plans.Plan.{Plan}
+use Rattle.oe_terms.specs.declared.plans.Plan.{Plan}
 use Rattle.oe_load.specs.Ends.{LoadRan}
 use Rattle.oe_load.specs.declared.origins.Origin.TheVariants as origin
 use Rattle.oe_from.specs.Scales.{HasScale, LacksFor}

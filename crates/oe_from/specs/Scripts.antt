@@ -4,7 +4,7 @@ use Rattle.oe_theory.specs.Theorems.{opened}
 use Rattle.oe_rows.specs.declared.layouts.Layout.{Layout}
 use Rattle.oe_model.specs.Rows.{Rows}
 use Rattle.oe_model.specs.System.{system}
-use Rattle.oe_ports.specs.Ports.{Source, Sink}
+use Rattle.oe_io.specs.Ports.{Source, Sink}
 use Rattle.oe_file_tables.specs.declared.formats.Format.{Format}
 use Rattle.oe_file_loading.specs.Loading.{Nine}
 use Rattle.oe_origin.specs.Populations.{IsOpenedOn, IsNoPopulation}

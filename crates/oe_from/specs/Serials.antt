@@ -1,6 +1,6 @@
 -- What a file of replies comes to that is decided from the population of a folder.
 use Rattle.std.specs.Prelude.{◌≡◌, ℕ, List, Option, Result, Ok, Err}
-use Rattle.oe_ports.specs.Ports.{Sink}
+use Rattle.oe_io.specs.Ports.{Sink}
 use Rattle.oe_store.specs.Places.{Places, rows}
 use Rattle.oe_file_tables.specs.declared.formats.Format.{Format}
 use Rattle.oe_file_loading.specs.Loading.{Nine}

@@ -2,12 +2,12 @@
 ghost use Rattle.std.specs.Prelude.{◌≡◌, ◌≤◌, ◌+◌, ◌++◌, []};
 ghost use Rattle.arrayvec.specs.ArrayVec.{array_vec_len};
 ghost use Rattle.oe_model.specs.Population.{last_name};
-ghost use Rattle.oe_ports.specs.Ports.{Streams};
+ghost use Rattle.oe_io.specs.Ports.{Streams};
 ghost use Rattle.oe_from.specs.Gaps.{name_text, gap_text, gap_line};
 
 use crate::scales::{Gap, NameNumber};
-use oe_ports::output::flush;
-use oe_ports::ports::{Failed, Outlet};
+use oe_io::output::flush;
+use oe_io::ports::{Failed, Outlet};
 use oe_rows::{DistrictKey, Key};
 use oe_terms::names::name_of;
 use oe_texts::{Pending, SIZE, keys, text};

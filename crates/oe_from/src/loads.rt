@@ -7,12 +7,12 @@ use crate::scales::{Gap, scale_of};
 use crate::serials::FromFault;
 use oe_file_loading::Sources;
 use oe_file_tables::Format;
+use oe_io::ports::{Intake, Outlet};
 use oe_load::{LoadFault, Origin, run_load};
 use oe_numbers::{FollowingNumbers, Form, Items, Kinds, LoadNumbers, Ordinal};
 use oe_origin::load_population;
-use oe_plans::Plan;
-use oe_ports::ports::{Intake, Outlet};
 use oe_rows::Scale;
+use oe_terms::Plan;
 use std::alloc::Global;
 
 /// Why a load on a folder's population is not told whole.

@@ -6,8 +6,8 @@ use oe_comparison::{ComparisonFault, Verdict as ComparisonVerdict, run_compariso
 use oe_file_loading::Sources;
 use oe_file_serial::{Origin, SerialFault, Verdict, run_serial};
 use oe_file_tables::Format;
+use oe_io::ports::{Intake, Outlet};
 use oe_origin::{NoPopulation, load_population};
-use oe_ports::ports::{Intake, Outlet};
 use std::alloc::Global;
 
 /// Why a command that begins with the population of a folder does not end well.

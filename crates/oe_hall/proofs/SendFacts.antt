@@ -18,7 +18,7 @@ use Rattle.oe_hall.specs.contracts.hall.Hall.{the_row as hall_row}
 use Rattle.oe_hall.specs.contracts.hall.Hall.TheInside as hall
 use Rattle.oe_hall.specs.contracts.shop.Front.{the_row as front_row}
 use Rattle.oe_hall.specs.contracts.shop.Front.TheInside as front
-use Rattle.oe_hall.proofs.counts.Books.TheSendSync as books
+use Rattle.oe_hall.proofs.counts.Totals.TheSendSync as totals
 
 module _ (J : RattleType) (j : Naming.Ghosts J.Denot) where
   recorded_is_sent : IsSend core_row → IsSend (recorded_row J j)
@@ -32,7 +32,7 @@ module _ (J : RattleType) (j : Naming.Ghosts J.Denot) where
       (struct_send (shape (hall.the_type J j)) (
         recorded_is_sent core_send,
         (
-          books.the_send J j,
+          totals.the_send J j,
           (
             arc.the_send _ _ _ moments.the_send heap.the_send moments.the_sync heap.the_sync frees,
             (keeper.the_send, tt),

@@ -162,8 +162,8 @@ AreSums desks c =
     × (c.rolled_back ≡ sum_by rolled_back_by desks)
 
 -- that many desks' counts can be added to these
-abbrev pub HasRoom : Counted → ℕ → Type 0
-HasRoom c n =
+abbrev pub HasRoomToCount : Counted → ℕ → Type 0
+HasRoomToCount c n =
     (c.begun + n * most_begun < 2 ^ 64) × (c.committed + n * most_begun < 2 ^ 64)
     × (c.rolled_back + n * most_begun < 2 ^ 64)
 

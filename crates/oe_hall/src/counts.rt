@@ -2,7 +2,7 @@
 //! committed and were rolled back.
 //!
 //! A `Told` has as many parts of each ledger, by its invariant. What all parts were told is the
-//! total in the `Books`. Nothing can fail, and nothing takes memory or room.
+//! total in the `Totals`. Nothing can fail, and nothing takes memory or room.
 ghost use Rattle.std.specs.Prelude.{◌≡◌, ◌+◌, ◌<◌, ◌≤◌, ◌^◌};
 ghost use Rattle.oe_hall.specs.Counts.{Counts, Tally, none, untold, tally, with_one_more, AreTotals, begun_once, committed_once, rolled_back_once, told_begun, told_committed, told_rolled_back};
 
@@ -109,13 +109,13 @@ impl Counted {
 
 /// The totals of what all hands were told.
 #[derive(Drop)]
-pub struct Books<J: Naming> {
+pub struct Totals<J: Naming> {
     begun: Book<Begins<J>>,
     committed: Book<Commits<J>>,
     rolled_back: Book<Rollbacks<J>>,
 }
 
-impl<J: Naming> Model for Books<J> {
+impl<J: Naming> Model for Totals<J> {
     ghost Value = { Counts };
 
     ghost view = { λ b. record {
@@ -129,17 +129,17 @@ impl<J: Naming> Model for Books<J> {
 
 /// Ledgers that are not opened yet, each with a part for every desk and one for the shop.
 #[derive(Drop)]
-pub(crate) struct Blanks {
+pub(crate) struct UnopenedLedgers {
     begun: Blank,
     committed: Blank,
     rolled_back: Blank,
     ghost parts: { (begun.parts ≡ 65) × (committed.parts ≡ 65) × (rolled_back.parts ≡ 65) },
 }
 
-impl Blanks {
+impl UnopenedLedgers {
     /// Makes blank ledgers.
-    pub(crate) fn new() -> Blanks {
-        Blanks {
+    pub(crate) fn new() -> UnopenedLedgers {
+        UnopenedLedgers {
             begun: Blank::new(PARTS),
             committed: Blank::new(PARTS),
             rolled_back: Blank::new(PARTS),
@@ -148,32 +148,32 @@ impl Blanks {
 }
 
 /// Opens the ledgers: no total yet, and all parts in one hand.
-pub(crate) fn open_books<J: Naming>(blanks: Blanks) -> (Books<J>, Told<J>)
-    requires begun { blanks.begun.name ≡ J.names.begun }
-    requires committed { blanks.committed.name ≡ J.names.committed }
-    requires rolled_back { blanks.rolled_back.name ≡ J.names.rolled_back }
+pub(crate) fn open_ledgers<J: Naming>(unopened: UnopenedLedgers) -> (Totals<J>, Told<J>)
+    requires begun { unopened.begun.name ≡ J.names.begun }
+    requires committed { unopened.committed.name ≡ J.names.committed }
+    requires rolled_back { unopened.rolled_back.name ≡ J.names.rolled_back }
     ensures { (result.0 ≡ none) × (result.1 ≡ untold 65) }
 {
-    let Blanks {
+    let UnopenedLedgers {
         begun,
         committed,
         rolled_back,
         ..
-    } = blanks;
-    let (begun_book, begun) = begun.open::<Begins<J>>();
-    let (committed_book, committed) = committed.open::<Commits<J>>();
-    let (rolled_back_book, rolled_back) = rolled_back.open::<Rollbacks<J>>();
-    let books = Books {
-        begun: begun_book,
-        committed: committed_book,
-        rolled_back: rolled_back_book,
+    } = unopened;
+    let (begun_total, begun) = begun.open::<Begins<J>>();
+    let (committed_total, committed) = committed.open::<Commits<J>>();
+    let (rolled_back_total, rolled_back) = rolled_back.open::<Rollbacks<J>>();
+    let totals = Totals {
+        begun: begun_total,
+        committed: committed_total,
+        rolled_back: rolled_back_total,
     };
     let told = Told {
         begun,
         committed,
         rolled_back,
     };
-    (books, told)
+    (totals, told)
 }
 
 impl<J: Naming> Told<J> {
@@ -206,7 +206,7 @@ impl<J: Naming> Told<J> {
     }
 }
 
-impl<J: Naming> Books<J> {
+impl<J: Naming> Totals<J> {
     /// Counts a transaction that was begun, and that this hand is told of it.
     pub(crate) fn add_begun(&mut self, told: &mut Told<J>)
         requires { 0 < told.old.parts }

@@ -18,7 +18,7 @@ ghost use Rattle.oe_hall.specs.Counts.{none, AreTotals};
 ghost use Rattle.oe_hall.specs.Histories.{IsHistory, HasHappened, is_open};
 ghost use Rattle.oe_hall.specs.Turns.{IsHall, BeginCall, AdvanceCall, EndCall, ReadCall, PurgeCall, BeginLeaves, AdvanceLeaves, EndLeaves, open_count, BeginTurn, AdvanceTurn, LeavesReply, EndTurn, ReadTurn, PurgeTurn, begin_told, told_of, end_told, IsYoung};
 
-use crate::counts::{Books, Told};
+use crate::counts::{Told, Totals};
 use crate::naming::Naming;
 use crate::records::Recorded;
 use oe_core::{Advanced, Core};
@@ -32,7 +32,7 @@ use std::sync::Arc;
 /// The hall of a shop. It can't be dropped, since the core can't.
 pub struct Hall<J: Naming> {
     recorded: Recorded<J>,
-    books: Books<J>,
+    totals: Totals<J>,
     moments: Arc<Moments>,
     keeper: KeeperSeat,
 }
@@ -55,12 +55,13 @@ impl<J: Naming> Model for Hall<J> {
     ghost view = { λ h. record {
       core = h.recorded.core;
       history = h.recorded.history;
-      counts = h.books;
+      counts = h.totals;
       keeper = h.keeper.notes;
       words = arc_value h.moments;
     } };
 
-    ghost invariant = { λ h. AreCounts h.books (world_of h.recorded.core) × (h.keeper.words ≡ arc_value h.moments)
+    ghost invariant = { λ h. AreCounts h.totals (world_of h.recorded.core)
+        × (h.keeper.words ≡ arc_value h.moments)
         × (h.keeper.notes.horizon ≡ horizon system (world_of h.recorded.core))
         × AreOfDesks (arc_value h.moments) 64 × (arc_value h.moments ≡ J.names.words)
         × ((world_of h.recorded.core).layout ≡ J.names.layout)
@@ -71,7 +72,7 @@ impl<J: Naming> Hall<J> {
     /// Makes a hall of a core that has begun nothing, and of words that nothing is told of.
     pub(crate) fn new(
         recorded: Recorded<J>,
-        books: Books<J>,
+        totals: Totals<J>,
         moments: Arc<Moments>,
         keeper: KeeperSeat,
     ) -> Hall<J>
@@ -79,7 +80,7 @@ impl<J: Naming> Hall<J> {
         requires quiet { open_count (world_of recorded.core) ≡ 0 }
         requires horizon { horizon system (world_of recorded.core) ≡ 0 }
         requires dealt { recorded.history.dealt ≡ 65 }
-        requires books { books ≡ none }
+        requires totals { totals ≡ none }
         requires keeper { keeper ≡ record { words = arc_value moments; notes = at_start } }
         requires words { AreOfDesks (arc_value moments) 64 }
         requires naming { arc_value moments ≡ J.names.words }
@@ -94,7 +95,7 @@ impl<J: Naming> Hall<J> {
     {
         Hall {
             recorded,
-            books,
+            totals,
             moments,
             keeper,
         }
@@ -122,7 +123,7 @@ impl<J: Naming> Hall<J> {
         if let Err(refusal) = self.recorded.begin(caller, terminal, request) {
             return Err(refusal);
         }
-        self.books.add_begun(told);
+        self.totals.add_begun(told);
         Ok(())
     }
 
@@ -151,8 +152,8 @@ impl<J: Naming> Hall<J> {
         let ended = self.recorded.advance(caller, terminal, reply);
         match &ended {
             Advanced::More | Advanced::Kept(_) => {}
-            Advanced::Committed(_) => self.books.add_committed(told),
-            Advanced::RolledBack(_) => self.books.add_rolled_back(told),
+            Advanced::Committed(_) => self.totals.add_committed(told),
+            Advanced::RolledBack(_) => self.totals.add_rolled_back(told),
         }
         ended
     }
@@ -179,7 +180,7 @@ impl<J: Naming> Hall<J> {
         if let Err(refusal) = self.recorded.end(caller, terminal) {
             return Err(refusal);
         }
-        self.books.add_rolled_back(told);
+        self.totals.add_rolled_back(told);
         Ok(())
     }
 
@@ -238,7 +239,7 @@ impl<J: Naming> Hall<J> {
         ensures hall { IsHall self.old }
         ensures told { AreTotals all.old self.old.counts }
     {
-        self.books.audit(all);
+        self.totals.audit(all);
     }
 
     /// Shows that a caller's calls are the entries of its number. This is a law, and changes
@@ -261,7 +262,7 @@ impl<J: Naming> Hall<J> {
     {
         let Hall {
             recorded,
-            books: _,
+            totals: _,
             moments: _,
             keeper: _,
         } = self;

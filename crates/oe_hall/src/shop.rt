@@ -27,9 +27,9 @@ ghost use Rattle.oe_hall.specs.Counts.{untold, tally, with_one_more, AreTotals};
 ghost use Rattle.oe_hall.specs.Histories.{IsHistory, HasHappened, is_open};
 ghost use Rattle.oe_hall.specs.Turns.{TheHall, IsHall, open_count, begin_told, told_of, end_told, LeavesReply, IsYoung, BeginLeaves, AdvanceLeaves, EndLeaves};
 ghost use Rattle.oe_hall.specs.Seats.{ThePlace, TheRoom, IsHere, AreHere, HasCalled, HaveCalled, silent, fresh_seat, fresh_place, AreFresh, waiting};
-ghost use Rattle.oe_hall.specs.Desks.{TheDesk, TheShop, TheSeats, AreSums, AreOpen, begun_by, committed_by, rolled_back_by, with_told, with_reply, with_seat, with_calls, seat_for, IsOwn, Keeps, KeepsOnErr, begins, advances, ends, IsBalanced, ABegin, AnAdvance, AnEnd, ARead, AreKnown, IsNobodys, HasRoom};
+ghost use Rattle.oe_hall.specs.Desks.{TheDesk, TheShop, TheSeats, AreSums, AreOpen, begun_by, committed_by, rolled_back_by, with_told, with_reply, with_seat, with_calls, seat_for, IsOwn, Keeps, KeepsOnErr, begins, advances, ends, IsBalanced, ABegin, AnAdvance, AnEnd, ARead, AreKnown, IsNobodys, HasRoomToCount};
 
-use crate::counts::{Blanks, Counted, Told, open_books};
+use crate::counts::{Counted, Told, UnopenedLedgers, open_ledgers};
 use crate::hall::Hall;
 use crate::naming::Naming;
 use crate::purger::Purger;
@@ -104,7 +104,7 @@ pub struct Seats {
     history: History,
     purger: Caller,
     desks: Vec<Option<Place>>,
-    blanks: Blanks,
+    unopened: UnopenedLedgers,
     layout: Layout,
     shop: u32,
 }
@@ -116,9 +116,9 @@ impl Model for Seats {
       names = record {
         words = arc_value s.moments;
         history = s.history.table;
-        begun = s.blanks.begun.name;
-        committed = s.blanks.committed.name;
-        rolled_back = s.blanks.rolled_back.name;
+        begun = s.unopened.begun.name;
+        committed = s.unopened.committed.name;
+        rolled_back = s.unopened.rolled_back.name;
         layout = s.layout;
       };
       shop = s.shop;
@@ -321,7 +321,7 @@ impl Seats {
             history,
             purger,
             desks,
-            blanks: Blanks::new(),
+            unopened: UnopenedLedgers::new(),
             layout,
             shop,
         })
@@ -375,13 +375,13 @@ impl<J: Naming> Shop<J> {
             history,
             purger,
             desks,
-            blanks,
+            unopened,
             layout: _,
             shop,
         } = seats;
-        let (books, rest) = open_books::<J>(blanks);
+        let (totals, rest) = open_ledgers::<J>(unopened);
         let recorded = Recorded::new(core, history);
-        let hall = Hall::new(recorded, books, other, keeper);
+        let hall = Hall::new(recorded, totals, other, keeper);
         let shop = Shop {
             front: Front {
                 hall: Mutex::new(hall),
@@ -553,7 +553,7 @@ fn audit_list<J: Naming>(
     requires parts { all.old.parts + length desks.old.items ≡ 65 }
     requires some { 0 < all.old.parts }
     requires before { all.old ≡ tally all.old.parts before }
-    requires room { HasRoom before (length desks.old.items) }
+    requires room { HasRoomToCount before (length desks.old.items) }
     ensures same { (hall.new ≡ hall.old) × (all.new ≡ all.old) }
     ensures desks { desks.new.items ≡ desks.old.items }
     ensures hall { IsHall hall.old }
@@ -577,7 +577,7 @@ fn audit_desks<J: Naming>(
     requires parts { all.old.parts + length desks.old ≡ 65 }
     requires some { 0 < all.old.parts }
     requires before { all.old ≡ tally all.old.parts before }
-    requires room { HasRoom before (length desks.old) }
+    requires room { HasRoomToCount before (length desks.old) }
     ensures same { (hall.new ≡ hall.old) × (all.new ≡ all.old) × (desks.new ≡ desks.old) }
     ensures hall { IsHall hall.old }
     ensures counts { AreTotals (tally 1 result) hall.old.counts }
@@ -604,7 +604,7 @@ fn audit_first<J: Naming>(
     requires parts { all.old.parts + length others.old + 1 ≡ 65 }
     requires some { 0 < all.old.parts }
     requires before { all.old ≡ tally all.old.parts before }
-    requires room { HasRoom before (length others.old + 1) }
+    requires room { HasRoomToCount before (length others.old + 1) }
     ensures same { (hall.new ≡ hall.old) × (all.new ≡ all.old) × (first.new ≡ first.old)
         × (others.new ≡ others.old) }
     ensures hall { IsHall hall.old }

@@ -46,8 +46,8 @@ use Rattle.oe_image.specs.Before.{account_columns, ten_columns, warehouse_bits, 
 use Rattle.oe_image.specs.Before.{district_columns, customer_bits, customer_columns, order_bits, order_columns}
 use Rattle.oe_image.specs.Before.{order_line_bits, order_line_columns, stock_bits, stock_columns, warehouse_before}
 use Rattle.oe_image.specs.Before.{district_before, customer_before, order_before, order_line_before, stock_before}
-use Rattle.oe_fronts.specs.BeforeRanges.{IsWarehouseBefore, IsDistrictBefore, IsCustomerBefore, IsOrderBefore}
-use Rattle.oe_fronts.specs.BeforeRanges.{IsOrderLineBefore, IsStockBefore}
+use Rattle.oe_decode.specs.BeforeRanges.{IsWarehouseBefore, IsDistrictBefore, IsCustomerBefore, IsOrderBefore}
+use Rattle.oe_decode.specs.BeforeRanges.{IsOrderLineBefore, IsStockBefore}
 use Rattle.oe_model.specs.Changes as model
 use Rattle.oe_model.specs.Changes.{Record, record_key}
 use Rattle.oe_model.specs.Lengths.{text_length, optional_length, address_length, warehouse_length, district_length}

@@ -5,15 +5,15 @@ use Rattle.std.proofs.lemmas.Bool.{eqb-true}
 use Rattle.std.proofs.lemmas.Bool.Decides.{nat_tests}
 use Rattle.std.proofs.lemmas.List.{append-nil, drop_at}
 use Rattle.oe_extent.specs.Images.{number, number_at}
-use Rattle.oe_fronts.specs.Fronts.{IsBytes, ◌>>=◌, pair_at}
+use Rattle.oe_decode.specs.Fronts.{IsBytes, ◌>>=◌, pair_at}
 use Rattle.oe_image.specs.Keys.{new_order_key}
-use Rattle.oe_fronts.proofs.FrontFacts.{Takes, IsCodec, some_is, bind_some, both, IsBytes-drop, Takes-then, number_law}
-use Rattle.oe_fronts.proofs.FrontFacts.{pair_law, found_as, finds_as}
-use Rattle.oe_fronts.proofs.KeyFacts.{warehouse_key_law, district_key_law, customer_key_law, history_key_law}
-use Rattle.oe_fronts.proofs.KeyFacts.{new_order_key_law, order_key_law, order_line_key_law, stock_key_law}
-use Rattle.oe_fronts.proofs.RowFacts.{warehouse_law, district_law, customer_law, order_law, order_line_law, stock_law}
-use Rattle.oe_fronts.proofs.BeforeRowFacts.{warehouse_before_law, district_before_law, customer_before_law}
-use Rattle.oe_fronts.proofs.BeforeRowFacts.{order_before_law, order_line_before_law, stock_before_law}
+use Rattle.oe_decode.proofs.FrontFacts.{Takes, IsCodec, some_is, bind_some, both, IsBytes-drop, Takes-then, number_law}
+use Rattle.oe_decode.proofs.FrontFacts.{pair_law, found_as, finds_as}
+use Rattle.oe_decode.proofs.KeyFacts.{warehouse_key_law, district_key_law, customer_key_law, history_key_law}
+use Rattle.oe_decode.proofs.KeyFacts.{new_order_key_law, order_key_law, order_line_key_law, stock_key_law}
+use Rattle.oe_decode.proofs.RowFacts.{warehouse_law, district_law, customer_law, order_law, order_line_law, stock_law}
+use Rattle.oe_decode.proofs.BeforeRowFacts.{warehouse_before_law, district_before_law, customer_before_law}
+use Rattle.oe_decode.proofs.BeforeRowFacts.{order_before_law, order_line_before_law, stock_before_law}
 use Rattle.oe_model.specs.Lengths.{record_length}
 use Rattle.oe_layout.specs.Links.{previous_image, IsPrevious, previous_at}
 use Rattle.oe_layout.specs.Kinds.{kind_image, kind_of, is_kind_of, kind_at}

@@ -18,8 +18,8 @@ use Rattle.oe_rows.specs.declared.rows.Row.TheVariants as row
 use Rattle.oe_rows.specs.declared.keys.Key.{Key}
 use Rattle.oe_rows.specs.declared.keys.Key.TheVariants as key
 use Rattle.oe_image.specs.Rows.{IsRow}
-use Rattle.oe_fronts.specs.BeforeRanges.{IsAddressBefore, IsNameBefore, IsWarehouseBefore, IsDistrictBefore}
-use Rattle.oe_fronts.specs.BeforeRanges.{IsCustomerBefore, IsOrderBefore, IsOrderLineBefore, IsStockBefore}
+use Rattle.oe_decode.specs.BeforeRanges.{IsAddressBefore, IsNameBefore, IsWarehouseBefore, IsDistrictBefore}
+use Rattle.oe_decode.specs.BeforeRanges.{IsCustomerBefore, IsOrderBefore, IsOrderLineBefore, IsStockBefore}
 use Rattle.oe_model.specs.Changes as model
 use Rattle.oe_model.specs.Changes.{Record, record_key}
 use Rattle.oe_model.specs.Lengths.{text_length, optional_length, key_length, row_length, before_length, kept_length}

@@ -1,7 +1,7 @@
 -- What was done, and in which table, as two numbers.
 use Rattle.std.specs.Prelude.{◌==◌, ℕ, List, ◌++◌, Bool, true, false, Option, Some, None, if◌then◌else◌}
 use Rattle.oe_extent.specs.Images.{number, number_at}
-use Rattle.oe_fronts.specs.Fronts.{pair_at}
+use Rattle.oe_decode.specs.Fronts.{pair_at}
 use Rattle.oe_layout.specs.Links.{read_as}
 use Rattle.oe_model.specs.Changes as model
 use Rattle.oe_rows.specs.declared.layouts.Layout.{Layout}

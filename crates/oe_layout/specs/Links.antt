@@ -2,7 +2,7 @@
 use Rattle.std.specs.Prelude.{◌==◌, ◌≤◌, ◌&&◌, ⊤, ℕ, nat_le, List, ◌++◌, Option, Some, None, if◌then◌else◌}
 use Rattle.std.specs.Int.{IsInRange}
 use Rattle.oe_extent.specs.Images.{number, number_at}
-use Rattle.oe_fronts.specs.Fronts.{pair_at}
+use Rattle.oe_decode.specs.Fronts.{pair_at}
 use Rattle.oe_layout.specs.declared.links.RecordAddress.{RecordAddress}
 use Rattle.oe_layout.specs.declared.links.Previous.{Previous}
 use Rattle.oe_layout.specs.declared.links.Previous.TheVariants.{Nothing, Own, Committed}

@@ -2,12 +2,12 @@
 use Rattle.std.specs.Prelude.{◌≡◌, ◌==◌, ◌&&◌, ℕ, List, length, Option, Some, None, if◌then◌else◌}
 use Rattle.oe_extent.specs.declared.sizes.TheConstants.{LENGTH_BYTES}
 use Rattle.oe_extent.specs.Images.{number_at}
-use Rattle.oe_fronts.specs.Fronts.{◌>>=◌, seen, pair_at}
-use Rattle.oe_fronts.specs.KeyFronts.{history_key_at, new_order_key_at, order_key_at, order_line_key_at}
-use Rattle.oe_fronts.specs.KeyFronts.{warehouse_key_at, district_key_at, customer_key_at, stock_key_at}
-use Rattle.oe_fronts.specs.RowFronts.{warehouse_at, district_at, customer_at, order_at, order_line_at, stock_at}
-use Rattle.oe_fronts.specs.BeforeFronts.{warehouse_before_at, district_before_at, customer_before_at, order_before_at}
-use Rattle.oe_fronts.specs.BeforeFronts.{order_line_before_at, stock_before_at}
+use Rattle.oe_decode.specs.Fronts.{◌>>=◌, seen, pair_at}
+use Rattle.oe_decode.specs.KeyFronts.{history_key_at, new_order_key_at, order_key_at, order_line_key_at}
+use Rattle.oe_decode.specs.KeyFronts.{warehouse_key_at, district_key_at, customer_key_at, stock_key_at}
+use Rattle.oe_decode.specs.RowFronts.{warehouse_at, district_at, customer_at, order_at, order_line_at, stock_at}
+use Rattle.oe_decode.specs.BeforeFronts.{warehouse_before_at, district_before_at, customer_before_at, order_before_at}
+use Rattle.oe_decode.specs.BeforeFronts.{order_line_before_at, stock_before_at}
 use Rattle.oe_rows.specs.declared.layouts.Layout.{Layout}
 use Rattle.oe_layout.specs.Links.{previous_at, IsPrevious}
 use Rattle.oe_layout.specs.Kinds.{kind_at}

@@ -11,8 +11,8 @@ use Rattle.oe_image.specs.Before.{warehouse_before, district_before, customer_be
 use Rattle.oe_image.specs.Before.{stock_before}
 use Rattle.oe_image.specs.Parts.{warehouse_part, district_part, customer_part, customer_name_part, order_part}
 use Rattle.oe_image.specs.Parts.{order_line_part, stock_part}
-use Rattle.oe_fronts.specs.BeforeRanges.{IsWarehouseBefore, IsDistrictBefore, IsCustomerBefore, IsOrderBefore}
-use Rattle.oe_fronts.specs.BeforeRanges.{IsOrderLineBefore, IsStockBefore}
+use Rattle.oe_decode.specs.BeforeRanges.{IsWarehouseBefore, IsDistrictBefore, IsCustomerBefore, IsOrderBefore}
+use Rattle.oe_decode.specs.BeforeRanges.{IsOrderLineBefore, IsStockBefore}
 use Rattle.oe_model.specs.Changes as model
 use Rattle.oe_model.specs.Lengths.{record_length}
 use Rattle.oe_layout.specs.Links.{previous_image}

@@ -14,10 +14,10 @@ ghost use Rattle.oe_image.specs.Keys.{IsWarehouseKey, IsHistoryKey, IsNewOrderKe
 ghost use Rattle.oe_rows.specs.Key.{IsDistrictKey, IsCustomerKey};
 ghost use Rattle.oe_image.specs.Parts.{warehouse_part, district_part, customer_part};
 ghost use Rattle.oe_image.specs.Parts.{customer_name_part, order_part, order_line_part, stock_part};
-ghost use Rattle.oe_fronts.specs.BeforeRanges.{IsAccountBefore};
-ghost use Rattle.oe_fronts.specs.BeforeRanges.{IsWarehouseBefore, IsDistrictBefore};
-ghost use Rattle.oe_fronts.specs.BeforeRanges.{IsCustomerBefore, IsOrderBefore, IsOrderLineBefore};
-ghost use Rattle.oe_fronts.specs.BeforeRanges.{IsStockBefore};
+ghost use Rattle.oe_decode.specs.BeforeRanges.{IsAccountBefore};
+ghost use Rattle.oe_decode.specs.BeforeRanges.{IsWarehouseBefore, IsDistrictBefore};
+ghost use Rattle.oe_decode.specs.BeforeRanges.{IsCustomerBefore, IsOrderBefore, IsOrderLineBefore};
+ghost use Rattle.oe_decode.specs.BeforeRanges.{IsStockBefore};
 ghost use Rattle.oe_layout.specs.Links.{IsRecordAddress, IsPrevious};
 ghost use Rattle.oe_layout.specs.Records.{record_of_lent, IsInRanges};
 

@@ -8,20 +8,20 @@ ghost use Rattle.oe_layout.specs.declared.kinds.RecordKind.TheVariants as kind;
 use crate::kinds::{RecordKind, read_kind};
 use crate::links::{Previous, read_previous};
 use crate::records::OwnRecord;
-use oe_extent::LENGTH_BYTES;
-use oe_extent::numbers::read_number;
-use oe_fronts::before::{
+use oe_decode::before::{
     read_customer_before, read_district_before, read_order_before, read_order_line_before,
     read_stock_before, read_warehouse_before,
 };
-use oe_fronts::customers::read_customer;
-use oe_fronts::items::read_stock;
-use oe_fronts::keys::{
+use oe_decode::customers::read_customer;
+use oe_decode::items::read_stock;
+use oe_decode::keys::{
     read_customer_key, read_district_key, read_history_key, read_new_order_key, read_order_key,
     read_order_line_key, read_stock_key, read_warehouse_key,
 };
-use oe_fronts::orders::{read_order, read_order_line};
-use oe_fronts::warehouses::{read_district, read_warehouse};
+use oe_decode::orders::{read_order, read_order_line};
+use oe_decode::warehouses::{read_district, read_warehouse};
+use oe_extent::LENGTH_BYTES;
+use oe_extent::numbers::read_number;
 use oe_rows::layouts::Layout;
 
 /// Reads the key of a record of that kind at the front of the bytes, and the row behind it, or the

@@ -14,7 +14,7 @@ use crate::links::{Previous, read_previous};
 use crate::parts::{CONTENTS_START, KIND_START, LINK_START};
 use crate::reading::whole_record;
 use crate::records::OwnRecord;
-use oe_fronts::keys::read_key;
+use oe_decode::keys::read_key;
 use oe_rows::{Key, NewOrderKey, Table};
 use std::marker::Model;
 

@@ -3,3 +3,4 @@ pub mod GrammarFacts
 pub mod OrderFacts
 pub mod StampFacts
 pub mod WordFacts
+pub mod TextFacts

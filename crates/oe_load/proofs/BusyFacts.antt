@@ -4,14 +4,14 @@ use Rattle.std.proofs.Common.{inl, inr}
 use Rattle.std.specs.Prelude.{◌⊎◌}
 use Rattle.oe_theory.specs.World.{World}
 use Rattle.oe_model.specs.System.{system}
-use Rattle.oe_ports.specs.Ports.{Sink, Sent}
-use Rattle.oe_ports.proofs.Streaming.{sent_none, sent_waits}
+use Rattle.oe_io.specs.Ports.{Sink, Sent}
+use Rattle.oe_io.proofs.Streaming.{sent_none, sent_waits}
 use Rattle.oe_numbers.specs.declared.forms.Form.{Form}
 use Rattle.oe_numbers.specs.declared.forms.Form.TheVariants as load_form
 use Rattle.oe_busy.specs.declared.happenings.Happening.{Happening}
 use Rattle.oe_busy.specs.declared.tables.Busyness.{Busyness}
 use Rattle.oe_busy.specs.Tables.{AreCounted, IsTable}
-use Rattle.oe_plans.specs.declared.plans.Plan.{Plan}
+use Rattle.oe_terms.specs.declared.plans.Plan.{Plan}
 use Rattle.oe_load.specs.Loads.{IsDone}
 use Rattle.oe_load.specs.Scripts.{State, IsScript, IsWatched, first_state}
 use Rattle.oe_load.specs.Turns.{Steps}

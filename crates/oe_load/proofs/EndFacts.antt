@@ -4,13 +4,13 @@ use Rattle.std.proofs.lemmas.List.{append-nil}
 use Rattle.oe_theory.specs.World.{World}
 use Rattle.oe_model.specs.System.{system}
 use Rattle.oe_lines.specs.declared.commands.Command.{Command}
-use Rattle.oe_ports.specs.declared.ports.Failed.{Failed}
-use Rattle.oe_ports.specs.Ports.{Sink, Sent, Cut}
-use Rattle.oe_ports.proofs.Streaming.{sent_none, sent_then, sent_cut, sent_as, sent_waits, cut_as}
-use Rattle.oe_words.specs.Texts.{line_text}
+use Rattle.oe_io.specs.declared.ports.Failed.{Failed}
+use Rattle.oe_io.specs.Ports.{Sink, Sent, Cut}
+use Rattle.oe_io.proofs.Streaming.{sent_none, sent_then, sent_cut, sent_as, sent_waits, cut_as}
+use Rattle.oe_lines.specs.Texts.{line_text}
 use Rattle.oe_numbers.specs.declared.forms.Form.{Form}
 use Rattle.oe_numbers.specs.declared.forms.Form.TheVariants as load_form
-use Rattle.oe_plans.specs.declared.plans.Plan.{Plan}
+use Rattle.oe_terms.specs.declared.plans.Plan.{Plan}
 use Rattle.oe_load.specs.Loads.{IsDone, none_served, opening_text, script_text}
 use Rattle.oe_load.specs.Scripts.{State, IsScript, first_state}
 use Rattle.oe_load.specs.declared.origins.Origin.{Origin}

@@ -3,17 +3,17 @@ use Rattle.std.proofs.Common.{Result}
 use Rattle.std.proofs.Common.{◌≡◌, ℕ, List, [], ◌∷◌, ◌++◌, Option, Ok, Err, refl, sym, ap, subst, ◌∙◌, inr}
 use Rattle.std.proofs.lemmas.List.{append-nil, flat_map_more}
 use Rattle.oe_theory.specs.World.{bump}
-use Rattle.oe_ports.specs.declared.ports.Failed.{Failed}
-use Rattle.oe_ports.specs.Ports.{Sink}
-use Rattle.oe_ports.specs.Ports as ports
-use Rattle.oe_ports.proofs.Streaming.{sent_then, sent_as, sent_waits}
+use Rattle.oe_io.specs.declared.ports.Failed.{Failed}
+use Rattle.oe_io.specs.Ports.{Sink}
+use Rattle.oe_io.specs.Ports as ports
+use Rattle.oe_io.proofs.Streaming.{sent_then, sent_as, sent_waits}
 use Rattle.std.proofs.Common.{suc, ◌+◌, Some, arith}
 use Rattle.std.specs.Prelude.{Bool, false}
 use Rattle.std.proofs.lemmas.Bool.{cond-false}
 use Rattle.rand_pcg.specs.Lcg.{Lcg}
 use Rattle.oe_terms.specs.Draws.{random, words_of}
 use Rattle.oe_numbers.specs.declared.forms.Form.TheVariants as load_form
-use Rattle.oe_plans.specs.declared.plans.Plan.{Plan}
+use Rattle.oe_terms.specs.declared.plans.Plan.{Plan}
 use Rattle.oe_load.specs.Loads.{IsNext, HasWords, AreServed, none_served, opening_text}
 use Rattle.oe_load.specs.declared.origins.Origin.{Origin}
 use Rattle.oe_load.specs.Flats.{Sent, InTurn, flat_text, requests_text, behind, first_behind, turn_of}

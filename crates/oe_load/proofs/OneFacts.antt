@@ -25,9 +25,9 @@ use Rattle.oe_lines.specs.declared.commands.Command.TheVariants as command
 use Rattle.oe_lines.specs.declared.commands.MomentChoice.TheVariants as moment
 use Rattle.oe_busy.specs.declared.happenings.Happening.{Happening}
 use Rattle.oe_busy.specs.declared.happenings.Happening.TheVariants as happening
-use Rattle.oe_plans.specs.declared.plans.Plan.{Plan}
-use Rattle.oe_plans.specs.declared.plans.Asked.TheVariants as asked
-use Rattle.oe_plans.specs.Plans.{asked_of}
+use Rattle.oe_terms.specs.declared.plans.Plan.{Plan}
+use Rattle.oe_terms.specs.declared.plans.Asked.TheVariants as asked
+use Rattle.oe_terms.specs.Plans.{asked_of}
 use Rattle.oe_load.specs.declared.picks.Pick.{Pick}
 use Rattle.oe_load.specs.declared.picks.Pick.TheVariants as pick
 use Rattle.oe_load.specs.Loads as loads

@@ -8,7 +8,7 @@ use Rattle.oe_theory.specs.World.{World, set}
 use Rattle.oe_theory.proofs.Sets.{set_same, set_other}
 use Rattle.oe_model.specs.System.{system}
 use Rattle.oe_waits.specs.Waits.{last_terminal}
-use Rattle.oe_plans.specs.declared.plans.Plan.{Plan}
+use Rattle.oe_terms.specs.declared.plans.Plan.{Plan}
 use Rattle.oe_load.specs.Flats.{behind, first_behind}
 use Rattle.oe_load.specs.Picks.{holders_of, holder_of, followed, first_after, none_named}
 

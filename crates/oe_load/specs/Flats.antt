@@ -4,12 +4,12 @@ use Rattle.std.specs.Prelude.{None, Some, ◌≡◌, ℕ, List, [], ◌∷◌, �
 use Rattle.std.specs.List.{flat_map}
 use Rattle.oe_theory.specs.World.{bump}
 use Rattle.oe_lines.specs.Grammar.{request_words, query_words}
-use Rattle.oe_words.specs.Texts.{joined}
+use Rattle.oe_lines.specs.Texts.{joined}
 use Rattle.rand_pcg.specs.Lcg.{Lcg}
 use Rattle.oe_terms.specs.Draws.{random}
-use Rattle.oe_plans.specs.declared.plans.Plan.{Plan}
-use Rattle.oe_plans.specs.declared.plans.Asked.{Asked}
-use Rattle.oe_plans.specs.declared.plans.Asked.TheVariants as asked
+use Rattle.oe_terms.specs.declared.plans.Plan.{Plan}
+use Rattle.oe_terms.specs.declared.plans.Asked.{Asked}
+use Rattle.oe_terms.specs.declared.plans.Asked.TheVariants as asked
 use Rattle.oe_numbers.specs.declared.forms.Form.TheVariants as load_form
 use Rattle.oe_load.specs.declared.origins.Origin.{Origin}
 use Rattle.oe_load.specs.Loads.{IsNext, HasWords, opening_text}

@@ -1,7 +1,7 @@
 -- What determines a script.
 use Rattle.std.specs.Prelude.{◌≡◌, ℕ, List, length}
 use Rattle.oe_lines.specs.declared.commands.Command.{Command}
-use Rattle.oe_plans.specs.declared.plans.Plan.{Plan}
+use Rattle.oe_terms.specs.declared.plans.Plan.{Plan}
 use Rattle.oe_load.specs.declared.origins.Origin.{Origin}
 use Rattle.oe_load.specs.Scripts.{State, Lines}
 use Rattle.oe_load.specs.Ends.{IsWhole}

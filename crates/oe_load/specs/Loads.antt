@@ -23,14 +23,14 @@ use Rattle.oe_lines.specs.declared.commands.Command.TheVariants as command
 use Rattle.oe_lines.specs.declared.commands.MomentChoice.TheVariants as moment
 use Rattle.oe_model.specs.Requests.{IsRequest}
 use Rattle.oe_lines.specs.Grammar.{HasForm, IsQuery}
-use Rattle.oe_words.specs.Texts.{line_text}
+use Rattle.oe_lines.specs.Texts.{line_text}
 use Rattle.oe_numbers.specs.declared.forms.Form.{Form}
 use Rattle.oe_numbers.specs.declared.forms.Form.TheVariants as load_form
 use Rattle.oe_numbers.specs.declared.forms.Items.TheVariants.{AsDrawn}
-use Rattle.oe_plans.specs.declared.plans.Plan.{Plan}
-use Rattle.oe_plans.specs.declared.plans.Asked.{Asked}
-use Rattle.oe_plans.specs.declared.plans.Asked.TheVariants as asked
-use Rattle.oe_plans.specs.Plans.{asked_of}
+use Rattle.oe_terms.specs.declared.plans.Plan.{Plan}
+use Rattle.oe_terms.specs.declared.plans.Asked.{Asked}
+use Rattle.oe_terms.specs.declared.plans.Asked.TheVariants as asked
+use Rattle.oe_terms.specs.Plans.{asked_of}
 
 -- it has a form in the grammar
 abbrev pub HasWords : Asked → Type 0

@@ -8,7 +8,7 @@ use Rattle.oe_model.specs.System.{system}
 use Rattle.oe_waits.specs.Waits.{waits_for, last_terminal}
 use Rattle.oe_busy.specs.declared.happenings.Happening.{Happening}
 use Rattle.oe_busy.specs.declared.happenings.Happening.TheVariants as happening
-use Rattle.oe_plans.specs.declared.plans.Plan.{Plan}
+use Rattle.oe_terms.specs.declared.plans.Plan.{Plan}
 use Rattle.oe_load.specs.Flats.{first_behind}
 use Rattle.oe_load.specs.declared.picks.Pick.{Pick}
 use Rattle.oe_load.specs.declared.picks.Pick.TheVariants as pick

@@ -14,9 +14,9 @@ use Rattle.oe_lines.specs.declared.commands.MomentChoice.TheVariants as moment
 use Rattle.rand_pcg.specs.Lcg.{Lcg}
 use Rattle.oe_terms.specs.Draws.{random, words_of}
 use Rattle.oe_busy.specs.declared.happenings.Happening.{Happening}
-use Rattle.oe_plans.specs.declared.plans.Plan.{Plan}
-use Rattle.oe_plans.specs.declared.plans.Asked.TheVariants as asked
-use Rattle.oe_plans.specs.Plans.{asked_of}
+use Rattle.oe_terms.specs.declared.plans.Plan.{Plan}
+use Rattle.oe_terms.specs.declared.plans.Asked.TheVariants as asked
+use Rattle.oe_terms.specs.Plans.{asked_of}
 use Rattle.oe_load.specs.declared.origins.Origin.{Origin}
 use Rattle.oe_load.specs.declared.picks.Pick.{Pick}
 use Rattle.oe_load.specs.declared.picks.Pick.TheVariants as pick

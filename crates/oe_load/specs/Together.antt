@@ -6,10 +6,10 @@ use Rattle.oe_requests.specs.declared.requests.Query.{Query}
 use Rattle.oe_lines.specs.declared.commands.Command.{Command}
 use Rattle.oe_lines.specs.declared.commands.Command.TheVariants as command
 use Rattle.oe_lines.specs.declared.commands.MomentChoice.TheVariants as moment
-use Rattle.oe_plans.specs.declared.plans.Plan.{Plan}
-use Rattle.oe_plans.specs.declared.plans.Asked.{Asked}
-use Rattle.oe_plans.specs.declared.plans.Asked.TheVariants as asked
-use Rattle.oe_plans.specs.Plans.{asked_of}
+use Rattle.oe_terms.specs.declared.plans.Plan.{Plan}
+use Rattle.oe_terms.specs.declared.plans.Asked.{Asked}
+use Rattle.oe_terms.specs.declared.plans.Asked.TheVariants as asked
+use Rattle.oe_terms.specs.Plans.{asked_of}
 
 -- it is a transaction, and no query
 abbrev pub IsTransaction : Asked → Type 0

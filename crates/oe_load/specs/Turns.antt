@@ -7,13 +7,13 @@ use Rattle.oe_requests.specs.declared.requests.Query.{Query}
 use Rattle.oe_lines.specs.declared.commands.Command.{Command}
 use Rattle.oe_lines.specs.declared.commands.Command.TheVariants as command
 use Rattle.oe_lines.specs.declared.commands.MomentChoice.TheVariants as moment
-use Rattle.oe_words.specs.Texts.{line_text}
+use Rattle.oe_lines.specs.Texts.{line_text}
 use Rattle.rand_pcg.specs.Lcg.{Lcg}
 use Rattle.oe_terms.specs.Draws.{random}
-use Rattle.oe_plans.specs.declared.plans.Plan.{Plan}
-use Rattle.oe_plans.specs.declared.plans.Asked.{Asked}
-use Rattle.oe_plans.specs.declared.plans.Asked.TheVariants as asked
-use Rattle.oe_plans.specs.Plans.{asked_of}
+use Rattle.oe_terms.specs.declared.plans.Plan.{Plan}
+use Rattle.oe_terms.specs.declared.plans.Asked.{Asked}
+use Rattle.oe_terms.specs.declared.plans.Asked.TheVariants as asked
+use Rattle.oe_terms.specs.Plans.{asked_of}
 use Rattle.oe_busy.specs.declared.happenings.Happening.{Happening}
 use Rattle.oe_busy.specs.declared.happenings.Happening.TheVariants as happening
 use Rattle.oe_load.specs.declared.turns.Shortage.{Shortage}

@@ -12,14 +12,13 @@ use crate::loads::{Ending, requests_in};
 use crate::ranges::asked_holds;
 use crate::served::{Served, are_served, none_served, serve, served_of};
 use crate::turns::Shortage;
-use oe_plans::{Asked, Plan};
-use oe_ports::output::make_room;
-use oe_ports::ports::{Failed, Outlet};
+use oe_io::output::make_room;
+use oe_io::ports::{Failed, Outlet};
+use oe_lines::{query, request};
 use oe_terms::draws::random;
-use oe_terms::words;
+use oe_terms::{Asked, Plan, words};
 use oe_texts::{LONGEST, Pending, SIZE, small};
 use oe_values::{Number, Terminal};
-use oe_words::{query, request};
 use rand_pcg::Lcg64Xsh32;
 
 /// Appends a terminal and the words of what it asks for.

@@ -2,11 +2,11 @@
 ghost use Rattle.std.specs.Prelude.{◌≡◌, ◌++◌, ◌∷◌, []};
 ghost use Rattle.oe_load.specs.Loads.{opening_text, ring_text};
 
+use oe_lines::open_line;
 use oe_numbers::Form;
-use oe_plans::Plan;
 use oe_store::Tables;
+use oe_terms::Plan;
 use oe_texts::{Pending, small, text};
-use oe_words::open_line;
 
 /// The tables that a load's first line finds.
 pub enum Origin {

@@ -12,7 +12,7 @@ use crate::served::{Served, served_of};
 use crate::turns::Turn;
 use oe_busy::Happening;
 use oe_core::Core;
-use oe_plans::Plan;
+use oe_terms::Plan;
 use oe_terms::draws::random;
 use oe_values::{TERMINALS, Terminal};
 use oe_waits::waits_for;

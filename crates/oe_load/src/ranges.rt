@@ -2,13 +2,13 @@
 //! laws, and do nothing.
 ghost use Rattle.oe_lines.specs.Grammar.{IsQuery};
 ghost use Rattle.oe_model.specs.Requests.{IsDistrict, IsChoice};
-ghost use Rattle.oe_plans.specs.Plans.{IsKnown};
+ghost use Rattle.oe_terms.specs.Plans.{IsKnown};
 ghost use Rattle.oe_load.specs.Loads.{HasWords};
 
 use oe_admission::ranges_hold;
-use oe_plans::Asked;
 use oe_requests::{CustomerChoice, Query};
 use oe_rows::DistrictKey;
+use oe_terms::Asked;
 
 fn district_holds(district: &DistrictKey)
     ensures { IsDistrict district.now }

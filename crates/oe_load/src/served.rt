@@ -5,7 +5,7 @@ ghost use Rattle.oe_theory.specs.World.{bump};
 ghost use Rattle.oe_load.specs.Loads.{AreServed, none_served};
 ghost use Rattle.oe_load.specs.Turns.{counts_of};
 
-use oe_plans::Plan;
+use oe_terms::Plan;
 use oe_values::Terminal;
 
 /// Counts by terminal.

@@ -2,7 +2,7 @@
 ghost use Rattle.std.specs.Prelude.{◌≡◌, [], Option, Ok};
 ghost use Rattle.oe_core.specs.Core.{world_of};
 ghost use Rattle.oe_numbers.specs.declared.forms.Form.TheVariants as load_form;
-ghost use Rattle.oe_ports.specs.Ports.{Sink};
+ghost use Rattle.oe_io.specs.Ports.{Sink};
 ghost use Rattle.oe_busy.specs.Tables.{AreCounted};
 ghost use Rattle.oe_load.specs.Ends.{Watches, Wrote};
 ghost use Rattle.oe_load.specs.Loads.{IsOrigin};
@@ -15,7 +15,7 @@ use crate::served::none_served;
 use crate::turns::Shortage;
 use oe_busy::{Busyness, Uncounted};
 use oe_core::Core;
-use oe_plans::Plan;
+use oe_terms::Plan;
 use oe_texts::Pending;
 use std::alloc::Global;
 

@@ -1,8 +1,8 @@
 -- A text that waits, and is written.
 use Rattle.std.proofs.Common.{◌≡◌, ℕ, List, [], ◌++◌, Option, Result, Ok, Err, subst}
 use Rattle.std.proofs.lemmas.List.{append-nil}
-use Rattle.oe_ports.specs.Ports.{Sink, Sent, Streams}
-use Rattle.oe_ports.proofs.Streaming.{sent_as, sent_then, sent_waits, sent_cut, cut_as}
+use Rattle.oe_io.specs.Ports.{Sink, Sent, Streams}
+use Rattle.oe_io.proofs.Streaming.{sent_as, sent_then, sent_waits, sent_cut, cut_as}
 
 -- where nothing waited before it, and nothing waits behind it
 pub streamed : {T E : Type 0} (old new : Option Sink) (waited waits text : List ℕ) (r : Result T E) → waits ≡ []

@@ -5,7 +5,7 @@ use Rattle.std.specs.FinMap.{get}
 use Rattle.std.proofs.lemmas.List.Elements.{All-nil, All-head, All-tail, All-push}
 use Rattle.std.proofs.lemmas.List.Sorted.{All-permutation}
 use Rattle.oe_rows.specs.Key.{history_cmp}
-use Rattle.oe_ports.specs.Ports.{Source}
+use Rattle.oe_io.specs.Ports.{Source}
 use Rattle.oe_rows.specs.declared.histories.History.{History}
 use Rattle.oe_rows.specs.declared.keys.HistoryKey.{HistoryKey}
 use Rattle.oe_rows.specs.declared.keys.Table.TheVariants as table

@@ -11,7 +11,7 @@ ghost use Rattle.oe_origin.specs.Populations.{IsOpenedOn, IsNoPopulation, LacksO
 use crate::lacks::{Lack, first_lack};
 use oe_file_loading::{LoadError, NotWhole, Sources, load_whole};
 use oe_file_tables::Format;
-use oe_ports::ports::Intake;
+use oe_io::ports::Intake;
 use oe_store::Tables;
 use std::alloc::Global;
 

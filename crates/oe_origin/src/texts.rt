@@ -1,12 +1,12 @@
 //! The line that tells what a folder lacks of a population.
 ghost use Rattle.std.specs.Prelude.{◌≡◌, ◌≤◌, ◌+◌, ◌++◌, []};
 ghost use Rattle.arrayvec.specs.ArrayVec.{array_vec_len};
-ghost use Rattle.oe_ports.specs.Ports.{Streams};
+ghost use Rattle.oe_io.specs.Ports.{Streams};
 ghost use Rattle.oe_origin.specs.Texts.{lack_text, lack_line};
 
 use crate::lacks::Lack;
-use oe_ports::output::flush;
-use oe_ports::ports::{Failed, Outlet};
+use oe_io::output::flush;
+use oe_io::ports::{Failed, Outlet};
 use oe_rows::Key;
 use oe_texts::columns::small;
 use oe_texts::{Pending, SIZE, keys, text};

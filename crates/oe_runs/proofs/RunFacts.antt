@@ -1,5 +1,6 @@
 -- What follows of a run of steps.
-use Rattle.std.proofs.Common.{◌≡◌, ◌≢◌, ℕ, zero, suc, ◌-◌, ◌<◌, ◌≤◌, List, [], ◌∷◌, ◌++◌, take, drop, length, get_or}
+use Rattle.std.proofs.lemmas.List.{drop_all}
+use Rattle.std.proofs.Common.{◌≡◌, ◌≢◌, ℕ, zero, suc, ◌-◌, ◌<◌, ◌≤◌, List, [], ◌∷◌, ◌++◌, take, length, get_or}
 use Rattle.std.proofs.Common.{sym}
 use Rattle.std.proofs.Common.{ap, subst, ◌∙◌, refl, arith}
 use Rattle.oe_theory.specs.World.{World, version, newest, at, tables}
@@ -73,19 +74,13 @@ runs_of w w' (i ∷ is) [] h = absurd h
 runs_of w w' (i ∷ is) (a ∷ ys) h = (h.0, h.1, runs_of h.0 w' is ys h.2)
 
 -- each step leads on, and a commit is whole
-still_reached : (w v : World system) (i : theory.Step system) (a : theory.Answer system) → IsReached system w
+pub still_reached : (w v : World system) (i : theory.Step system) (a : theory.Answer system) → IsReached system w
     → Next system w i a v → IsReached system v
 still_reached w v i a r n = run_is_reached system laws w v (i ∷ []) (a ∷ []) r (v, n, refl)
 
 -- moment 0 is the base
-none_left : {A : Type 0} (n : ℕ) (xs : List A) → length xs ≤ n → drop n xs ≡ []
-none_left zero [] h = refl
-none_left (suc n) [] h = refl
-none_left zero (x ∷ xs) h = absurd (omega (arith, h))
-none_left (suc n) (x ∷ xs) h = none_left n xs (omega (arith, h))
-
 pub first_at : (w : World system) → at system w 0 ≡ w.base
-first_at w = ap (version system w.base) (none_left (newest system w - 0) w.history (omega arith))
+first_at w = ap (version system w.base) (drop_all (newest system w - 0) w.history (omega arith))
 
 -- what a step leaves of the base, and a purge and a rewind besides
 past_by : (w v : World system) (i : theory.Step system) (a : theory.Answer system) → IsReached system w

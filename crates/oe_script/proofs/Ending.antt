@@ -2,15 +2,15 @@
 use Rattle.std.proofs.Common.{◌≡◌, ℕ, ◌+◌, ◌^◌, ◌<◌, ◌≤◌, Bool, false, List, [], ◌++◌, length, take, Option, Some, None}
 use Rattle.std.proofs.Common.{Result, Ok, Err, inl, inr, append_assoc, sym, ap, ◌∙◌, refl, subst, arith}
 use Rattle.std.proofs.lemmas.List.{append-nil, length-append, length-take}
-use Rattle.oe_ports.specs.declared.ports.Failed.{Failed}
+use Rattle.oe_io.specs.declared.ports.Failed.{Failed}
 use Rattle.oe_script.specs.declared.session.ScriptFault.TheVariants.{Read, Write}
-use Rattle.oe_ports.specs.Ports.{Source, Sink, Reads, Sent, Cut}
+use Rattle.oe_io.specs.Ports.{Source, Sink, Reads, Sent, Cut}
 use Rattle.oe_script.specs.declared.session.ScriptFault.{ScriptFault}
 use Rattle.oe_admission.specs.Programs.{IsLive}
 use Rattle.oe_script.specs.Script.{State, Output, Reached}
 use Rattle.oe_script.specs.Hearing.{Heard, HearsAll, HearsEach, HeardFront}
 use Rattle.oe_script.specs.Session.{Standing, Broken, ReadSoFar, Began, Answered, ScriptHeard, ScriptRan}
-use Rattle.oe_ports.proofs.Streaming.{sent_none}
+use Rattle.oe_io.proofs.Streaming.{sent_none}
 use Rattle.oe_script.proofs.Reaching.{reach_start, hears_start}
 
 pub read_none : (a : Option Source) → ReadSoFar a a [] 0

@@ -33,15 +33,15 @@ use Rattle.oe_model.proofs.SystemLaws.{laws, population_is_good}
 use Rattle.oe_core.specs.Steps.{step_in, answer_in, Advances}
 use Rattle.oe_core.specs.declared.advances.Advanced.{Advanced}
 use Rattle.oe_core.specs.declared.advances.Advanced.TheVariants as advanced
-use Rattle.oe_ports.specs.Lines.{bad_line}
+use Rattle.oe_io.specs.Lines.{bad_line}
 use Rattle.oe_script.specs.Script.{State, moment_in, told, Stepped, IsAllowed, Answers, Asks, LineAnswer, RunOfLines}
 use Rattle.oe_script.specs.Script.{Holds, shown_text, RunsIn}
 pub use Rattle.oe_admission.specs.Programs.{IsLive}
 use Rattle.oe_admission.proofs.LiveFacts.{next_live}
-use Rattle.oe_ports.specs.Ports.{Sink, Sent, Cut, Streams}
+use Rattle.oe_io.specs.Ports.{Sink, Sent, Cut, Streams}
 use Rattle.oe_script.specs.Hearing.{Takes}
 use Rattle.oe_script.specs.Outcome.{IsAnswer, Replies, Sorts}
-use Rattle.oe_ports.proofs.Streaming.{sent_waits, sent_then, sent_cut, cut_more}
+use Rattle.oe_io.proofs.Streaming.{sent_waits, sent_then, sent_cut, cut_more}
 use Rattle.oe_script.proofs.AnswerFacts.{IsTold, told_advance, told_save, told_back, told_rollback, told_begin}
 use Rattle.oe_script.proofs.AnswerFacts.{told_audit, told_read, told_purge, told_rewind, told_run}
 

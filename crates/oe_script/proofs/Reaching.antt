@@ -7,14 +7,14 @@ use Rattle.std.proofs.lemmas.List.{append-nil, length_push}
 use Rattle.std.proofs.lemmas.List.Elements.{All-push, All-append}
 use Rattle.std.proofs.lemmas.Grind.{flat_map-append}
 use Rattle.std.proofs.lemmas.Bool.{cases_eq}
-use Rattle.oe_ports.specs.Ports.{Sink, Sent, Cut, Streams}
+use Rattle.oe_io.specs.Ports.{Sink, Sent, Cut, Streams}
 use Rattle.oe_script.specs.Outcome.{Replies}
 use Rattle.oe_script.specs.Script.{State, LineAnswer, RunOfLines, IsInLine, ended, last_text, Output, Holds, Reached}
 use Rattle.oe_script.specs.Hearing.{Heard, HearsLine, HearsRun, HearsReached, HearsAll, HearsEach, HeardFront, Attends}
 use Rattle.oe_script.specs.Hearing.{last_heard}
 use Rattle.oe_script.specs.Session.{Standing, Broken, Fed}
 use Rattle.oe_admission.specs.Programs.{IsLive}
-use Rattle.oe_ports.proofs.Streaming.{sent_then, sent_cut, sent_as, cut_as, cut_more}
+use Rattle.oe_io.proofs.Streaming.{sent_then, sent_cut, sent_as, cut_as, cut_more}
 use Rattle.oe_script.proofs.LineFacts.{live_lines, line_answered}
 use Rattle.oe_script.proofs.HearingFacts.{each_append}
 

@@ -11,7 +11,7 @@ use Rattle.oe_model.specs.System.{system}
 use Rattle.oe_core.specs.Steps.{step_in, answer_in}
 use Rattle.oe_core.specs.declared.advances.Advanced.{Advanced}
 use Rattle.oe_core.specs.declared.advances.Advanced.TheVariants as advanced
-use Rattle.oe_ports.specs.Ports.{Sink, Sent, Cut}
+use Rattle.oe_io.specs.Ports.{Sink, Sent, Cut}
 use Rattle.oe_script.specs.Script.{State, told, RunsIn, LineAnswer}
 use Rattle.oe_script.specs.Hearing.{Takes}
 

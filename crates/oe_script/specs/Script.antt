@@ -26,9 +26,9 @@ use Rattle.oe_lines.specs.declared.commands.MomentChoice.{MomentChoice}
 use Rattle.oe_lines.specs.declared.commands.MomentChoice.TheVariants as moment
 use Rattle.oe_lines.specs.Grammar.{Says}
 use Rattle.oe_core.specs.Steps.{step_in, answer_in}
-use Rattle.oe_ports.specs.Dump.{dump_text}
+use Rattle.oe_io.specs.Dump.{dump_text}
 use Rattle.oe_waits.specs.Texts.{locks_text, waits_text}
-use Rattle.oe_ports.specs.Lines.{bad_line}
+use Rattle.oe_io.specs.Lines.{bad_line}
 
 -- nothing is open yet, or the world that a core stands for
 abbrev pub State : Type 0

@@ -4,7 +4,7 @@ use Rattle.std.specs.Prelude.{Result, Ok, Err, MatchResult}
 use Rattle.oe_core.specs.Core.{CoreState, world_of}
 use Rattle.oe_script.specs.declared.session.ScriptFault.{ScriptFault}
 use Rattle.oe_script.specs.declared.session.ScriptFault.TheVariants.{Read, Write}
-use Rattle.oe_ports.specs.Ports.{Source, Sink, Sent, Cut}
+use Rattle.oe_io.specs.Ports.{Source, Sink, Sent, Cut}
 use Rattle.oe_script.specs.Script.{State, Output, Holds, Reached}
 use Rattle.oe_script.specs.Hearing.{Heard, HearsAll, HearsEach, HearsReached, HeardFront}
 

@@ -9,7 +9,7 @@ ghost use Rattle.oe_script.specs.Session.{ScriptHeard, ScriptRan};
 use crate::listeners::{Listener, Quiet};
 use crate::session::{ScriptFault, Session};
 use oe_core::Core;
-use oe_ports::ports::{Intake, Outlet};
+use oe_io::ports::{Intake, Outlet};
 use std::alloc::Global;
 
 /// Answers a script, line by line, to its end.

@@ -1,6 +1,6 @@
 //! One script's run: what is open, the line that is read, and the output that waits.
 ghost use Rattle.std.specs.Prelude.{◌≡◌, ◌<◌, ◌≤◌, ◌+◌, ◌++◌, ◌∷◌, ◌^◌, ◌⊎◌, ℕ, List, [], length, Option, None, Some, true, false, OnOk};
-ghost use Rattle.oe_ports.specs.Ports.{Sink, Streams};
+ghost use Rattle.oe_io.specs.Ports.{Sink, Streams};
 ghost use Rattle.oe_script.specs.Hearing.{place_of, Attends, HearsEach};
 ghost use Rattle.oe_script.specs.Script.{State, Holds, last_text};
 ghost use Rattle.oe_script.specs.Session.{state_of, Fed, Standing, Ended, ScriptHeard};
@@ -12,8 +12,8 @@ use crate::outcome::answer_line;
 use arrayvec::ArrayVec;
 use memchr::memchr;
 use oe_core::Core;
-use oe_ports::output::{flush, put_bad};
-use oe_ports::ports::{Failed, Intake, Outlet};
+use oe_io::output::{flush, put_bad};
+use oe_io::ports::{Failed, Intake, Outlet};
 use oe_texts::Pending;
 use std::alloc::Global;
 use thiserror::Error;

@@ -7,15 +7,15 @@ use oe_answers::{
     Audited, Progress, Replies, answer_audit, answer_following, answer_load, explain, open_audited,
     open_before, open_script, opened_script, refuse, script, serial, tell_usage,
 };
+use oe_command_line::{AuditOptions, LoadOptions, Separator, Task, job};
 use oe_drive_answer::files::{Written, unmade};
 use oe_drive_answer::progress::Shown;
 use oe_drive_answer::{answer_drive, answer_drive_to};
 use oe_explain::Explainer;
 use oe_file_loading::{Pace, open_named, open_tables};
+use oe_io::standard::{Printed, Standard};
 use oe_numbers::{DriveNumbers, FollowingNumbers};
-use oe_ports::standard::{Printed, Standard};
 use oe_rows::Layout;
-use oe_tasks::{AuditOptions, LoadOptions, Separator, Task, job};
 use oe_values::ExtentCount;
 use std::env::Env;
 use std::fs::File;

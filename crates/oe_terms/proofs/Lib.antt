@@ -3,3 +3,4 @@ pub mod ChainFacts
 pub mod DrawFacts
 pub mod NameFacts
 pub mod RangeFacts
+pub mod PlanFacts

@@ -3,3 +3,4 @@ pub mod Draws
 pub mod Columns
 pub mod Errands
 pub mod Ranges
+pub mod Plans

@@ -171,7 +171,7 @@ none_open None n e = (refl, omega (arith, e))
 none_open (Some o) n e = absurd (omega (arith, e))
 
 -- none of these terminals has a segment open
-shut : (ss : List TerminalState) → sum_by (λ (s : TerminalState). cond (is_some s.active) 1 0) ss ≡ 0 → (t : ℕ)
+pub shut : (ss : List TerminalState) → sum_by (λ (s : TerminalState). cond (is_some s.active) 1 0) ss ≡ 0 → (t : ℕ)
     → (get_or ss t idle).active ≡ None
 shut [] e zero = refl
 shut [] e (suc t) = refl
@@ -182,7 +182,8 @@ shut (s ∷ ss) e (suc t) =
     shut ss (none_open s.active (sum_by (λ (s : TerminalState). cond (is_some s.active) 1 0) ss)
     (sym (sum_by-cons (λ (s : TerminalState). cond (is_some s.active) 1 0) s ss) ∙ e)).1 t
 
-none_put_back : (f : ℕ → List Record) → ((t : ℕ) → f t ≡ []) → (ts : List ℕ) (r : Rows) → unwind_open system f ts r ≡ r
+pub none_put_back : (f : ℕ → List Record) → ((t : ℕ) → f t ≡ []) → (ts : List ℕ) (r : Rows)
+    → unwind_open system f ts r ≡ r
 none_put_back f none [] r = refl
 none_put_back f none (t ∷ ts) r =
     (λ i. unwind_open system (set t [] f) ts (unwind system (none t i) r))

@@ -15,8 +15,8 @@ use Rattle.oe_locks.specs.Listed.{stands}
 use Rattle.oe_locks.proofs.NameFacts.{name_true, name_refl}
 use Rattle.oe_theory.specs.World.{World}
 use Rattle.oe_model.specs.System.{system}
-use Rattle.oe_ports.specs.Ports.{Sink, Sent, Cut}
-use Rattle.oe_ports.proofs.Streaming.{sent_then, sent_as, sent_waits, sent_cut, cut_as, cut_more}
+use Rattle.oe_io.specs.Ports.{Sink, Sent, Cut}
+use Rattle.oe_io.proofs.Streaming.{sent_then, sent_as, sent_waits, sent_cut, cut_as, cut_more}
 use Rattle.oe_waits.specs.Waits.{last_terminal}
 use Rattle.oe_waits.specs.Names.{all_names, holds, held_count, held_names, is_before, is_left, lesser, place, IsLeast}
 use Rattle.oe_waits.specs.Names.{IsInRanges}

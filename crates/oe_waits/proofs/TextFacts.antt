@@ -7,8 +7,8 @@ use Rattle.std.proofs.lemmas.Bool.{cases_Bool, cases_eq, or_cases, or_parts}
 use Rattle.std.proofs.lemmas.List.{append-nil, append_assoc}
 use Rattle.oe_theory.specs.World.{World}
 use Rattle.oe_model.specs.System.{system}
-use Rattle.oe_ports.specs.Ports.{Sink, Sent, Cut, Streams}
-use Rattle.oe_ports.proofs.Streaming.{sent_then, sent_as, sent_waits, sent_cut, cut_as, cut_more}
+use Rattle.oe_io.specs.Ports.{Sink, Sent, Cut, Streams}
+use Rattle.oe_io.proofs.Streaming.{sent_then, sent_as, sent_waits, sent_cut, cut_as, cut_more}
 use Rattle.oe_waits.specs.Knots.{any_to, count_to}
 use Rattle.oe_waits.specs.Waits.{last_terminal, is_least_in_cycle}
 use Rattle.oe_waits.specs.Texts.{texts_to, cycle_line, or_no_cycle}

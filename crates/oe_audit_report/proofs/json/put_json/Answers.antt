@@ -1,6 +1,6 @@
 use Rattle.std.proofs.Common.{subst}
 use Rattle.std.specs.Prelude.{codes}
-use Rattle.oe_ports.specs.Ports.{Streams}
+use Rattle.oe_io.specs.Ports.{Streams}
 use Rattle.oe_audit_report.specs.Report.{counts_of}
 use Rattle.oe_audit_report.specs.Json.{listing, rows_member, check_json, counts_tail, report_json}
 use Rattle.oe_audit_report.proofs.StreamFacts.{cut_first, cut_second, streams_third}

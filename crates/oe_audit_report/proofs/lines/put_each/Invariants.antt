@@ -1,6 +1,6 @@
 use Rattle.std.proofs.Common.{take}
 use Rattle.std.specs.List.{flat_map}
-use Rattle.oe_ports.specs.Ports.{Sent}
+use Rattle.oe_io.specs.Ports.{Sent}
 use Rattle.oe_audit_report.proofs.lines.put_each.Given as goal
 
 -- the texts so far went out

@@ -1,7 +1,7 @@
 use Rattle.std.proofs.Common.{◌++◌, sym, ap}
 use Rattle.std.specs.Prelude.{codes}
 use Rattle.std.specs.List.{flat_map}
-use Rattle.oe_ports.proofs.Streaming.{cut_more, cut_as}
+use Rattle.oe_io.proofs.Streaming.{cut_more, cut_as}
 use Rattle.oe_audit_report.specs.Texts.{joined}
 use Rattle.oe_audit_report.proofs.StreamFacts.{streams_then, streams_from}
 use Rattle.oe_audit_report.proofs.lines.put_joined.Goals as goal

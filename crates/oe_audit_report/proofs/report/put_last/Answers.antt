@@ -1,6 +1,6 @@
 use Rattle.std.proofs.Common.{true, subst}
 use Rattle.std.specs.Prelude.{codes}
-use Rattle.oe_ports.specs.Ports.{Sent, Cut}
+use Rattle.oe_io.specs.Ports.{Sent, Cut}
 use Rattle.oe_audit_report.specs.Report.{count_line, counts_of, failing, names_text}
 use Rattle.oe_audit_report.proofs.StreamFacts.{cut_first, cut_second, streams_third}
 use Rattle.oe_audit_report.proofs.report.put_last.Goals as goal

@@ -1,5 +1,5 @@
 use Rattle.std.proofs.Common.{◌++◌, ◌+◌, [], drop, refl, arith, ap, ◌∙◌, true}
-use Rattle.oe_ports.proofs.Streaming.{sent_none, sent_then, sent_cut, sent_as, cut_as, cut_more}
+use Rattle.oe_io.proofs.Streaming.{sent_none, sent_then, sent_cut, sent_as, cut_as, cut_more}
 use Rattle.oe_audit_report.specs.Report.{names_text, failing, fails}
 use Rattle.oe_audit_report.proofs.CheckFacts.{name_if, next_first, names_more, names_all}
 use Rattle.oe_audit_report.proofs.report.put_names.Goals as goal

@@ -1,5 +1,5 @@
 use Rattle.std.proofs.Common.{◌≡◌, ◌++◌, ℕ, List, drop, true}
-use Rattle.oe_ports.specs.Ports.{Sent}
+use Rattle.oe_io.specs.Ports.{Sent}
 use Rattle.oe_audit_report.specs.Report.{names_text, failing}
 use Rattle.oe_audit_report.proofs.report.put_names.Given as goal
 

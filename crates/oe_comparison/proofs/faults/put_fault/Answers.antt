@@ -1,5 +1,5 @@
 use Rattle.std.proofs.Common.{[]}
-use Rattle.oe_ports.proofs.Streaming.{cut_more}
+use Rattle.oe_io.proofs.Streaming.{cut_more}
 use Rattle.oe_comparison.specs.Faults.{fault_line}
 use Rattle.oe_comparison.proofs.faults.put_fault.Goals as goal
 

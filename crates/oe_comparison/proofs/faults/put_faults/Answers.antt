@@ -1,6 +1,6 @@
 use Rattle.std.proofs.Common.{◌-◌, length, ap}
 use Rattle.std.specs.List.{flat_map}
-use Rattle.oe_ports.proofs.Streaming.{cut_as, cut_more}
+use Rattle.oe_io.proofs.Streaming.{cut_as, cut_more}
 use Rattle.oe_comparison.specs.Faults.{fault_line, more_line}
 use Rattle.oe_comparison.proofs.faults.put_faults.Goals as goal
 

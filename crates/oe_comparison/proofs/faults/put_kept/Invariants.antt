@@ -1,6 +1,6 @@
 use Rattle.std.proofs.Common.{take}
 use Rattle.std.specs.List.{flat_map}
-use Rattle.oe_ports.specs.Ports.{Sent}
+use Rattle.oe_io.specs.Ports.{Sent}
 use Rattle.oe_comparison.specs.Faults.{fault_line}
 use Rattle.oe_comparison.proofs.faults.put_kept.Given as goal
 

@@ -1,5 +1,5 @@
 use Rattle.std.proofs.Common.{[], inl, inr, subst, sym}
-use Rattle.oe_ports.proofs.Streaming.{sent_none}
+use Rattle.oe_io.proofs.Streaming.{sent_none}
 use Rattle.oe_file_serial.proofs.SentFacts.{is_short}
 use Rattle.oe_file_serial.specs.Verdicts.{IsDecided}
 use Rattle.oe_file_serial.specs.declared.verdicts.Decision.TheVariants as decision

@@ -1,5 +1,5 @@
 use Rattle.std.proofs.Common.{◌++◌, [], ap, ◌∙◌}
-use Rattle.oe_ports.proofs.Streaming.{sent_as, sent_then, sent_cut, cut_as, cut_more}
+use Rattle.oe_io.proofs.Streaming.{sent_as, sent_then, sent_cut, cut_as, cut_more}
 use Rattle.oe_file_serial.specs.Verdicts.{serial_line}
 use Rattle.oe_file_serial.proofs.SentFacts.{streamed}
 use Rattle.oe_comparison.specs.Texts.{last_line}

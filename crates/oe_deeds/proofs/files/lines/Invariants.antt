@@ -1,6 +1,6 @@
 use Rattle.std.proofs.Common.{take}
 use Rattle.std.specs.List.{flat_map}
-use Rattle.oe_ports.specs.Ports.{Sent}
+use Rattle.oe_io.specs.Ports.{Sent}
 use Rattle.oe_deeds.specs.Files.{commit_line}
 use Rattle.oe_deeds.proofs.files.lines.Given as goal
 

@@ -1,5 +1,5 @@
 use Rattle.std.proofs.Common.{[]}
-use Rattle.oe_ports.proofs.Streaming.{cut_more}
+use Rattle.oe_io.proofs.Streaming.{cut_more}
 use Rattle.oe_deeds.specs.Files.{asked_text}
 use Rattle.oe_deeds.proofs.files.put_asked.Goals as goal
 

@@ -1,5 +1,5 @@
 use Rattle.std.proofs.Common.{[]}
-use Rattle.oe_ports.proofs.Streaming.{cut_more, sent_then, sent_waits}
+use Rattle.oe_io.proofs.Streaming.{cut_more, sent_then, sent_waits}
 use Rattle.oe_deeds.specs.Files.{reply_line}
 use Rattle.oe_deeds.proofs.files.put_reply.Goals as goal
 

@@ -2,9 +2,9 @@ use Rattle.std.proofs.Common.{List, ℕ, [], ◌++◌, None, ap, ◌∙◌, subs
 use Rattle.std.specs.List.{flat_map}
 use Rattle.std.proofs.lemmas.List.{append-nil}
 use Rattle.oe_lines.specs.declared.commands.Command.TheVariants as asks
-use Rattle.oe_words.specs.Texts.{line_text}
-use Rattle.oe_ports.specs.Ports.{Streams}
-use Rattle.oe_ports.proofs.Streaming.{sent_waits, sent_then, sent_cut, streams_as}
+use Rattle.oe_lines.specs.Texts.{line_text}
+use Rattle.oe_io.specs.Ports.{Streams}
+use Rattle.oe_io.proofs.Streaming.{sent_waits, sent_then, sent_cut, streams_as}
 use Rattle.oe_deeds.specs.Files.{commit_line}
 use Rattle.oe_deeds.proofs.FileFacts.{streams_then}
 use Rattle.oe_deeds.proofs.files.write_commits.Goals as goal

@@ -1,6 +1,6 @@
 use Rattle.std.proofs.Common.{[], ◌-◌, length, ap}
 use Rattle.std.specs.List.{flat_map}
-use Rattle.oe_ports.proofs.Streaming.{cut_as, cut_more}
+use Rattle.oe_io.proofs.Streaming.{cut_as, cut_more}
 use Rattle.oe_file_serial.specs.BadTexts.{bad_line_text, more_text}
 use Rattle.oe_file_serial.proofs.faults.write_bad_lines.Goals as goal
 

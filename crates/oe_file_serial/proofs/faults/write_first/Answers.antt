@@ -1,6 +1,6 @@
 use Rattle.std.proofs.Common.{◌+◌, ◌++◌, [], take, drop, get_or, ◌∙◌, ap, arith}
 use Rattle.std.specs.List.{flat_map}
-use Rattle.oe_ports.proofs.Streaming.{sent_none, sent_then, sent_cut, sent_as, cut_as, cut_more}
+use Rattle.oe_io.proofs.Streaming.{sent_none, sent_then, sent_cut, sent_as, cut_as, cut_more}
 use Rattle.oe_file_serial.specs.BadTexts.{bad_line_text}
 use Rattle.oe_file_serial.specs.declared.reasons.BadLine.{BadLine}
 use Rattle.oe_file_serial.specs.declared.reasons.Why.TheVariants as why

@@ -1,6 +1,6 @@
 use Rattle.std.proofs.Common.{[], take}
 use Rattle.std.specs.List.{flat_map}
-use Rattle.oe_ports.specs.Ports.{Sent}
+use Rattle.oe_io.specs.Ports.{Sent}
 use Rattle.oe_file_serial.specs.BadTexts.{bad_line_text}
 use Rattle.oe_file_serial.proofs.faults.write_first.Given as goal
 

@@ -1,5 +1,5 @@
 use Rattle.std.proofs.Common.{[], ap}
-use Rattle.oe_ports.proofs.Streaming.{sent_as, cut_as}
+use Rattle.oe_io.proofs.Streaming.{sent_as, cut_as}
 use Rattle.oe_file_serial.specs.Verdicts.{verdict_text}
 use Rattle.oe_file_serial.proofs.SentFacts.{is_short}
 use Rattle.oe_file_serial.proofs.VerdictFacts.{verdict_so}

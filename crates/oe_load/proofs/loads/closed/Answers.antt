@@ -1,5 +1,5 @@
 use Rattle.std.proofs.Common.{Result, subst}
-use Rattle.oe_ports.specs.declared.ports.Failed.{Failed}
+use Rattle.oe_io.specs.declared.ports.Failed.{Failed}
 use Rattle.oe_load.specs.Ends.{Wrote}
 use Rattle.oe_load.specs.declared.loads.Ending.{Ending}
 use Rattle.oe_load.proofs.EndFacts.{closes_cut}

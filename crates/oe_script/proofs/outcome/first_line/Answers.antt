@@ -1,6 +1,6 @@
 use Rattle.std.proofs.Common.{◌≡◌, Option, None, Some, sym, ◌∙◌, ap, subst}
 use Rattle.oe_lines.specs.declared.commands.Command.{Command}
-use Rattle.oe_ports.specs.Lines.{bad_line}
+use Rattle.oe_io.specs.Lines.{bad_line}
 use Rattle.oe_script.specs.Script.{LineAnswer}
 use Rattle.oe_script.specs.Session.{state_of}
 use Rattle.oe_script.proofs.LineFacts.{refused}

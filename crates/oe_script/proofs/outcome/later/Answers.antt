@@ -1,8 +1,8 @@
 use Rattle.std.proofs.Common.{Some, refl}
 use Rattle.oe_lines.specs.declared.commands.Command.TheVariants as command
 use Rattle.oe_core.specs.Core.{world_of}
-use Rattle.oe_ports.specs.Lines.{bad_line}
-use Rattle.oe_ports.proofs.Streaming.{sent_waits}
+use Rattle.oe_io.specs.Lines.{bad_line}
+use Rattle.oe_io.proofs.Streaming.{sent_waits}
 use Rattle.oe_script.proofs.LineFacts.{told_here, shown_cut, refused, not_opened}
 use Rattle.oe_script.proofs.outcome.later.Goals as goal
 

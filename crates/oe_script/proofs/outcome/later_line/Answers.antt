@@ -1,8 +1,8 @@
 use Rattle.std.proofs.Common.{◌≡◌, false, Option, None, Some, sym, ◌∙◌}
 use Rattle.oe_lines.specs.declared.commands.Command.{Command}
 use Rattle.oe_core.specs.Core.{world_of}
-use Rattle.oe_ports.specs.Lines.{bad_line}
-use Rattle.oe_ports.proofs.Streaming.{sent_waits}
+use Rattle.oe_io.specs.Lines.{bad_line}
+use Rattle.oe_io.proofs.Streaming.{sent_waits}
 use Rattle.oe_script.specs.Hearing.{Takes}
 use Rattle.oe_script.proofs.LineFacts.{refused}
 use Rattle.oe_script.proofs.outcome.later_line.Goals as goal

@@ -1,6 +1,6 @@
 use Rattle.std.proofs.Common.{◌≡◌, ◌≤◌, ◌+◌, ◌*◌, ◌^◌}
 use Rattle.oe_core.specs.Core.{world_of}
-use Rattle.oe_ports.specs.Ports.{Sent}
+use Rattle.oe_io.specs.Ports.{Sent}
 use Rattle.oe_waits.specs.Names.{held_count}
 use Rattle.oe_waits.specs.Texts.{held_lines, texts_to}
 use Rattle.oe_waits.proofs.holdings.all_held.Given as goal

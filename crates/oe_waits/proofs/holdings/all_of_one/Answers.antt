@@ -1,8 +1,8 @@
 use Rattle.std.proofs.Common.{◌≡◌, ◌+◌, [], length, sym, ap, ◌∙◌, subst, arith}
 use Rattle.std.specs.List.{flat_map}
 use Rattle.oe_core.specs.Core.{world_of}
-use Rattle.oe_ports.specs.Ports.{Sent}
-use Rattle.oe_ports.proofs.Streaming.{sent_as, sent_none}
+use Rattle.oe_io.specs.Ports.{Sent}
+use Rattle.oe_io.proofs.Streaming.{sent_as, sent_none}
 use Rattle.oe_waits.specs.Names.{place}
 use Rattle.oe_waits.specs.Texts.{held_line}
 use Rattle.oe_waits.proofs.HeldFacts.{all_shown, count_shown, cut_names, few_shown, line_went, none_shown, shown_lines}

@@ -1,6 +1,6 @@
 use Rattle.std.proofs.Common.{◌≡◌, ◌-◌, ◌^◌, length}
 use Rattle.oe_core.specs.Core.{world_of}
-use Rattle.oe_ports.specs.Ports.{Sent}
+use Rattle.oe_io.specs.Ports.{Sent}
 use Rattle.oe_waits.proofs.HeldFacts.{shown_lines, shown_names}
 use Rattle.oe_waits.proofs.holdings.all_of_one.Given as goal
 

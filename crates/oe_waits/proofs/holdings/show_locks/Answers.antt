@@ -1,5 +1,5 @@
 use Rattle.oe_core.specs.Core.{world_of}
-use Rattle.oe_ports.proofs.Streaming.{cut_more}
+use Rattle.oe_io.proofs.Streaming.{cut_more}
 use Rattle.oe_texts.specs.Dump.{count_line}
 use Rattle.oe_waits.specs.Names.{held_count}
 use Rattle.oe_waits.specs.Texts.{held_lines, texts_to}

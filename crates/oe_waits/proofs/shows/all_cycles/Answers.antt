@@ -1,6 +1,6 @@
 use Rattle.std.proofs.Common.{◌≡◌, ◌+◌, ◌++◌, suc, ap, ◌∙◌, subst, arith}
 use Rattle.oe_core.specs.Core.{world_of}
-use Rattle.oe_ports.specs.Ports.{Sent}
+use Rattle.oe_io.specs.Ports.{Sent}
 use Rattle.oe_waits.specs.Knots.{any_to}
 use Rattle.oe_waits.specs.Waits.{is_least_in_cycle}
 use Rattle.oe_waits.specs.Texts.{cycle_line, texts_to}

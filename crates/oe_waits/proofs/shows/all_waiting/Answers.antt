@@ -1,6 +1,6 @@
 use Rattle.std.proofs.Common.{◌≡◌, ◌≤◌, ◌+◌, ◌++◌, suc, sym, ap, ◌∙◌, subst, arith}
 use Rattle.oe_core.specs.Core.{world_of}
-use Rattle.oe_ports.specs.Ports.{Sent}
+use Rattle.oe_io.specs.Ports.{Sent}
 use Rattle.oe_waits.specs.Knots.{count_to}
 use Rattle.oe_waits.specs.Waits.{waits}
 use Rattle.oe_waits.specs.Texts.{texts_to, waiting_line}

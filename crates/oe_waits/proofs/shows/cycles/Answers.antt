@@ -1,6 +1,6 @@
 use Rattle.std.proofs.Common.{sym, ◌∙◌}
 use Rattle.oe_core.specs.Core.{world_of}
-use Rattle.oe_ports.proofs.Streaming.{cut_as, cut_more, sent_as}
+use Rattle.oe_io.proofs.Streaming.{cut_as, cut_more, sent_as}
 use Rattle.oe_waits.specs.Waits.{last_terminal}
 use Rattle.oe_waits.specs.Texts.{cycle_line, texts_to}
 use Rattle.oe_waits.proofs.TextFacts.{after_none, no_cycle, or_rest, some_cycle}

@@ -1,5 +1,5 @@
 use Rattle.std.proofs.Common.{[]}
-use Rattle.oe_ports.proofs.Streaming.{cut_more}
+use Rattle.oe_io.proofs.Streaming.{cut_more}
 use Rattle.oe_waits.proofs.shows.line.Goals as goal
 
 pub returns-in-Err : goal.returns-in-Err

@@ -1,6 +1,6 @@
 use Rattle.std.proofs.Common.{[]}
 use Rattle.oe_texts.specs.Dump.{count_line}
-use Rattle.oe_ports.proofs.Streaming.{cut_more}
+use Rattle.oe_io.proofs.Streaming.{cut_more}
 use Rattle.oe_waits.proofs.shows.total.Goals as goal
 
 pub returns-in-Err : goal.returns-in-Err

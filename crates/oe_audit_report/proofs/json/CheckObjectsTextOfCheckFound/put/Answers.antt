@@ -1,6 +1,6 @@
 use Rattle.std.proofs.Common.{List, ℕ, ap}
 use Rattle.std.specs.Prelude.{codes}
-use Rattle.oe_ports.proofs.Streaming.{cut_more}
+use Rattle.oe_io.proofs.Streaming.{cut_more}
 use Rattle.oe_books.specs.declared.findings.PartFound.{PartFound}
 use Rattle.oe_audit_report.specs.Json.{listing, check_head, part_json}
 use Rattle.oe_audit_report.proofs.StreamFacts.{streams_then, streams_from}

@@ -1,6 +1,6 @@
 use Rattle.std.proofs.Common.{◌≡◌, List, ℕ, ◌++◌, length, ap, ◌∙◌}
 use Rattle.std.specs.Prelude.{codes}
-use Rattle.oe_ports.proofs.Streaming.{cut_as, cut_more}
+use Rattle.oe_io.proofs.Streaming.{cut_as, cut_more}
 use Rattle.oe_books.specs.declared.findings.Finding.{Finding}
 use Rattle.oe_audit_report.specs.Labels.{Names, named, label_of}
 use Rattle.oe_audit_report.specs.Report.{shown}

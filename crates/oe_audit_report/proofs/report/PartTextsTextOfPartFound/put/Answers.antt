@@ -1,6 +1,6 @@
 use Rattle.std.proofs.Common.{◌≡◌, ◌-◌, List, ◌++◌, length, refl, ap, ◌∙◌}
 use Rattle.std.specs.List.{flat_map}
-use Rattle.oe_ports.proofs.Streaming.{cut_more, cut_as, streams_as}
+use Rattle.oe_io.proofs.Streaming.{cut_more, cut_as, streams_as}
 use Rattle.oe_books.specs.declared.findings.Finding.{Finding}
 use Rattle.oe_books.specs.declared.parts.Check.{Check}
 use Rattle.oe_audit_report.specs.Labels.{Names, named, label_of}

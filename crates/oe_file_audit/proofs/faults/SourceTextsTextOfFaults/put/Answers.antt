@@ -1,6 +1,6 @@
 use Rattle.std.proofs.Common.{ap}
 use Rattle.std.specs.List.{flat_map}
-use Rattle.oe_ports.proofs.Streaming.{cut_as, sent_as}
+use Rattle.oe_io.proofs.Streaming.{cut_as, sent_as}
 use Rattle.oe_audit_report.proofs.StreamFacts.{cut_first, cut_second, streams_third}
 use Rattle.oe_file_audit.specs.Faults.{fault_line, more_lines, cause_line}
 use Rattle.oe_file_audit.proofs.faults.SourceTextsTextOfFaults.put.Goals as goal

@@ -1,6 +1,6 @@
 use Rattle.std.proofs.Common.{◌++◌, [], take, ◌∙◌, refl, arith}
 use Rattle.std.proofs.lemmas.Result.{on_ok_weaker}
-use Rattle.oe_ports.specs.declared.ports.Failed.{Failed}
+use Rattle.oe_io.specs.declared.ports.Failed.{Failed}
 use Rattle.oe_file_tables.proofs.ReadFacts.{read_none, read_more, read_all}
 use Rattle.oe_file_tables.proofs.lines.Reading.run.Goals as goal
 

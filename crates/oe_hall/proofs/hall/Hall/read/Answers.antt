@@ -16,7 +16,7 @@ returns-in-Err-clause-called g c =
         record {
           core = c.self.inside.recorded.core;
           history = c.self.inside.recorded.history;
-          counts = c.self.inside.books;
+          counts = c.self.inside.totals;
           keeper = c.find.new.keeper.notes;
           words = arc_value c.self.inside.moments;
         },

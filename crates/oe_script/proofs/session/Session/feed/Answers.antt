@@ -3,7 +3,7 @@ use Rattle.std.proofs.Common.{◌+◌, ◌++◌, ◌∷◌, [], take, drop, appe
 use Rattle.std.proofs.lemmas.List.{append-nil, take_rest, length-append}
 use Rattle.oe_script.specs.Hearing.{HearsEach}
 use Rattle.oe_script.specs.Session.{state_of}
-use Rattle.oe_ports.specs.declared.ports.Failed.{Failed}
+use Rattle.oe_io.specs.declared.ports.Failed.{Failed}
 use Rattle.oe_script.proofs.Reaching.{stand_bytes, stand_line, broken_more, broken_as, to_end, past_end, standing_as}
 use Rattle.oe_script.proofs.Reaching.{standing_same}
 use Rattle.oe_script.proofs.Splitting.{no_end, before_end, at_end}

@@ -1,5 +1,5 @@
 use Rattle.std.proofs.Common.{◌≡◌, ℕ, ◌+◌, ◌≤◌, List, ◌++◌, length, Option}
-use Rattle.oe_ports.specs.Ports.{Sink}
+use Rattle.oe_io.specs.Ports.{Sink}
 use Rattle.oe_script.specs.Script.{State}
 use Rattle.oe_script.specs.Session.{state_of, Standing}
 use Rattle.oe_admission.specs.Programs.{IsLive}

@@ -1,7 +1,0 @@
-use Rattle.oe_theory.proofs.Theorems.{opening_is_reached}
-use Rattle.bank.specs.Bank.{bank}
-use Rattle.bank.proofs.Laws.{bank_laws}
-use Rattle.bank.proofs.opening_is_reached.Goals as goal
-
-pub returns : goal.returns
-returns c = opening_is_reached bank bank_laws

@@ -1,7 +1,0 @@
-use Rattle.oe_theory.proofs.Theorems.{version_is_unwound}
-use Rattle.bank.specs.Bank.{bank}
-use Rattle.bank.proofs.Laws.{bank_laws}
-use Rattle.bank.proofs.version_is_unwound.Goals as goal
-
-pub returns : goal.returns
-returns c = version_is_unwound bank bank_laws

@@ -1,7 +1,0 @@
--- The test says what is read.
-use Rattle.oe_fronts.proofs.ColumnFacts.{checked_is}
-use Rattle.oe_fronts.proofs.fronts.checked_text.Goals as goal
-
-pub returns : goal.returns
-returns g c = checked_is _ _ _ _ c.read_bytes.ensures.variant.0 c.read_bytes.ensures.variant.1
-    c.read_bytes.ensures.value

@@ -1,5 +1,0 @@
-use Rattle.oe_headline.proofs.DeedFacts.{lines_are_deeds}
-use Rattle.oe_headline.proofs.lines_are_deeds.Goals as goal
-
-pub returns : goal.returns
-returns c = lines_are_deeds

@@ -1,5 +1,0 @@
-use Rattle.oe_headline.proofs.WithoutFacts.{outputs_without_rollback}
-use Rattle.oe_headline.proofs.outputs_without_rollback.Goals as goal
-
-pub returns : goal.returns
-returns c = outputs_without_rollback

@@ -1,5 +1,0 @@
-use Rattle.oe_headline.proofs.WithoutFacts.{lines_without_rollback}
-use Rattle.oe_headline.proofs.rollback_leaves_no_trace.Goals as goal
-
-pub returns : goal.returns
-returns c = lines_without_rollback

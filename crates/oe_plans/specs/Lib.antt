@@ -1,2 +1,0 @@
--- What the clauses of this crate cite.
-pub mod Plans

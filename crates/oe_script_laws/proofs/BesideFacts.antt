@@ -1,0 +1,410 @@
+-- Beside an open transaction others are answered as without it.
+use Rattle.std.proofs.Common.{◌≡◌, ℕ, Bool, true, false, cond, Option, None, Some, List, [], ◌∷◌, refl, sym, ap, ◌∙◌}
+use Rattle.std.proofs.Common.{subst, inl, inr}
+use Rattle.std.specs.Prelude.{◌⊎◌, ◌≢◌}
+use Rattle.std.proofs.lemmas.Bool.{cases_eq, eq-eqb, ne_eqb, false≢true}
+use Rattle.oe_theory.specs.Machine.{Machine, Mode, Ask, Stop, Plain, Take}
+use Rattle.oe_theory.specs.World.{set, Open, World, tx_of, tables}
+use Rattle.oe_theory.specs.Next.{Step, Begin, Advance, Save, Back, Rollback, Read, Audit, Purge, Rewind, Answer, Begun}
+use Rattle.oe_theory.specs.Next.{Rolled_back, Busy, Already_open, works_on, IsPast, put_active, begun, moved, IsGranted}
+use Rattle.oe_theory.specs.Next.{IsInTheWay, GivesWay, MayLackMemory, MayBegin, Next, begins, goes_on, commits, saves}
+use Rattle.oe_theory.specs.Next.{goes_back, rolls_back, reads, audits, purges, rewinds, stops, fails, is_busy, is_full}
+use Rattle.oe_theory.specs.Next.{is_rejected, is_open, number_is_rejected, query_is_rejected, misses, not_open, too_old}
+use Rattle.oe_theory.specs.Next.{future, not_quiet, lacks_memory_at_begin, lacks_memory, Event, Run}
+use Rattle.oe_theory.specs.Laws.{IsSameEver, Sound, Laws}
+use Rattle.oe_theory.specs.Erase.{is_idle, is_rollback, is_commit, names, is_of, tidy, erased, is_rolled_back}
+use Rattle.oe_theory.proofs.Sets.{set_same, set_other, set_cases, some_inj, some_none}
+use Rattle.oe_theory.proofs.Tables.{same_ever}
+use Rattle.oe_theory.proofs.Steps.{reads_alone, acts_alone, sound_drop}
+use Rattle.oe_theory.proofs.Erase.{run_erased, run_without}
+use Rattle.oe_theory.proofs.Theorems.{reached_sound}
+use Rattle.oe_script_laws.specs.Beside.{gives_way, without_open, Others_see_nothing}
+
+module _ (M : Machine) (L : Laws M) where
+  open M use {Name, Request, Query, Refusal, ask, act, rejection, query_rejection, yields}
+  open L use {rejection_same, query_rejection_same}
+
+  -- WHAT IS THE SAME WITHOUT IT
+
+  granted_without : (w : World M) (t u : ℕ) (a : Ask Name Refusal) → IsGranted M w u a
+      → IsGranted M (without_open M t w) u a
+  granted_without w t u (Stop e) g = g
+  granted_without w t u Plain g = g
+  granted_without w t u (Take n m) g = λ v p ne h. g v p ne (go p v (set_cases t None w.active v p h))
+    where
+      go : (p : Open M) (v : ℕ) → ((v ≡ t) × (None ≡ Some p)) ⊎ ((v ≢ t) × (w.active v ≡ Some p)) → w.active v ≡ Some p
+      go p v (inl h) = absurd (some_none p (sym h.1))
+      go p v (inr h) = h.1
+
+  live_without : (w : World M) (t u : ℕ) (v : Option (Open M)) → u ≢ t → w.active u ≡ v
+      → (without_open M t w).active u ≡ v
+  live_without w t u v ne e = set_other t None w.active u ne ∙ e
+
+  ever_without : (w : World M) → Sound M w → (t : ℕ) → IsSameEver M (tables M w) (tables M (without_open M t w))
+  ever_without w s t f e = same_ever M L w s f e ∙ sym (same_ever M L (without_open M t w) (sound_drop M L w s t) f e)
+
+  same_turned : (w : World M) → Sound M w → (t : ℕ) (q : Request)
+      → rejection q (tables M w) ≡ rejection q (tables M (without_open M t w))
+  same_turned w s t q = rejection_same q (tables M w) (tables M (without_open M t w)) (ever_without w s t)
+
+  same_unasked : (w : World M) → Sound M w → (t : ℕ) (q : Query)
+      → query_rejection q (tables M w) ≡ query_rejection q (tables M (without_open M t w))
+  same_unasked w s t q = query_rejection_same q (tables M w) (tables M (without_open M t w)) (ever_without w s t)
+
+  same_ask : (w : World M) → Sound M w → (t u : ℕ) (o : Open M) → u ≢ t → w.active u ≡ Some o
+      → ask (tx_of M u o) o.now.position (tables M w) ≡ ask (tx_of M u o) o.now.position (tables M (without_open M t w))
+  same_ask w s t u o ne e = reads_alone M L w s u o e
+      ∙ sym (reads_alone M L (without_open M t w) (sound_drop M L w s t) u o (live_without w t u (Some o) ne e))
+
+  granted : (w : World M) → Sound M w → (t u : ℕ) (o : Open M) → u ≢ t → w.active u ≡ Some o
+      → IsGranted M w u (ask (tx_of M u o) o.now.position (tables M w))
+      → IsGranted M (without_open M t w) u (ask (tx_of M u o) o.now.position (tables M (without_open M t w)))
+  granted w s t u o ne e g = subst (IsGranted M (without_open M t w) u) (same_ask w s t u o ne e)
+      (granted_without w t u (ask (tx_of M u o) o.now.position (tables M w)) g)
+
+  same_act : (w : World M) → Sound M w → (t u : ℕ) (o : Open M) → u ≢ t → w.active u ≡ Some o
+      → IsGranted M w u (ask (tx_of M u o) o.now.position (tables M w))
+      → act (tx_of M u o) o.now.position (tables M w) ≡ act (tx_of M u o) o.now.position (tables M (without_open M t w))
+  same_act w s t u o ne e g =
+      acts_alone M L w s u o e g
+      ∙ sym (acts_alone M L (without_open M t w) (sound_drop M L w s t) u o (live_without w t u (Some o) ne e)
+      (granted w s t u o ne e g))
+
+  -- REFUSALS
+
+  busy_without : (w : World M) (t u : ℕ) (n : Name) (m : Mode) (x : ℕ) → x ≢ t → IsInTheWay M w u n m x
+      → IsInTheWay M (without_open M t w) u n m x
+  busy_without w t u n m x ne g =
+      record {
+        other = g.other;
+        who = g.who;
+        is_open = live_without w t x (Some g.who) ne g.is_open;
+        conflicts = g.conflicts;
+        least = λ v o less other h. g.least v o less other (go v o (set_cases t None w.active v o h));
+      }
+    where
+      go : (v : ℕ) (o : Open M) → ((v ≡ t) × (None ≡ Some o)) ⊎ ((v ≢ t) × (w.active v ≡ Some o)) → w.active v ≡ Some o
+      go v o (inl h) = absurd (some_none o (sym h.1))
+      go v o (inr h) = h.1
+
+  may_begin : (w : World M) → Sound M w → (t u : ℕ) (q : Request) → u ≢ t → MayBegin M w u q
+      → MayBegin M (without_open M t w) u q
+  may_begin w s t u q ne b =
+      record {
+        terminal = b.terminal;
+        valid = b.valid;
+        known = sym (same_turned w s t q) ∙ b.known;
+        closed = live_without w t u None ne b.closed;
+        counted = b.counted;
+      }
+
+  may_lack : (w : World M) → Sound M w → (t u : ℕ) (o : Open M) → u ≢ t → w.active u ≡ Some o
+      → (a : Ask Name Refusal) → ask (tx_of M u o) o.now.position (tables M w) ≡ a → MayLackMemory M w u o a
+      → MayLackMemory M (without_open M t w) u o a
+  may_lack w s t u o ne e (Stop x) r m = m
+  may_lack w s t u o ne e Plain r m = (
+    tt,
+    m.1,
+    subst (GivesWay M (yields (tx_of M u o) o.now.position))
+        (same_act w s t u o ne e (subst (IsGranted M w u) (sym r) tt)) m.2,
+  )
+  may_lack w s t u o ne e (Take n d) r m = (
+    granted_without w t u (Take n d) m.0,
+    m.1,
+    subst (GivesWay M (yields (tx_of M u o) o.now.position))
+        (same_act w s t u o ne e (subst (IsGranted M w u) (sym r) m.0)) m.2,
+  )
+
+  -- the step gets as far without it
+  past_without : (w : World M) → Sound M w → (t : ℕ) (o : Open M) → w.active t ≡ Some o → (i : Step M) → IsPast M w i
+      → IsPast M (without_open M t w) i
+  past_without w s t o l (Begin u q) p = p
+  past_without w s t o l (Advance u) p = p
+  past_without w s t o l (Save u) p = p
+  past_without w s t o l (Back u) p = p
+  past_without w s t o l (Rollback u) p = p
+  past_without w s t o l (Read m q) p = sym (same_unasked w s t q) ∙ p
+  past_without w s t o l (Audit m c) p = p
+  past_without w s t o l (Purge m) p = p
+  past_without w s t o l (Rewind m) quiet = absurd (some_none o (sym l ∙ quiet t))
+
+  -- STEPS OF OTHERS
+
+  -- what a step of others does beside the transaction: it is refused and gives way, or is answered so without it too
+  pub data Beside (w : World M) (t : ℕ) (i : Step M) (a : Answer M) (v : World M) : Type 0 where
+    gave_way : gives_way M t i a ≡ true → is_idle M a ≡ true → v ≡ w → Beside w t i a v
+    stands : gives_way M t i a ≡ false → (o : Open M) → v.active t ≡ Some o
+        → Next M (without_open M t w) i a (without_open M t v) → Beside w t i a v
+
+  still_open : (w : World M) (t u : ℕ) (o : Open M) (v : Option (Open M)) → u ≢ t → w.active t ≡ Some o
+      → set u v w.active t ≡ Some o
+  still_open w t u o v ne l = set_other u v w.active t (λ z. ne (sym z)) ∙ l
+
+  not_of : (t : ℕ) (v : Option ℕ) → v ≢ Some t → names M t v ≡ false
+  not_of t None h = refl
+  not_of t (Some u) h = ne_eqb u t (λ z. h (ap Some z))
+
+  -- an accepted step is one by the theory's law of a rollback, where the rollback comes next
+  accepted : (w : World M) → Sound M w → (t : ℕ) (o p : Open M) → w.active t ≡ Some o
+      → (i : Step M) (a : Answer M) (v : World M) → works_on M i ≢ Some t
+      → Next M w i a v → is_idle M a ≡ false → v.active t ≡ Some p
+      → Next M (without_open M t w) i a (without_open M t v)
+  accepted w s t o p l i a v h n idle k = at_end
+      (subst (λ (z : List (Event M)). Run M (without_open M t w) z (without_open M t v)) left run)
+    where
+      first : Event M
+      first = record { step = i; answer = a }
+
+      last : Event M
+      last = record { step = Rollback t; answer = Rolled_back }
+
+      apart : is_of M t i ≡ false
+      apart = not_of t (works_on M i) h
+
+      own : is_of M t (Rollback t) ≡ true
+      own = eq-eqb t t refl
+
+      ends : is_rolled_back M t (last ∷ []) ≡ true
+      ends = ap (λ (z : Bool). cond z true false) own
+
+      over : is_rolled_back M t (first ∷ last ∷ []) ≡ true
+      over = ap (λ (z : Bool). cond z
+          (cond (is_rollback M a) true (cond (is_commit M a) false (is_rolled_back M t (last ∷ []))))
+          (is_rolled_back M t (last ∷ []))) apart ∙ ends
+
+      gone : erased M t (last ∷ []) ≡ []
+      gone = ap (λ (z : Bool). cond z [] (last ∷ [])) own
+
+      left : erased M t (first ∷ last ∷ []) ≡ first ∷ []
+      left =
+          ap (λ (z : Bool). cond z (cond (is_rollback M a) (tidy M (last ∷ [])) (erased M t (last ∷ [])))
+          (cond (is_idle M a) (erased M t (last ∷ [])) (first ∷ erased M t (last ∷ [])))) apart
+          ∙ (ap (λ (z : Bool). cond z (erased M t (last ∷ [])) (first ∷ erased M t (last ∷ []))) idle
+          ∙ ap (λ z. first ∷ z) gone)
+
+      run : Run M (without_open M t w) (erased M t (first ∷ last ∷ [])) (without_open M t v)
+      run = run_erased M L w s t o l (first ∷ last ∷ []) (without_open M t v)
+          (v, n, (without_open M t v, rolls_back t p k, refl)) over
+
+      at_end : Run M (without_open M t w) (first ∷ []) (without_open M t v)
+          → Next M (without_open M t w) i a (without_open M t v)
+      at_end (x, m, e) = subst (Next M (without_open M t w) i a) e m
+
+  -- a refusal of another that is there without the transaction too
+  stays : (w : World M) (t : ℕ) (o : Open M) → w.active t ≡ Some o → (i : Step M) (a : Answer M)
+      → gives_way M t i a ≡ false → Next M (without_open M t w) i a (without_open M t w) → Beside w t i a w
+  stays w t o l i a b n = stands b o l n
+
+  pub beside : (w : World M) → Sound M w → (t : ℕ) (o : Open M) → w.active t ≡ Some o
+      → (i : Step M) (a : Answer M) (v : World M) → works_on M i ≢ Some t → Next M w i a v → Beside w t i a v
+  beside w s t o l _ _ _ h (begins u q b) =
+      let ne : u ≢ t = λ z. some_none o (sym l ∙ (ap w.active (sym z) ∙ b.closed)) in
+      let k = still_open w t u o (Some (begun M w u q)) ne l in
+      stands refl o k (accepted w s t o o l _ _ _ h (begins u q b) refl k)
+  beside w s t o l _ _ _ h (goes_on u p c q e g r room) =
+      let k = still_open w t u o
+      (Some (moved M w.layout p (ask (tx_of M u p) p.now.position (tables M w)) c q (tables M w)))
+      (λ z. h (ap Some z)) l in
+      stands refl o k (accepted w s t o o l _ _ _ h (goes_on u p c q e g r room) refl k)
+  beside w s t o l _ _ _ h (commits u p reply e g r) =
+      let k = still_open w t u o None (λ z. h (ap Some z)) l in
+      stands refl o k (accepted w s t o o l _ _ _ h (commits u p reply e g r) refl k)
+  beside w s t o l _ _ _ h (saves u p e) =
+      let k = still_open w t u o (Some (record p { mark = p.now; mark_lengths = p.lengths })) (λ z. h (ap Some z)) l in
+      stands refl o k (accepted w s t o o l _ _ _ h (saves u p e) refl k)
+  beside w s t o l _ _ _ h (goes_back u p e) =
+      let k = still_open w t u o (Some (record p { now = p.mark; lengths = p.mark_lengths })) (λ z. h (ap Some z)) l in
+      stands refl o k (accepted w s t o o l _ _ _ h (goes_back u p e) refl k)
+  beside w s t o l _ _ _ h (rolls_back u p e) =
+      let k = still_open w t u o None (λ z. h (ap Some z)) l in
+      stands refl o k (accepted w s t o o l _ _ _ h (rolls_back u p e) refl k)
+  beside w s t o l _ _ _ h (reads m q f n b c e) =
+      stands refl o l (accepted w s t o o l _ _ _ h (reads m q f n b c e) refl l)
+  beside w s t o l _ _ _ h (audits m c b k) = stands refl o l (accepted w s t o o l _ _ _ h (audits m c b k) refl l)
+  beside w s t o l _ _ _ h (purges m b c) = stands refl o l (accepted w s t o o l _ _ _ h (purges m b c) refl l)
+  beside w s t o l _ _ _ h (rewinds m quiet b c) = absurd (some_none o (sym l ∙ quiet t))
+  beside w s t o l _ _ _ h (stops u p x e r) =
+      let k = still_open w t u o None (λ z. h (ap Some z)) l in
+      stands refl o k (accepted w s t o o l _ _ _ h (stops u p x e r) refl k)
+  beside w s t o l _ _ _ h (fails u p x e g r) =
+      let k = still_open w t u o None (λ z. h (ap Some z)) l in
+      stands refl o k (accepted w s t o o l _ _ _ h (fails u p x e g r) refl k)
+  beside w s t o l _ _ _ h (is_busy u p n m x e r g) = go (cases_eq x t)
+    where
+      ne : u ≢ t
+      ne = λ z. h (ap Some z)
+
+      go : (x ≡ t) ⊎ (x ≢ t) → Beside w t (Advance u) (Busy n x) w
+      go (inl same) = gave_way (eq-eqb x t same) refl refl
+      go (inr other) =
+          stands (ne_eqb x t other) o l
+          (is_busy u p n m x (live_without w t u (Some p) ne e) (sym (same_ask w s t u p ne e) ∙ r)
+          (busy_without w t u n m x other g))
+  beside w s t o l _ _ _ h (is_full u p c q e g r f) = gave_way refl refl refl
+  beside w s t o l _ _ _ h (is_rejected u q e r) = stands refl o l (is_rejected u q e (sym (same_turned w s t q) ∙ r))
+  beside w s t o l _ _ _ h (is_open u q p r e) = go (cases_eq u t)
+    where
+      go : (u ≡ t) ⊎ (u ≢ t) → Beside w t (Begin u q) Already_open w
+      go (inl same) = gave_way (eq-eqb u t same) refl refl
+      go (inr other) = stands (ne_eqb u t other) o l
+          (is_open u q p (sym (same_turned w s t q) ∙ r) (live_without w t u (Some p) other e))
+  beside w s t o l _ _ _ h (number_is_rejected u q e r c k) =
+      let ne : u ≢ t = λ z. some_none o (sym l ∙ (ap w.active (sym z) ∙ c)) in
+      stands refl o l (number_is_rejected u q e (sym (same_turned w s t q) ∙ r) (live_without w t u None ne c) k)
+  beside w s t o l _ _ _ h (query_is_rejected m q e r) = stands refl o l
+      (query_is_rejected m q e (sym (same_unasked w s t q) ∙ r))
+  beside w s t o l _ _ _ h (misses m q e r b c k) = stands refl o l
+      (misses m q e (sym (same_unasked w s t q) ∙ r) b c k)
+  beside w s t o l _ _ _ h (not_open i u e f) =
+      stands refl o l (not_open i u e (live_without w t u None (λ z. h (e ∙ ap Some z)) f))
+  beside w s t o l _ _ _ h (too_old i m e p b) = stands refl o l (too_old i m e (past_without w s t o l i p) b)
+  beside w s t o l _ _ _ h (future i m e p b) = stands refl o l (future i m e (past_without w s t o l i p) b)
+  beside w s t o l _ _ _ h (not_quiet m n e) = gave_way refl refl refl
+  beside w s t o l _ _ _ h (lacks_memory_at_begin u q b) =
+      let ne : u ≢ t = λ z. some_none o (sym l ∙ (ap w.active (sym z) ∙ b.closed)) in
+      stands refl o l (lacks_memory_at_begin u q (may_begin w s t u q ne b))
+  beside w s t o l _ _ _ h (lacks_memory u p e m) =
+      let ne : u ≢ t = λ z. h (ap Some z) in
+      let a = ask (tx_of M u p) p.now.position (tables M w) in
+      stands refl o l
+      (lacks_memory u p (live_without w t u (Some p) ne e)
+      (subst (MayLackMemory M (without_open M t w) u p) (same_ask w s t u p ne e) (may_lack w s t u p ne e a refl m)))
+
+  pub others_see_nothing : Others_see_nothing M
+  others_see_nothing w v i a t o r l h n b = go (beside w (reached_sound M L w r) t o l i a v h n)
+    where
+      go : Beside w t i a v → Next M (without_open M t w) i a (without_open M t v)
+      go (gave_way c idle same) = absurd (false≢true (sym b ∙ c))
+      go (stands c p k m) = m
+
+  -- STEPS OF ITS OWN
+
+  -- what a step of the transaction itself does
+  pub data Own (w : World M) (t : ℕ) (a : Answer M) (v : World M) : Type 0 where
+    ended : is_rollback M a ≡ true → v ≡ without_open M t w → Own w t a v
+    was_committed : is_rollback M a ≡ false → is_commit M a ≡ true → Own w t a v
+    went_on : is_rollback M a ≡ false → (p : Open M) → v.active t ≡ Some p → without_open M t v ≡ without_open M t w
+        → Own w t a v
+
+  of_own : (t : ℕ) (i : Step M) → works_on M i ≡ Some t → is_of M t i ≡ true
+  of_own t i e = ap (names M t) e ∙ eq-eqb t t refl
+
+  -- one that rolls it back
+  drops : (w : World M) → Sound M w → (t : ℕ) (o : Open M) → w.active t ≡ Some o
+      → (i : Step M) (a : Answer M) (v : World M) → works_on M i ≡ Some t
+      → Next M w i a v → is_rollback M a ≡ true → v ≡ without_open M t w
+  drops w s t o l i a v h n b =
+      sym (subst (λ (z : List (Event M)). Run M (without_open M t w) z v) left
+      (run_erased M L w s t o l (first ∷ []) v (v, n, refl) over))
+    where
+      first : Event M
+      first = record { step = i; answer = a }
+
+      over : is_rolled_back M t (first ∷ []) ≡ true
+      over = ap (λ (z : Bool). cond z (cond (is_rollback M a) true (cond (is_commit M a) false false)) false)
+          (of_own t i h) ∙ ap (λ (z : Bool). cond z true (cond (is_commit M a) false false)) b
+
+      left : erased M t (first ∷ []) ≡ []
+      left =
+          ap (λ (z : Bool). cond z (cond (is_rollback M a) [] []) (cond (is_idle M a) [] (first ∷ []))) (of_own t i h)
+          ∙ ap (λ (z : Bool). cond z [] []) b
+
+  -- one after which it goes on
+  keeps : (w : World M) → Sound M w → (t : ℕ) (o p : Open M) → w.active t ≡ Some o
+      → (i : Step M) (a : Answer M) (v : World M) → works_on M i ≡ Some t
+      → Next M w i a v → is_rollback M a ≡ false → is_commit M a ≡ false → v.active t ≡ Some p
+      → without_open M t v ≡ without_open M t w
+  keeps w s t o p l i a v h n b c k =
+      sym (subst (λ (z : List (Event M)). Run M (without_open M t w) z (without_open M t v)) left
+      (run_erased M L w s t o l (first ∷ last ∷ []) (without_open M t v)
+      (v, n, (without_open M t v, rolls_back t p k, refl)) over))
+    where
+      first : Event M
+      first = record { step = i; answer = a }
+
+      last : Event M
+      last = record { step = Rollback t; answer = Rolled_back }
+
+      own : is_of M t (Rollback t) ≡ true
+      own = eq-eqb t t refl
+
+      ends : is_rolled_back M t (last ∷ []) ≡ true
+      ends = ap (λ (z : Bool). cond z true false) own
+
+      over : is_rolled_back M t (first ∷ last ∷ []) ≡ true
+      over =
+          ap (λ (z : Bool). cond z
+          (cond (is_rollback M a) true (cond (is_commit M a) false (is_rolled_back M t (last ∷ []))))
+          (is_rolled_back M t (last ∷ []))) (of_own t i h)
+          ∙ (ap (λ (z : Bool). cond z true (cond (is_commit M a) false (is_rolled_back M t (last ∷ [])))) b
+          ∙ (ap (λ (z : Bool). cond z false (is_rolled_back M t (last ∷ []))) c ∙ ends))
+
+      gone : erased M t (last ∷ []) ≡ []
+      gone = ap (λ (z : Bool). cond z [] (last ∷ [])) own
+
+      left : erased M t (first ∷ last ∷ []) ≡ []
+      left =
+          ap (λ (z : Bool). cond z (cond (is_rollback M a) (tidy M (last ∷ [])) (erased M t (last ∷ [])))
+          (cond (is_idle M a) (erased M t (last ∷ [])) (first ∷ erased M t (last ∷ [])))) (of_own t i h)
+          ∙ (ap (λ (z : Bool). cond z (tidy M (last ∷ [])) (erased M t (last ∷ []))) b ∙ gone)
+
+  own_place : (w : World M) (t u : ℕ) (o : Open M) → ◌≡◌ {A = Option ℕ} (Some u) (Some t)
+      → set u (Some o) w.active t ≡ Some o
+  own_place w t u o h = set_same u (Some o) w.active t (sym (some_inj u t h))
+
+  pub own : (w : World M) → Sound M w → (t : ℕ) (o : Open M) → w.active t ≡ Some o
+      → (i : Step M) (a : Answer M) (v : World M) → works_on M i ≡ Some t → Next M w i a v → Own w t a v
+  own w s t o l _ _ _ h (begins u q b) = absurd (some_none t (sym h))
+  own w s t o l _ _ _ h (goes_on u p c q e g r room) =
+      let p' = moved M w.layout p (ask (tx_of M u p) p.now.position (tables M w)) c q (tables M w) in
+      went_on refl p' (own_place w t u p' h)
+      (keeps w s t o p' l _ _ _ h (goes_on u p c q e g r room) refl refl (own_place w t u p' h))
+  own w s t o l _ _ _ h (commits u p reply e g r) = was_committed refl refl
+  own w s t o l _ _ _ h (saves u p e) =
+      let p' : Open M = record p { mark = p.now; mark_lengths = p.lengths } in
+      went_on refl p' (own_place w t u p' h) (keeps w s t o p' l _ _ _ h (saves u p e) refl refl (own_place w t u p' h))
+  own w s t o l _ _ _ h (goes_back u p e) =
+      let p' : Open M = record p { now = p.mark; lengths = p.mark_lengths } in
+      went_on refl p' (own_place w t u p' h)
+      (keeps w s t o p' l _ _ _ h (goes_back u p e) refl refl (own_place w t u p' h))
+  own w s t o l _ _ _ h (rolls_back u p e) = ended refl (drops w s t o l _ _ _ h (rolls_back u p e) refl)
+  own w s t o l _ _ _ h (purges m b c) = absurd (some_none t (sym h))
+  own w s t o l _ _ _ h (rewinds m quiet b c) = absurd (some_none t (sym h))
+  own w s t o l _ _ _ h (stops u p x e r) = ended refl (drops w s t o l _ _ _ h (stops u p x e r) refl)
+  own w s t o l _ _ _ h (fails u p x e g r) = ended refl (drops w s t o l _ _ _ h (fails u p x e g r) refl)
+  own w s t o l _ _ _ h n = went_on refl o l refl
+
+  -- what its beginning does
+  pub began : (w : World M) → Sound M w → (t : ℕ) (q : Request) (v : World M) → Next M w (Begin t q) Begun v
+      → (o : Open M) × (v.active t ≡ Some o) × (without_open M t v ≡ w)
+  began w s t q v n = go _ _ v n refl refl
+    where
+      last : Event M
+      last = record { step = Rollback t; answer = Rolled_back }
+
+      mine : is_of M t (Rollback t) ≡ true
+      mine = eq-eqb t t refl
+
+      over : is_rolled_back M t (last ∷ []) ≡ true
+      over = ap (λ (z : Bool). cond z true false) mine
+
+      left : erased M t (last ∷ []) ≡ []
+      left = ap (λ (z : Bool). cond z [] (last ∷ [])) mine
+
+      back : (o : Open M) (v : World M) → Next M w (Begin t q) Begun v → v.active t ≡ Some o → without_open M t v ≡ w
+      back o v n k =
+          sym (subst (λ (z : List (Event M)). Run M w z (without_open M t v)) left
+          (run_without M L w s [] t q (last ∷ []) (without_open M t v)
+          (v, n, (without_open M t v, rolls_back t o k, refl)) over))
+
+      go : (i : Step M) (a : Answer M) (v : World M) → Next M w i a v → i ≡ Begin t q → a ≡ Begun
+          → (o : Open M) × (v.active t ≡ Some o) × (without_open M t v ≡ w)
+      go _ _ _ (begins u p b) i a =
+          let same : u ≡ t = cc in
+          let k = set_same u (Some (begun M w u p)) w.active t (sym same) in (
+            begun M w u p,
+            k,
+            back (begun M w u p) _
+                (subst (λ (z : Step M). Next M w z Begun (put_active M u (Some (begun M w u p)) w)) i (begins u p b)) k,
+          )
+      go _ _ _ n i a = cc

@@ -1,0 +1,7 @@
+use Rattle.oe_theory.proofs.Theorems.{run_is_reached}
+use Rattle.oe_theory_example.specs.Bank.{bank}
+use Rattle.oe_theory_example.proofs.Laws.{bank_laws}
+use Rattle.oe_theory_example.proofs.run_is_reached.Goals as goal
+
+pub returns : goal.returns
+returns c = run_is_reached bank bank_laws

@@ -1,0 +1,342 @@
+-- The bank's programs: one pays from an account into a queue, one serves the least entry of a queue, one gives an
+-- account another owner, and one counts a visit on an owner's first account.
+use Rattle.std.specs.Prelude.{ℕ, suc, ◌+◌, ◌-◌, ◌≤◌, Bool, true, false, cond, nat_le, Option, None, Some, List, [], ◌∷◌}
+use Rattle.std.specs.FinMap.{get, insert, remove}
+use Rattle.oe_theory.specs.Machine.{Tx, Hold, Shared, Exclusive, Ask, Stop, Plain, Take, Act, Fail, Go, Ready}
+use Rattle.oe_theory_example.specs.Rows.{Account, Entry, Tables, AccountKey, Change, SetAccount, SetEntry, SetSlip}
+use Rattle.oe_theory_example.specs.Rows.{IsThere, row_at}
+use Rattle.oe_theory_example.specs.Rows.{part, least, first_owned}
+use Rattle.oe_theory_example.specs.declared.Name.{Name}
+use Rattle.oe_theory_example.specs.declared.Name.TheVariants.{OfAccount, OfQueue, OfOwner}
+
+-- a request to pay: from which account, under which key of the queues, for which account, and how much
+pub record Payment : Type 0 where
+  pub account : ℕ
+  pub entry : ℕ × ℕ
+  pub target : ℕ
+  pub amount : ℕ
+
+-- what can be asked for: to pay, to serve a queue, to give an account an owner, to visit an owner's first account
+pub data Request : Type 0 where
+  Pay : Payment → Request
+  Serve : ℕ → Request
+  Rename : ℕ → ℕ → Request
+  Visit : ℕ → Request
+
+-- what a commit answers: the balance that is left, the number of the entry, the new owner, the account
+pub data Reply : Type 0 where
+  Paid : ℕ → Reply
+  Served : ℕ → Reply
+  Skipped : Reply
+  Renamed : ℕ → Reply
+  Visited : ℕ → Reply
+
+-- why a program is refused: there is no such account, a number would leave its range, there is such a row already
+pub data Refusal : Type 0 where
+  NoAccount : Refusal
+  Overflow : Refusal
+  Present : Refusal
+
+-- positions of a payment, with the balance that is left
+pub data Pay_position : Type 0 where
+  At_account : Pay_position
+  At_entry : ℕ → Pay_position
+  At_slip : ℕ → Pay_position
+  At_end : ℕ → Pay_position
+
+-- positions of serving, with the entry that was taken
+pub data Serve_position : Type 0 where
+  At_queue : Serve_position
+  At_target : ℕ × ℕ → Entry → Serve_position
+  At_served : ℕ × ℕ → Serve_position
+  At_skip : Serve_position
+
+-- positions of a renaming, with the old owner
+pub data Rename_position : Type 0 where
+  To_read : Rename_position
+  To_leave : ℕ → Rename_position
+  To_set : ℕ → Rename_position
+  To_close : Rename_position
+
+-- positions of a visit, with the account that was found
+pub data Visit_position : Type 0 where
+  To_find : Visit_position
+  To_visit : ℕ → Visit_position
+  To_end : ℕ → Visit_position
+
+-- a program with its request and its position
+pub data Program : Type 0 where
+  Paying : Payment → Pay_position → Program
+  Serving : ℕ → Serve_position → Program
+  Renaming : ℕ → ℕ → Rename_position → Program
+  Visiting : ℕ → Visit_position → Program
+
+-- where a request begins
+abbrev pub program_of : Request → Program
+program_of (Pay q) = Paying q At_account
+program_of (Serve d) = Serving d At_queue
+program_of (Rename k n) = Renaming k n To_read
+program_of (Visit n) = Visiting n To_find
+
+-- a payment is of 10,000 at most; all other requests are within their ranges
+abbrev pub IsRequest : Request → Type 0
+IsRequest (Pay q) = q.amount ≤ 10000
+IsRequest _ = Unit {0}
+
+-- the refusals that a program may end with. A renaming has none: it begins only where its account is, and accounts stay
+abbrev pub MayRefuse : Request → Refusal → Type 0
+MayRefuse (Pay q) NoAccount = Unit {0}
+MayRefuse (Pay q) Overflow = Unit {0}
+MayRefuse (Pay q) Present = Unit {0}
+MayRefuse (Serve d) NoAccount = Unit {0}
+MayRefuse (Visit n) NoAccount = Unit {0}
+MayRefuse _ _ = ⊥
+
+-- what a program does at a position
+abbrev pub Action : Type 0
+Action = Act Change Program Reply Refusal
+
+-- go on with the value that is there, and fail where there is none
+abbrev pub given : {A : Type 0} → Refusal → Option A → (A → Action) → Action
+given e None f = Fail e
+given e (Some a) f = f a
+
+-- go on where nothing is there, and fail where something is
+abbrev pub if_absent : {A : Type 0} → Option A → Action → Action
+if_absent None d = d
+if_absent (Some a) d = Fail Present
+
+-- go on where the number stays within its range, and fail where it does not
+abbrev pub if_within : Bool → Action → Action
+if_within true d = d
+if_within false d = Fail Overflow
+
+-- ask for an account's name, and stop where there is no such account
+abbrev pub take_account : ℕ → Tables → Ask Name Refusal
+take_account k r = cond (part (IsThere k) (row_at r (AccountKey k))) (Take (OfAccount k) Exclusive) (Stop NoAccount)
+
+-- a name that is held alone
+abbrev pub alone : Name → Hold Name
+alone n = record { name = n; mode = Exclusive }
+
+-- an account after a payment from it
+abbrev pub debited : Payment → Account → Account
+debited q a = record a { balance = a.balance - q.amount }
+
+-- the entry of a payment
+abbrev pub entry_of : Payment → Entry
+entry_of q = record { account = q.target; amount = q.amount }
+
+-- the locks that a payment asks for, position by position
+abbrev pub pay_ask : Payment → Pay_position → Tables → Ask Name Refusal
+pay_ask q At_account r = take_account q.account r
+pay_ask q (At_entry b) r = Take (OfQueue q.entry.0) Exclusive
+pay_ask q (At_slip b) r = Plain
+pay_ask q (At_end b) r = Plain
+
+-- what it does: the balance falls, the entry is put into its queue, and a slip of the transaction into the journal
+abbrev pub pay_act : Tx Request → Payment → Pay_position → Tables → Action
+pay_act x q At_account r =
+    given NoAccount (get r.accounts q.account) (λ a.
+    if_within (nat_le q.amount a.balance)
+    (Go (Some (SetAccount q.account (Some (debited q a)))) (Paying q (At_entry (a.balance - q.amount)))))
+pay_act x q (At_entry b) r = if_absent (get r.queues q.entry)
+    (Go (Some (SetEntry q.entry (Some (entry_of q)))) (Paying q (At_slip b)))
+pay_act x q (At_slip b) r = if_absent (get r.journal (x.terminal, x.number))
+    (Go (Some (SetSlip (x.terminal, x.number) (Some q.amount))) (Paying q (At_end b)))
+pay_act x q (At_end b) r = Ready (Paid b)
+
+-- the locks that were taken on the way
+abbrev pub pay_taken : Payment → Pay_position → List (Hold Name)
+pay_taken q At_account = []
+pay_taken q (At_entry b) = alone (OfAccount q.account) ∷ []
+pay_taken q (At_slip b) = alone (OfQueue q.entry.0) ∷ alone (OfAccount q.account) ∷ []
+pay_taken q (At_end b) = alone (OfQueue q.entry.0) ∷ alone (OfAccount q.account) ∷ []
+
+-- an account after an entry for it was served
+abbrev pub credited : Entry → Account → Account
+credited e a = record a { balance = a.balance + e.amount }
+
+-- the locks that serving asks for, position by position
+abbrev pub serve_ask : ℕ → Serve_position → Tables → Ask Name Refusal
+serve_ask d At_queue r = Take (OfQueue d) Exclusive
+serve_ask d (At_target k e) r = Take (OfAccount e.account) Exclusive
+serve_ask d (At_served k) r = Plain
+serve_ask d At_skip r = Plain
+
+-- the least entry is removed, if there is one
+abbrev pub take_least : ℕ → Option ((ℕ × ℕ) × Entry) → Action
+take_least d None = Go None (Serving d At_skip)
+take_least d (Some p) = Go (Some (SetEntry (d, p.0.1) None)) (Serving d (At_target (d, p.0.1) p.1))
+
+-- what it does: the least entry is removed, and the balance of its account rises
+abbrev pub serve_act : ℕ → Serve_position → Tables → Action
+serve_act d At_queue r = take_least d (least d r)
+serve_act d (At_target k e) r = given NoAccount (get r.accounts e.account)
+    (λ a. Go (Some (SetAccount e.account (Some (credited e a)))) (Serving d (At_served k)))
+serve_act d (At_served k) r = Ready (Served k.1)
+serve_act d At_skip r = Ready Skipped
+
+-- the locks that were taken on the way, as far as later positions need them
+abbrev pub serve_taken : ℕ → Serve_position → List (Hold Name)
+serve_taken d At_queue = []
+serve_taken d (At_target k e) = alone (OfQueue d) ∷ []
+serve_taken d (At_served k) = []
+serve_taken d At_skip = []
+
+-- an account with another owner
+abbrev pub renamed : ℕ → Account → Account
+renamed n a = record a { owner = n }
+
+-- the locks that a renaming asks for, position by position: the old and the new owner's names are held when the owner
+-- changes
+abbrev pub rename_ask : ℕ → ℕ → Rename_position → Tables → Ask Name Refusal
+rename_ask k n To_read r = take_account k r
+rename_ask k n (To_leave old) r = Take (OfOwner old) Exclusive
+rename_ask k n (To_set old) r = Take (OfOwner n) Exclusive
+rename_ask k n To_close r = Plain
+
+-- what it does: the old owner is read, and then the owner is changed
+abbrev pub rename_act : ℕ → ℕ → Rename_position → Tables → Action
+rename_act k n To_read r = given NoAccount (get r.accounts k) (λ a. Go None (Renaming k n (To_leave a.owner)))
+rename_act k n (To_leave old) r = Go None (Renaming k n (To_set old))
+rename_act k n (To_set old) r = given NoAccount (get r.accounts k)
+    (λ a. Go (Some (SetAccount k (Some (renamed n a)))) (Renaming k n To_close))
+rename_act k n To_close r = Ready (Renamed n)
+
+-- the locks that were taken on the way, as far as later positions need them
+abbrev pub rename_taken : ℕ → Rename_position → List (Hold Name)
+rename_taken k To_read = []
+rename_taken k (To_leave old) = alone (OfAccount k) ∷ []
+rename_taken k (To_set old) = alone (OfOwner old) ∷ alone (OfAccount k) ∷ []
+rename_taken k To_close = []
+
+-- an account with one more visit
+abbrev pub visited : Account → Account
+visited a = record a { visits = suc a.visits }
+
+-- the locks that a visit asks for, position by position: the owner's name is held when its accounts are looked up
+abbrev pub visit_ask : ℕ → Visit_position → Tables → Ask Name Refusal
+visit_ask n To_find r = Take (OfOwner n) Shared
+visit_ask n (To_visit k) r = Take (OfAccount k) Exclusive
+visit_ask n (To_end k) r = Plain
+
+-- what it does: the owner's first account is found, and its visits are one more
+abbrev pub visit_act : ℕ → Visit_position → Tables → Action
+visit_act n To_find r = given NoAccount (first_owned n r) (λ k. Go None (Visiting n (To_visit k)))
+visit_act n (To_visit k) r = given NoAccount (get r.accounts k)
+    (λ a. Go (Some (SetAccount k (Some (visited a)))) (Visiting n (To_end k)))
+visit_act n (To_end k) r = Ready (Visited k)
+
+-- the locks that were taken on the way, as far as later positions need them
+abbrev pub visit_taken : ℕ → Visit_position → List (Hold Name)
+visit_taken n To_find = []
+visit_taken n (To_visit k) = record { name = OfOwner n; mode = Shared } ∷ []
+visit_taken n (To_end k) = []
+
+-- the lock that a program asks for at its position
+abbrev pub ask : Tx Request → Program → Tables → Ask Name Refusal
+ask x (Paying q p) r = pay_ask q p r
+ask x (Serving d p) r = serve_ask d p r
+ask x (Renaming k n p) r = rename_ask k n p r
+ask x (Visiting n p) r = visit_ask n p r
+
+-- what a program does at its position
+abbrev pub act : Tx Request → Program → Tables → Action
+act x (Paying q p) r = pay_act x q p r
+act x (Serving d p) r = serve_act d p r
+act x (Renaming k n p) r = rename_act k n p r
+act x (Visiting n p) r = visit_act n p r
+
+-- the locks that a program took on the way to its position
+abbrev pub taken : Tx Request → Program → List (Hold Name)
+taken x (Paying q p) = pay_taken q p
+taken x (Serving d p) = serve_taken d p
+taken x (Renaming k n p) = rename_taken k p
+taken x (Visiting n p) = visit_taken n p
+
+-- a payment's mark moves to its last change
+abbrev pub marks : Program → Bool
+marks (Paying q (At_slip b)) = true
+marks _ = false
+
+-- what inserts a row needs memory
+abbrev pub may_allocate : Tx Request → Program → Bool
+may_allocate x (Paying q (At_entry b)) = true
+may_allocate x (Paying q (At_slip b)) = true
+may_allocate x _ = false
+
+-- a want of memory may stand in the place of an overflow, and of a look-up by owner that finds no account
+abbrev pub yields : Tx Request → Program → Refusal → Bool
+yields x p Overflow = true
+yields x (Visiting n To_find) NoAccount = true
+yields x p e = false
+
+-- a renaming of an account that isn't there is turned away
+abbrev pub rejection : Request → Tables → Option Refusal
+rejection (Rename k n) r = cond (part (IsThere k) (row_at r (AccountKey k))) None (Some NoAccount)
+rejection q r = None
+
+-- numbers end at 2^32 - 1
+abbrev pub number_rejection : ℕ → Option Refusal
+number_rejection n = cond (nat_le n 4294967295) None (Some Overflow)
+
+-- a whole effect: the tables after it and the reply, or none where it is refused
+abbrev pub Effect : Type 0
+Effect = Option (Tables × Reply)
+
+-- the next line with the value that is there, and no effect where there is none
+infixl 10 ◌>>=◌
+abbrev pub ◌>>=◌ : {A : Type 0} → Option A → (A → Effect) → Effect
+◌>>=◌ None f = None
+◌>>=◌ (Some a) f = f a
+
+-- the next line where nothing is there, and no effect where something is
+infixl 10 ◌>>!◌
+abbrev pub ◌>>!◌ : {A : Type 0} → Option A → Effect → Effect
+◌>>!◌ None e = e
+◌>>!◌ (Some a) e = None
+
+-- the whole effect of a payment: the account's balance falls, and the entry and the slip are there
+abbrev pub pay_whole : Tx Request → Payment → Tables → Effect
+pay_whole x q r =
+    get r.accounts q.account >>= λ a.
+    cond (nat_le q.amount a.balance)
+    (get r.queues q.entry >>! Some (
+      record {
+        accounts = insert r.accounts q.account (debited q a);
+        queues = insert r.queues q.entry (entry_of q);
+        journal = insert r.journal (x.terminal, x.number) q.amount;
+      },
+      Paid (a.balance - q.amount),
+    ))
+    None
+
+-- the whole effect of serving: the least entry is gone, and its amount is on its account
+abbrev pub serve_whole : ℕ → Tables → Option ((ℕ × ℕ) × Entry) → Effect
+serve_whole d r None = Some (r, Skipped)
+serve_whole d r (Some p) =
+    get r.accounts p.1.account >>= λ a.
+    Some (
+      record r { accounts = insert r.accounts p.1.account (credited p.1 a); queues = remove r.queues (d, p.0.1) },
+      Served p.0.1,
+    )
+
+-- the whole effect of a renaming: the account has its new owner
+abbrev pub rename_whole : ℕ → ℕ → Tables → Effect
+rename_whole k n r = get r.accounts k >>= λ a. Some
+    (record r { accounts = insert r.accounts k (renamed n a) }, Renamed n)
+
+-- the whole effect of a visit: the owner's first account has one more
+abbrev pub visit_whole : ℕ → Tables → Effect
+visit_whole n r =
+    first_owned n r >>= λ k.
+    get r.accounts k >>= λ a.
+    Some (record r { accounts = insert r.accounts k (visited a) }, Visited k)
+
+-- the whole effect of each request
+abbrev pub whole_of : Tx Request → Request → Tables → Effect
+whole_of x (Pay q) r = pay_whole x q r
+whole_of x (Serve d) r = serve_whole d r (least d r)
+whole_of x (Rename k n) r = rename_whole k n r
+whole_of x (Visit n) r = visit_whole n r
