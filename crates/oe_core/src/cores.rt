@@ -22,7 +22,7 @@ ghost use Rattle.oe_core.specs.Asks.{held_by, wanted_by};
 ghost use Rattle.oe_core.specs.Core.{world_of, last_reply, keeps_open, RepliesAfter, RepliesWithout, IsEndable, IsEnded};
 
 use crate::advances::Advanced;
-use crate::slots::{begin_work, empty_places, open_tx, put_tx, take_tx};
+use crate::slots::{begin_work, empty_places, end_work, open_tx, put_tx, take_tx};
 use crate::works::Work;
 use oe_admission::{ranges_hold, rejection};
 use oe_engine::{Engine, Lock, Progress, Tx};
@@ -366,7 +366,7 @@ impl Core {
             return Answer::Refused(Refusal::NotOpen);
         };
         roll_back(&mut self.engine, tx);
-        *self.works.at_mut(terminal) = None;
+        end_work(&mut self.works, terminal);
         Answer::RolledBack
     }
 
@@ -400,7 +400,7 @@ impl Core {
                 }
                 let open = open_tx(&mut self.txs, terminal);
                 roll_back(&mut self.engine, open);
-                *self.works.at_mut(terminal) = None;
+                end_work(&mut self.works, terminal);
                 Advanced::RolledBack(refusal)
             }
         }

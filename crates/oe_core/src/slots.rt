@@ -84,3 +84,12 @@ pub fn begin_work(works: &mut PerTerminal<Option<Work>>, terminal: Terminal, req
 {
     begin_slot(works.at_mut(terminal), request);
 }
+
+/// Empties a terminal's slot. The call stands apart: a whole empty slot is made before it is put
+/// there, and where the call was copied in, each stage made one.
+#[inline(never)]
+pub fn end_work(works: &mut PerTerminal<Option<Work>>, terminal: Terminal)
+    ensures { works.new ≡ slice_set works.old terminal None }
+{
+    *works.at_mut(terminal) = None;
+}

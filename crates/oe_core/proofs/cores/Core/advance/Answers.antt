@@ -18,7 +18,7 @@ use Rattle.oe_core.proofs.AdvanceFacts.{holds_taken, recalls_here, went_on_here,
 use Rattle.oe_core.proofs.AdvanceFacts.{committed_here}
 use Rattle.oe_core.proofs.AdvanceFacts.{left_here, told_last, kept_here, given_up_here, kept_world, is_abort}
 use Rattle.oe_core.proofs.cores.Core.advance.Goals.{In-Some-at_mut, In-Ready, After-self-in-More-1}
-use Rattle.oe_core.proofs.cores.Core.advance.Goals.{After-self-in-Ready-1, Then-keeps_open, After-self-in-Refused-1}
+use Rattle.oe_core.proofs.cores.Core.advance.Goals.{After-self-in-Ready-1, Then-keeps_open, After-end_work}
 use Rattle.oe_core.proofs.cores.Core.advance.Goals as goal
 
 pub returns-in_default-clause-advances : goal.returns-in_default-clause-advances
@@ -162,13 +162,13 @@ roll_back-requires c =
     c.open_tx-open-in-Refused.ensures.value c.next.new.engine
     c.in-Refused.ensures.progresses.1 c.in-Refused.ensures.progresses.2
 
-given_up : (c : After-self-in-Refused-1)
+given_up : (c : After-end_work)
     → Moves (record { engine = c.self.inside.engine; txs = c.self.inside.txs; works = c.self.inside.works })
     (Advance c.args.terminal) (refusal_in (step.Advance c.args.terminal) c.in-Refused.refusal)
     (record {
       engine = c.roll_back.new.engine;
       txs = c.open_tx-open-in-Refused.new.txs;
-      works = slice_set (slice_set c.self.inside.works c.args.terminal (Some c.next.new.self)) c.args.terminal None;
+      works = c.end_work.new.works;
     })
 given_up c =
     let here = is_there (goal.at.returns-else-keeps_open-clause-advances c).In-Some-at_mut in
@@ -178,7 +178,7 @@ given_up c =
     _ _ None c.in-Refused.refusal
     (sym c.keeps_open.ensures ∙ c.if-keeps_open.false) refused.0 refused.1 refused.2 c.roll_back.ensures.rolled_back
     c.roll_back.ensures.name out.ensures.after
-    (set_twice c.self.inside.works c.args.terminal (Some c.next.new.self) None)
+    (c.end_work.ensures ∙ set_twice c.self.inside.works c.args.terminal (Some c.next.new.self) None)
 
 pub invariant_of-self-in-Refused : goal.invariant_of-self-in-Refused
 invariant_of-self-in-Refused c = (given_up c).orderly
@@ -211,7 +211,7 @@ returns-else-keeps_open-clause-replies c =
     ((λ i. last_reply (record {
       engine = c.roll_back.new.engine;
       txs = c.open_tx-open-in-Refused.ensures.after i;
-      works = set_twice works t (Some c.next.new.self) None i;
+      works = (c.end_work.ensures ∙ set_twice works t (Some c.next.new.self) None) i;
     }))
     ∙ (both_slots c.self.inside.engine c.roll_back.new.engine txs works t None None
     (omega (arith, here.low, here.orderly.tx_slots)) (omega (arith, here.low, here.orderly.work_slots))
