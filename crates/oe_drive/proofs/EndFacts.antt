@@ -14,9 +14,9 @@ use Rattle.oe_requests.specs.declared.audits.Condition.TheVariants as condition
 use Rattle.oe_model.specs.Audits as model
 use Rattle.oe_model.specs.Headline.{Conditions}
 use Rattle.oe_model.proofs.VerdictFacts.{verdicts_are_exact}
-use Rattle.oe_ports.specs.Ports.{Sink, Sent, Cut}
+use Rattle.oe_io.specs.Ports.{Sink, Sent, Cut}
 use Rattle.oe_report.specs.Verdicts.{fails, IsFirstFailing, names_a_row}
-use Rattle.oe_drive.specs.Runs.{IsRewound}
+use Rattle.oe_drive.specs.Runs.{IsRewoundToBase}
 
 -- none of conditions 1 to 4 fails where they hold
 holds_of : (r : Rows) → Conditions r → (c : Condition) → condition_number c ≤ 4 → fails c r ≡ false
@@ -37,7 +37,7 @@ none_fails r None h first = refl
 none_fails r (Some c) h first = absurd (true≢false (sym first.1 ∙ holds_of r h c first.0))
 
 pub goes_to_start : (w w' : World system) (m : ℕ) (a : theory.Answer system) (r : Rows) → m ≡ 0
-    → Next system w (theory.Rewind m) a w' → r ≡ latest system w' → IsRewound w r
+    → Next system w (theory.Rewind m) a w' → r ≡ latest system w' → IsRewoundToBase w r
 goes_to_start w w' m a r zero next left =
     (w', a, subst (λ (n : ℕ). Next system w (theory.Rewind n) a w') zero next, left)
 

@@ -4,3 +4,5 @@ mod PlanFacts
 pub mod SlotFacts
 mod LeftFacts
 mod RestoredFacts
+mod ErrandFacts
+pub mod StationFacts

@@ -1,5 +1,6 @@
 -- A history in which nobody purges keeps the population, and a rewind to moment 0 gives it back.
-use Rattle.std.proofs.Common.{◌≡◌, ◌≢◌, ℕ, zero, suc, ◌-◌, ◌≤◌, ◌==◌, true, cond, Bool, List, [], ◌∷◌, drop, length}
+use Rattle.std.proofs.lemmas.List.{drop_all}
+use Rattle.std.proofs.Common.{◌≡◌, ◌≢◌, ℕ, zero, suc, ◌-◌, ◌==◌, true, cond, Bool, List, [], ◌∷◌}
 use Rattle.std.proofs.Common.{Option}
 use Rattle.std.proofs.Common.{◌++◌, Some, None, sym, ap, ◌∙◌, refl, arith}
 use Rattle.std.proofs.Common.{false, subst}
@@ -23,12 +24,12 @@ use Rattle.oe_model.proofs.RowFacts.{same_rows}
 use Rattle.oe_core.specs.Steps.{step_in}
 use Rattle.oe_history.specs.declared.views.Entry.{Entry}
 use Rattle.oe_history.specs.Views.{calls_by}
-use Rattle.oe_hall.specs.Histories.{IsHistory, IsStepOf, AreOwnSteps, steps_in, answers_in}
+use Rattle.oe_hall.specs.Histories.{IsStepOf, AreOwnSteps, steps_in, answers_in}
 use Rattle.oe_hall.specs.Turns.{open_count}
 use Rattle.oe_hall.proofs.OpenFacts.{horizon_opened}
 use Rattle.oe_requests.specs.declared.audits.Condition.{Condition}
 use Rattle.oe_report.specs.Reports.{report_of, status_of}
-use Rattle.oe_drive.specs.Runs.{IsRewound, IsDriven, lines}
+use Rattle.oe_drive.specs.Runs.{IsRewoundToBase, IsDriven, ending_lines}
 
 -- a scale has one population
 one_population : (s : Scale) (a b : Rows) → IsPopulated s a → IsPopulated s b → a ≡ b
@@ -95,18 +96,12 @@ all_stay w v (e ∷ es) r own none =
     let more = all_stay r.0 v es r.2 own.1 other.1 in
     (more.0 ∙ first.0, more.1 ∙ first.1)
 
-none_left : {A : Type 0} (n : ℕ) (xs : List A) → length xs ≤ n → drop n xs ≡ []
-none_left zero [] h = refl
-none_left (suc n) [] h = refl
-none_left zero (x ∷ xs) h = absurd (omega (arith, h))
-none_left (suc n) (x ∷ xs) h = none_left n xs (omega (arith, h))
-
 -- a quiet world that was never purged goes back to its base
 to_base : (w v : World system) (i : theory.Step system) (a : theory.Answer system) → i ≡ theory.Rewind 0
     → open_count w ≡ 0 → horizon system w ≡ 0 → Next system w i a v → latest system v ≡ w.base
 to_base w _ _ _ is quiet whole (rewinds m q l u) =
     let first : m ≡ 0 = cc in
-    ap (version system w.base) (none_left (newest system w - m) w.history (omega (arith, first, whole)))
+    ap (version system w.base) (drop_all (newest system w - m) w.history (omega (arith, first, whole)))
 to_base w _ _ _ is quiet whole (not_quiet m n e) = absurd (omega (arith, quiet, e))
 to_base w _ _ _ is quiet whole (too_old s m e p l) =
     let first : Some m ≡ Some 0 = sym e ∙ ap (moment system) is in
@@ -123,7 +118,7 @@ to_base w _ _ _ is quiet whole n = cc
 
 -- what a rewind leaves of a drive is the population of its scale
 pub gives_back : (s : Scale) (w : World system) (left fresh : Rows) → IsDriven s w → open_count w ≡ 0
-    → IsRewound w left → IsPopulated s fresh → left ≡ fresh
+    → IsRewoundToBase w left → IsPopulated s fresh → left ≡ fresh
 gives_back s w left fresh driven quiet back populated =
     let (base, extents, log, of_scale, history, unpurged) = driven in
     let first = opened system base extents layout.ChangedColumns in
@@ -136,7 +131,7 @@ gives_back s w left fresh driven quiet back populated =
 
 -- what a report says of a drive in which nothing fails
 pub told_so : (before after : List ℕ) (v : Option Condition) (b : Bool) → after ≡ before ++ report_of v b → before ≡ []
-    → v ≡ None → b ≡ true → after ≡ lines
+    → v ≡ None → b ≡ true → after ≡ ending_lines
 told_so before after v b appended empty none restored =
     appended
     ∙ (ap (λ (x : List ℕ). x ++ report_of v b) empty

@@ -13,7 +13,7 @@ use Rattle.oe_history.specs.declared.views.Entry.{Entry}
 use Rattle.oe_history.specs.Views.{calls_by}
 use Rattle.oe_hall.specs.Histories.{IsHistory}
 use Rattle.oe_hall.specs.Turns.{open_count}
-use Rattle.oe_ports.specs.Ports.{Sink, Sent, Cut}
+use Rattle.oe_io.specs.Ports.{Sink, Sent, Cut}
 use Rattle.oe_report.specs.Verdicts.{IsFirstFailing}
 use Rattle.oe_drive.specs.declared.endings.Ending.{Ending}
 use Rattle.oe_drive.specs.declared.runs.Ran.{Ran}
@@ -21,15 +21,15 @@ use Rattle.oe_drive.specs.declared.runs.DriveFault.{DriveFault}
 use Rattle.oe_drive.specs.declared.runs.DriveFault.TheVariants as fault
 
 -- a step that asks for moment 0 leads from the world to one whose newest version these rows are
-abbrev pub IsRewound : World system → Rows → Type 0
-IsRewound w r = (w' : World system) × (a : theory.Answer system) × Next system w (theory.Rewind 0) a w'
+abbrev pub IsRewoundToBase : World system → Rows → Type 0
+IsRewoundToBase w r = (w' : World system) × (a : theory.Answer system) × Next system w (theory.Rewind 0) a w'
     × (r ≡ latest system w')
 
 -- None of conditions 1 to 4 fails in the world, and a rewind gives a population of the scale back.
-abbrev pub IsEnding : Scale → World system → Ending → Type 0
-IsEnding s w e =
-    (left : Rows) × (fresh : Rows) × IsRewound w left × IsPopulated s fresh × (left ≡ fresh) × (e.is_restored ≡ true)
-    × IsFirstFailing (tables system w) None × (e.failing ≡ None)
+abbrev pub IsEndOfDrive : Scale → World system → Ending → Type 0
+IsEndOfDrive s w e =
+    (left : Rows) × (fresh : Rows) × IsRewoundToBase w left × IsPopulated s fresh × (left ≡ fresh)
+    × (e.is_restored ≡ true) × IsFirstFailing (tables system w) None × (e.failing ≡ None)
 
 -- one history, in which nobody purges, leads to the world from a population of the scale
 abbrev pub IsDriven : Scale → World system → Type 0
@@ -45,13 +45,13 @@ pub record IsLeft (s : Scale) (w : World system) (committed : ℕ) : Type 0 wher
   pub layout : w.layout ≡ layout.ChangedColumns
 
 -- the two lines of a drive
-abbrev pub lines : List ℕ
-lines = codes "conditions 1 2 3 4 hold\npopulation restored\n"
+abbrev pub ending_lines : List ℕ
+ending_lines = codes "conditions 1 2 3 4 hold\npopulation restored\n"
 
 -- All terminals ended, and the two lines were written, with status 0; nothing was, for want of memory; or a beginning
 -- of them was.
 abbrev pub DriveRan : Scale → Option Sink → Option Sink → Result Ran DriveFault → Type 0
 DriveRan s old new (Ok ran) =
-    (w : World system) × IsLeft s w ran.counted.committed × Sent old [] new [] lines × (ran.status ≡ 0)
+    (w : World system) × IsLeft s w ran.counted.committed × Sent old [] new [] ending_lines × (ran.status ≡ 0)
 DriveRan s old new (Err fault.NoMemory) = new ≡ old
-DriveRan s old new (Err fault.Write) = (w : World system) × (k : ℕ) × IsLeft s w k × Cut old [] new lines
+DriveRan s old new (Err fault.Write) = (w : World system) × (k : ℕ) × IsLeft s w k × Cut old [] new ending_lines

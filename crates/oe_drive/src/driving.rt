@@ -187,6 +187,7 @@ fn take_desk<J: Naming>(shop: &mut Shop<J>, terminal: Terminal) -> Desk<J>
     requires { seat_for shop.old terminal ≢ Some None }
     ensures told { result.told ≡ untold 1 }
     ensures free { is_pinned result.seat.notes.pin ≡ false }
+    ensures silent { result.calls.mine ≡ [] }
     ensures given { shop.new.given ≡ shop.old.given + 1 }
     ensures seats { shop.new.seats ≡ slice_set shop.old.seats (terminal - 1) None }
 {

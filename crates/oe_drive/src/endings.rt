@@ -6,7 +6,7 @@ ghost use Rattle.oe_hall.specs.Turns.{open_count};
 ghost use Rattle.oe_report.specs.Verdicts.{IsFirstFailing};
 ghost use Rattle.oe_core.specs.Core.{world_of};
 ghost use Rattle.oe_store.specs.Places.{rows};
-ghost use Rattle.oe_drive.specs.Runs.{IsDriven, IsRewound, IsEnding};
+ghost use Rattle.oe_drive.specs.Runs.{IsDriven, IsRewoundToBase, IsEndOfDrive};
 
 use oe_core::Core;
 use oe_model::conditions_hold;
@@ -27,7 +27,7 @@ pub struct Ending {
 
 // Rewinds a core to moment 0, and gives its tables. They stay where the rewind is refused.
 fn rewound(core: Core) -> Tables
-    ensures { IsRewound (world_of core) (rows result) }
+    ensures { IsRewoundToBase (world_of core) (rows result) }
 {
     let mut core = core;
     let start = Moment::new(0).unwrap();
@@ -52,7 +52,7 @@ fn failing_in(core: &Core) -> Option<Condition>
 pub(crate) fn ended(alloc: Global, scale: Scale, core: Core) -> Result<Ending, NoMemory>
     requires quiet { open_count (world_of core) ≡ 0 }
     requires driven { IsDriven scale (world_of core) }
-    ensures { IfOk result (λ e. IsEnding scale (world_of core) e) }
+    ensures { IfOk result (λ e. IsEndOfDrive scale (world_of core) e) }
 {
     let failing = failing_in(&core);
     let Ok(fresh) = populate(alloc, scale) else {

@@ -3,11 +3,12 @@
 //! By its invariant all that an idle desk was told to begin has ended, and it has no pin out. So a
 //! thread hands its desk back with that fact, and a shop whose desks are idle can be closed. A call
 //! may wait for the hall's lock; none takes memory.
-ghost use Rattle.std.specs.Prelude.{◌≡◌, ◌+◌, true, false};
+ghost use Rattle.std.specs.Prelude.{◌≡◌, ◌+◌, ◌<◌, ◌≤◌, ◌++◌, ◌∷◌, [], true, false};
 ghost use Rattle.oe_moments.specs.Pins.{is_pinned};
 ghost use Rattle.oe_hall.specs.Counts.{untold, told_rolled_back};
 ghost use Rattle.oe_hall.specs.Histories.{is_open};
-ghost use Rattle.oe_hall.specs.Desks.{TheDesk, IsOwn, with_told, with_calls};
+ghost use Rattle.oe_hall.specs.Desks.{TheDesk, IsOwn, with_told, with_calls, most_begun};
+ghost use Rattle.oe_drive.specs.Errands.{HasCalled, IsTransaction, IsRead, IsEnded, is_busy, most_busy, rollback};
 
 use crate::deeds::{Cause, Deeds};
 use crate::gates::{Calls, Gate};
@@ -72,7 +73,13 @@ impl<J: Naming> Idle<J> {
         request: &Request,
         calls: &mut Calls<'_, G>,
         deeds: &mut Deeds,
-    ) {
+    )
+        ensures called { self.old.told.begun < most_begun → HasCalled self.old.calls.mine
+            self.new.calls.mine (IsTransaction self.old.seat.terminal request.now) }
+        ensures begun { self.new.told.begun ≤ self.old.told.begun + 1 }
+        ensures terminal { (self.new.seat.terminal ≡ self.old.seat.terminal)
+            × (self.new.calls.by ≡ self.old.calls.by) }
+    {
         if let Some(moment) = carry_one_out(rt, front, &mut self.desk, request, calls, deeds) {
             self.desk.told(front, moment);
             keep(&self.desk, moment, request, deeds);
@@ -87,7 +94,13 @@ impl<J: Naming> Idle<J> {
         query: &Query,
         calls: &mut Calls<'_, G>,
         deeds: &mut Deeds,
-    ) {
+    )
+        ensures called { HasCalled self.old.calls.mine self.new.calls.mine
+            (IsRead self.old.seat.terminal query.now) }
+        ensures begun { self.new.told ≡ self.old.told }
+        ensures terminal { (self.new.seat.terminal ≡ self.old.seat.terminal)
+            × (self.new.calls.by ≡ self.old.calls.by) }
+    {
         for _ in rt.forever() {
             match self.desk.pin(front) {
                 Ok(pin) => {
@@ -104,6 +117,7 @@ impl<J: Naming> Idle<J> {
                 Err(old) => self.desk.told(front, old.claim),
             }
         }
+        unreachable!()
     }
 }
 
@@ -122,7 +136,9 @@ fn pause(yields: u32) {
 }
 
 // Tells whether a refusal says that another holds the lock.
-fn is_busy(refusal: &Refusal) -> bool {
+fn is_busy(refusal: &Refusal) -> bool
+    ensures { result ≡ is_busy refusal.now }
+{
     matches!(refusal, Refusal::Busy(_, _))
 }
 
@@ -146,7 +162,10 @@ fn carry_one_out<J: Naming, W: Wait, G: Gate>(
 ) -> Option<Moment>
     requires { desk.old.told.begun ≡ desk.old.told.committed + desk.old.told.rolled_back }
     ensures ended { desk.new.told.begun ≡ desk.new.told.committed + desk.new.told.rolled_back }
-    ensures seat { desk.new.seat ≡ desk.old.seat }
+    ensures seat { (desk.new.seat ≡ desk.old.seat) × (desk.new.calls.by ≡ desk.old.calls.by) }
+    ensures begun { desk.new.told.begun ≤ desk.old.told.begun + 1 }
+    ensures called { desk.old.told.begun < most_begun → HasCalled desk.old.calls.mine
+        desk.new.calls.mine (IsTransaction desk.old.seat.terminal request.now) }
 {
     calls.before();
     let begun = desk.begin(rt, front, request);
@@ -175,7 +194,10 @@ fn advance_to_end<J: Naming, W: Wait, G: Gate>(
     requires open { is_open desk.old.calls.mine ≡ true }
     requires own { IsOwn desk.old.seat work }
     ensures ended { desk.new.told.begun ≡ desk.new.told.committed + desk.new.told.rolled_back }
-    ensures seat { desk.new.seat ≡ desk.old.seat }
+    ensures seat { (desk.new.seat ≡ desk.old.seat) × (desk.new.calls.by ≡ desk.old.calls.by) }
+    ensures begun { desk.new.told.begun ≡ desk.old.told.begun }
+    ensures called { HasCalled desk.old.calls.mine desk.new.calls.mine
+        (IsEnded desk.old.seat.terminal most_busy) }
 {
     let mut left = MOST_BUSY;
     let mut row = 0u32;
@@ -223,8 +245,11 @@ fn give_up<J: Naming, W: Wait, G: Gate>(
 )
     requires open { is_open desk.old.calls.mine ≡ true }
     requires own { IsOwn desk.old.seat work }
-    ensures { desk.new ≡ with_calls desk.new.calls
+    ensures desk { desk.new ≡ with_calls desk.new.calls
         (with_told (told_rolled_back desk.old.told) desk.old) }
+    ensures called { desk.new.calls.mine
+        ≡ desk.old.calls.mine ++ rollback desk.old.seat.terminal ∷ [] }
+    ensures by { desk.new.calls.by ≡ desk.old.calls.by }
 {
     calls.before();
     let ended = desk.end(rt, front, work);

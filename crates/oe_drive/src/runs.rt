@@ -11,9 +11,9 @@ use crate::openings::{driven, populated};
 use crate::planning::plans;
 use crate::stations::Plan;
 use oe_hall::{Counted, Seats};
+use oe_io::output::flush;
+use oe_io::ports::Outlet;
 use oe_numbers::DriveNumbers;
-use oe_ports::output::flush;
-use oe_ports::ports::Outlet;
 use oe_report::{report, status};
 use oe_rows::Layout;
 use oe_texts::Pending;
@@ -58,7 +58,8 @@ fn driven_here<H: Threads + Wait + Sync, G: Gate + Sync>(
     requires plans { (1 ≤ vec_len plans) × (vec_len plans ≤ 63) }
     ensures ended { IfOk result (λ d.
         d.counted.begun ≡ d.counted.committed + d.counted.rolled_back) }
-    ensures left { IfOk result (λ d. IsLeft numbers.now.scale (world_of d.core) d.counted.committed) }
+    ensures left { IfOk result (λ d.
+        IsLeft numbers.now.scale (world_of d.core) d.counted.committed) }
 {
     let Ok(seats) = Seats::new(alloc, SHOP, Layout::ChangedColumns) else {
         return Err(NoMemory);

@@ -1,11 +1,13 @@
 //! Where terminals and the worker sit: a desk, and an end of the delivery queue.
 //!
-//! A station keeps an idle desk, by the type of it. What a thread at a station does is not told by
-//! any clause, but for that fact.
-ghost use Rattle.std.specs.Prelude.{◌≡◌, ◌+◌, false};
+//! What a thread at a station does, no clause tells. But it keeps the type's promise: a station has
+//! an idle desk, whose calls are those of the errands that were carried out there.
+ghost use Rattle.std.specs.Prelude.{◌≡◌, ◌+◌, ◌<◌, ◌≤◌, [], length, false};
 ghost use Rattle.oe_moments.specs.Pins.{is_pinned};
 ghost use Rattle.oe_hall.specs.Counts.{untold};
-ghost use Rattle.oe_hall.specs.Desks.{TheDesk};
+ghost use Rattle.oe_hall.specs.Desks.{TheDesk, most_begun};
+ghost use Rattle.oe_drive.specs.Errands.{HasCalled, IsCarriedOut};
+ghost use Rattle.oe_drive.specs.Stations.{TheStation, IsOnPlan};
 
 use crate::deeds::Deeds;
 use crate::gates::{Calls, Gate};
@@ -24,22 +26,34 @@ pub struct Plan {
     pub errands: Vec<Errand>,
 }
 
-/// A terminal's station. Its sender is gone once it has finished.
+/// A terminal's station, which counts the errands that it has carried out. Its sender is gone once
+/// it has finished.
 #[derive(Drop)]
 pub(crate) struct Station<J: Naming> {
     idle: Idle<J>,
     terminal: Terminal,
     sender: Option<Sender>,
     plan: Plan,
+    carried: usize,
     deeds: Deeds,
 }
 
 impl<J: Naming> Model for Station<J> {
-    ghost Value = { TheDesk };
+    ghost Value = { TheStation };
 
-    ghost view = { λ s. s.idle };
+    ghost view = { λ s. record {
+      desk = s.idle;
+      errands = s.plan.errands.items;
+      carried = s.carried;
+    } };
 
-    ghost invariant = { λ s. Unit {0} };
+    ghost invariant = { λ s. (s.carried ≤ length s.plan.errands.items)
+        × (s.idle.told.begun ≤ s.carried)
+        × IsOnPlan (record {
+          desk = s.idle;
+          errands = s.plan.errands.items;
+          carried = s.carried;
+        }) };
 }
 
 /// The worker's station.
@@ -76,7 +90,13 @@ fn carry_out<J: Naming, W: Wait, G: Gate>(
     errand: &Errand,
     calls: &mut Calls<'_, G>,
     deeds: &mut Deeds,
-) {
+)
+    ensures called { idle.old.told.begun < most_begun → HasCalled idle.old.calls.mine
+        idle.new.calls.mine (IsCarriedOut idle.old.seat.terminal errand.now) }
+    ensures begun { idle.new.told.begun ≤ idle.old.told.begun + 1 }
+    ensures terminal { (idle.new.seat.terminal ≡ idle.old.seat.terminal)
+        × (idle.new.calls.by ≡ idle.old.calls.by) }
+{
     deeds.errands = deeds.errands.saturating_add(1);
     match errand {
         Errand::Begin(request) => idle.carry_out(rt, front, request, calls, deeds),
@@ -101,20 +121,42 @@ fn submit<W: Wait>(
 }
 
 impl<J: Naming> Station<J> {
-    /// Makes the station of a desk that was told nothing, with its sender, its plan, and what is
-    /// done there.
+    /// Makes the station of a desk that was told nothing and has called nothing, with its sender,
+    /// its plan, and what is done there.
     pub(crate) fn new(desk: Desk<J>, sender: Sender, plan: Plan, deeds: Deeds) -> Station<J>
         requires told { desk.told ≡ untold 1 }
         requires free { is_pinned desk.seat.notes.pin ≡ false }
-        ensures { result ≡ desk }
+        requires silent { desk.calls.mine ≡ [] }
+        ensures { result ≡ record { desk = desk; errands = plan.errands.items; carried = 0 } }
     {
         Station {
             terminal: sender.terminal(),
             idle: Idle::new(desk),
             sender: Some(sender),
             plan,
+            carried: 0,
             deeds,
         }
+    }
+
+    // Carries out the next errand of the plan, and counts it.
+    #[tactic(auto, using(crate::proofs::StationFacts::stays_on_plan))]
+    fn carry_next<W: Wait, G: Gate>(&mut self, rt: &W, front: &Front<J>, calls: &mut Calls<'_, G>)
+        requires { self.old.carried < length self.old.errands }
+        ensures errands { self.new.errands ≡ self.old.errands }
+        ensures carried { self.new.carried ≡ self.old.carried + 1 }
+    {
+        let errand = &self.plan.errands[self.carried];
+        carry_out(
+            rt,
+            front,
+            &mut self.idle,
+            &mut self.sender,
+            errand,
+            calls,
+            &mut self.deeds,
+        );
+        self.carried += 1;
     }
 
     /// Carries out the plan, unless a stop is asked for, and submits the end mark.
@@ -124,37 +166,36 @@ impl<J: Naming> Station<J> {
         front: &Front<J>,
         gate: &G,
         stop: &AtomicBool,
-    ) {
+    )
+        ensures { self.new.errands ≡ self.old.errands }
+    {
         let mut calls = Calls::new(gate, self.terminal);
-        let Station {
-            idle,
-            sender,
-            plan,
-            deeds,
-            ..
-        } = self;
-        for errand in &plan.errands {
+        while self.carried < self.plan.errands.len() {
             if stop.load(Ordering::SeqCst) {
                 break;
             }
-            carry_out(rt, front, idle, sender, errand, &mut calls, deeds);
+            self.carry_next(rt, front, &mut calls);
             calls.done();
         }
-        if let Some(sender) = sender.take() {
+        if let Some(sender) = self.sender.take() {
             let _finished = sender.finish(rt);
         }
     }
 
-    /// Gives the desk, whose transactions have ended, and what was done there.
+    /// Gives the desk, whose transactions have ended, and what was done there. The desk's calls are
+    /// those of its plan's first errands.
     pub(crate) fn into_parts(self) -> (Desk<J>, Deeds)
-        ensures desk { result.0 ≡ self }
-        ensures ended { self.told.begun ≡ self.told.committed + self.told.rolled_back }
+        ensures desk { result.0 ≡ self.desk }
+        ensures ended { self.desk.told.begun
+            ≡ self.desk.told.committed + self.desk.told.rolled_back }
+        ensures called { (self.carried ≤ length self.errands) × IsOnPlan self }
     {
         let Station {
             idle,
             terminal: _,
             sender: _,
             plan: _,
+            carried: _,
             deeds,
         } = self;
         (idle.into_desk(), deeds)
