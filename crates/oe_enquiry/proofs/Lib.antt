@@ -5,3 +5,4 @@ pub mod AnswerFacts
 pub mod FewFacts
 pub mod RecentFacts
 pub mod MarkFacts
+pub mod SoldFacts

@@ -6,8 +6,8 @@
 ghost use Rattle.std.specs.Prelude.{◌≡◌, ◌==◌, ◌≤◌, ◌<◌, ◌%◌, ◌++◌, ◌∷◌, [], ℕ, length};
 ghost use Rattle.oe_enquiry.specs.Level.{is_listed};
 
-use oe_values::ItemNumber;
 use oe_values::lines::Lines;
+use oe_values::{Count, ItemNumber};
 use std::marker::Model;
 
 /// I_ID of an item, in a list of such numbers.
@@ -46,6 +46,26 @@ impl Default for Listed {
     fn default() -> Self {
         Listed {
             item: ItemNumber::new(1).unwrap(),
+        }
+    }
+}
+
+/// The item of a line, and S_QUANTITY that its stock has now, if there is one.
+#[derive(Clone, Copy)]
+pub struct Sold {
+    pub item: ItemNumber,
+    pub quantity: Option<Count>,
+}
+
+impl Default for Sold {
+    ghost use Rattle.std.specs.Prelude.{◌≡◌, None};
+
+    ghost is_default = { λ s. s ≡ record { item = 1; quantity = None } };
+
+    fn default() -> Self {
+        Sold {
+            item: ItemNumber::new(1).unwrap(),
+            quantity: None,
         }
     }
 }

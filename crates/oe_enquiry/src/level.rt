@@ -1,28 +1,75 @@
 //! Stock-Level (clause 2.8): how many items of a district's last 20 orders are low in its
 //! warehouse.
-ghost use Rattle.std.specs.Prelude.{◌≡◌, ◌≤◌, ◌<◌, ◌+◌, ℕ, [], ◌∷◌, length, IfOk, IfErr};
+ghost use Rattle.std.specs.Prelude.{◌≡◌, ◌≤◌, ◌<◌, ◌+◌, ◌-◌, ℕ, [], ◌∷◌, ◌++◌, length, map, IfOk, IfErr};
+ghost use Rattle.std.specs.FinMap.{get};
 ghost use Rattle.oe_theory.specs.Machine.{Here, Missing};
 ghost use Rattle.oe_requests.specs.declared.replies.QueryReply.TheVariants as told;
 ghost use Rattle.oe_model.specs.Queries.{stock_level};
 ghost use Rattle.oe_model.specs.Rules.{AreLow};
+ghost use Rattle.oe_store.specs.Places.{rows};
+ghost use Rattle.oe_versions.specs.Columns.{quantity_of};
 ghost use Rattle.oe_versions.specs.Versions.{rows_of, Stand};
-ghost use Rattle.oe_enquiry.specs.Level.{is_short, listed};
+ghost use Rattle.oe_enquiry.specs.Level.{is_short, listed, stock_in, sold_of, AreStanding, HasQuantity, HaveQuantities};
 
-use crate::items::Items;
+use crate::items::{Items, Sold};
 use oe_requests::{LevelQuery, Refusal};
-use oe_rows::{Key, StockKey};
-use oe_values::{ItemNumber, LowStock, OrderNumber};
+use oe_rows::{Key, OrderLine, OrderLineKey, StockKey};
+use oe_store::Tables;
+use oe_table::shelf_walks::Rows;
+use oe_values::lines::Lines;
+use oe_values::{Count, ItemNumber, LowStock, OrderNumber, WarehouseNumber};
 use oe_versions::Version;
 
+/// How many lines of a walk are taken at once, so that their stocks wait for memory together.
+const AT_ONCE: usize = 16;
+/// How many times that is done: there are at most 300 lines.
+const PARTS: usize = 19;
+
+/// Gives S_QUANTITY that a stock has now, if there is one.
+fn quantity_now(tables: &Tables, warehouse: WarehouseNumber, item: ItemNumber) -> Option<Count>
+    ensures { result ≡ quantity_of (get (rows tables.now).stocks (stock_in warehouse item)) }
+{
+    Some(tables.stock(StockKey { warehouse, item })?.quantity)
+}
+
+/// Takes the next 16 lines off a walk, or as many as there are, and gives the items of those that
+/// stood, with the quantities of their stocks in the warehouse.
+#[inline(never)]
+fn take_sold<'a>(
+    version: &Version<'a>,
+    warehouse: WarehouseNumber,
+    walk: &mut Rows<'a, OrderLineKey, OrderLine>,
+) -> Lines<Sold, 0, AT_ONCE>
+    requires { AreStanding version.now.tables walk.old }
+    ensures sold { result ++ sold_of version.now warehouse walk.new
+        ≡ sold_of version.now warehouse walk.old }
+    ensures standing { AreStanding version.now.tables walk.new }
+    ensures taken { length result + length walk.new ≤ length walk.old }
+    ensures most { length walk.new ≤ length walk.old - 16 }
+{
+    let mut sold = Lines::new();
+    for _ in 0..AT_ONCE {
+        let Some((key, line)) = walk.next() else {
+            break;
+        };
+        if let Some(item) = version.item_at(key, line) {
+            let quantity = quantity_now(version.tables(), warehouse, item);
+            sold.push(Sold { item, quantity });
+        }
+    }
+    sold
+}
+
 /// Tells whether the district's warehouse had less of the item than the threshold.
-fn is_short(version: &Version<'_>, query: &LevelQuery, item: ItemNumber) -> bool
-    ensures { result ≡ is_short query.now (rows_of version.now) item }
+fn is_short(version: &Version<'_>, query: &LevelQuery, sold: &Sold) -> bool
+    requires { HasQuantity version.now.tables query.now.district.warehouse sold.now }
+    ensures { result ≡ is_short query.now (rows_of version.now) sold.now.item }
 {
     let key = StockKey {
         warehouse: query.district.warehouse,
-        item,
+        item: sold.item,
     };
-    match version.stock_quantity(&key) {
+    match version.stock_quantity(&key, sold.quantity) {
         Some(quantity) => quantity.get() < query.threshold.get(),
         None => false,
     }
@@ -30,19 +77,34 @@ fn is_short(version: &Version<'_>, query: &LevelQuery, item: ItemNumber) -> bool
 
 /// Lists an item that was short and is not listed yet. There must be room for it.
 #[tactic(auto, using(crate::proofs::ShortFacts::stays_listed, crate::proofs::ShortFacts::comes_in, crate::proofs::ShortFacts::is_enough, crate::proofs::ShortFacts::one_more))]
-fn list_if_short(version: &Version<'_>, query: &LevelQuery, item: ItemNumber, items: &mut Items)
-    requires { length items.old < 300 }
+fn list_if_short(version: &Version<'_>, query: &LevelQuery, sold: &Sold, items: &mut Items)
+    requires quantity { HasQuantity version.now.tables query.now.district.warehouse sold.now }
+    requires room { length items.old < 300 }
     ensures items { items.new
-        ≡ listed (is_short query.now (rows_of version.now)) items.old (item ∷ []) }
+        ≡ listed (is_short query.now (rows_of version.now)) items.old (sold.now.item ∷ []) }
     ensures few { length items.new ≤ length items.old + 1 }
 {
+    let item = sold.item;
     if items.is_listed(item) {
         return;
     }
-    if !is_short(version, query, item) {
+    if !is_short(version, query, sold) {
         return;
     }
     items.push(item);
+}
+
+/// Lists those of some items that were short and are not listed yet. There must be room for them.
+fn list_short(version: &Version<'_>, query: &LevelQuery, sold: &[Sold], items: &mut Items)
+    requires quantities { HaveQuantities version.now.tables query.now.district.warehouse sold.now }
+    requires room { length items.old + length sold.now ≤ 300 }
+    ensures items { items.new ≡ listed (is_short query.now (rows_of version.now)) items.old
+        (map (λ s. s.item) sold.now) }
+    ensures few { length items.new ≤ length items.old + length sold.now }
+{
+    for one in sold {
+        list_if_short(version, query, one, items);
+    }
 }
 
 /// Lists the distinct items of the district's last 20 orders before the next one that were short
@@ -56,11 +118,11 @@ fn short_items(version: &Version<'_>, query: &LevelQuery, next: OrderNumber) -> 
     if next.get() == 1 {
         return items;
     }
-    for (key, line) in version.tables().recent_lines(query.district, next) {
-        let found = version.item_at(key, line);
-        if let Some(item) = found {
-            list_if_short(version, query, item, &mut items);
-        }
+    let warehouse = query.district.warehouse;
+    let mut walk = version.tables().recent_lines(query.district, next);
+    for _ in 0..PARTS {
+        let sold = take_sold(version, warehouse, &mut walk);
+        list_short(version, query, sold.as_slice(), &mut items);
     }
     items
 }

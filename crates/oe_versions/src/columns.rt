@@ -1,6 +1,7 @@
 //! Columns of rows as they stood at a moment. Of a row nothing else is handed out.
 ghost use Rattle.std.specs.Prelude.{◌≡◌};
 ghost use Rattle.std.specs.FinMap.{get};
+ghost use Rattle.oe_store.specs.Places.{rows};
 ghost use Rattle.oe_versions.specs.Versions.{rows_of};
 ghost use Rattle.oe_versions.specs.Columns.{ytd_of_warehouse, ytd_of_district, next_order_of, balance_of, account_of, quantity_of};
 
@@ -131,12 +132,14 @@ impl<'a> Version<'a> {
         self.account_before(key)
     }
 
-    /// Gives S_QUANTITY of a stock, if it was there.
-    pub fn stock_quantity(&self, key: &StockKey) -> Option<Count>
+    /// Gives S_QUANTITY of a stock, if it was there; `now` is what its row has now. So whoever
+    /// reads many stocks reads their rows first, which then wait for memory together.
+    pub fn stock_quantity(&self, key: &StockKey, now: Option<Count>) -> Option<Count>
+        requires { now ≡ quantity_of (get (rows self.now.tables).stocks key.now) }
         ensures { result ≡ quantity_of (get (rows_of self.now).stocks key.now) }
     {
         if self.stands(&Key::Stock(*key)) {
-            return Some(self.tables().stock(*key)?.quantity);
+            return now;
         }
         self.quantity_before(key)
     }

@@ -1,10 +1,12 @@
-use Rattle.std.proofs.Common.{sym, ap, ◌∙◌, subst, []}
-use Rattle.oe_versions.specs.Versions.{rows_of}
+use Rattle.std.proofs.Common.{◌+◌, ◌≤◌, sym, ap, ◌∙◌, subst, List, [], map, length}
 use Rattle.oe_model.specs.Queries.{recent_lines}
 use Rattle.oe_store.specs.Numbered.{AreNumbered}
 use Rattle.oe_store.specs.Places.{rows}
-use Rattle.oe_enquiry.specs.Level.{is_short}
-use Rattle.oe_enquiry.proofs.RecentFacts.{Lists, lists_all, all_listed, numbers_past}
+use Rattle.oe_versions.specs.Versions.{rows_of}
+use Rattle.oe_enquiry.specs.declared.items.Sold.{Sold}
+use Rattle.oe_enquiry.specs.Level.{is_short, items_sold, listed, HaveQuantities}
+use Rattle.oe_enquiry.proofs.RecentFacts.{lists_all, numbers_past}
+use Rattle.oe_enquiry.proofs.SoldFacts.{Lists, all_listed, lists_part, taken_have}
 use Rattle.oe_enquiry.proofs.LevelFacts.{are_low, none_low}
 use Rattle.oe_enquiry.proofs.level.short_items.Goals as goal
 
@@ -16,22 +18,46 @@ returns-then-get-eq1 c =
     (subst (λ ts. AreNumbered (rows ts)) c.tables.ensures c.numbers_hold.ensures))
     c.new-items.ensures
 
-pub loop-key-init : goal.loop-key-init
-loop-key-init c =
+pub loop-init : goal.loop-init
+loop-init c =
     let v = c.args.version.now in
     let q = c.args.query.now in
-    subst (λ is. Lists v.tables v.log v.moment (is_short q (rows_of v)) q.district c.args.next is
-    c.into_iter-key-iterator.result) (sym c.new-items.ensures)
-    (subst (λ es. Lists v.tables v.log v.moment (is_short q (rows_of v)) q.district c.args.next [] es)
-    (sym (c.into_iter-key-iterator.ensures.into_iter_gives ∙ c.recent_lines-key-items.ensures
+    let p = is_short q (rows_of v) in
+    let all = listed p [] (items_sold q.district c.args.next (rows_of v).order_lines) in
+    subst (λ is. Lists v q.district.warehouse p all is c.recent_lines-walk.result 0) (sym c.new-items.ensures)
+    (subst (λ es. Lists v q.district.warehouse p all [] es 0)
+    (sym (c.recent_lines-walk.ensures
     ∙ ap (λ ts. recent_lines q.district c.args.next (rows ts).order_lines) c.tables-2.ensures))
-    (lists_all v.tables v.log v.moment (is_short q (rows_of v)) q.district c.args.next c.requires
+    (lists_all v.tables v.log v.moment p q.district c.args.next q.district.warehouse c.requires
     (subst (λ ts. AreNumbered (rows ts)) c.tables.ensures c.numbers_hold.ensures)))
+
+pub list_short-requires-clause-quantities : goal.list_short-requires-clause-quantities
+list_short-requires-clause-quantities c =
+    let v = c.args.version.now in
+    let w = c.args.query.now.district.warehouse in
+    subst (HaveQuantities v.tables w) (sym c.as_slice.ensures.value)
+    (taken_have v w c.take_sold-sold.result c.loop.walk c.take_sold-sold.new.walk c.take_sold-sold.ensures.sold)
+
+pub loop-preserved : goal.loop-preserved
+loop-preserved c =
+    let v = c.args.version.now in
+    let q = c.args.query.now in
+    let p = is_short q (rows_of v) in
+    lists_part v q.district.warehouse p
+    (listed p [] (items_sold q.district c.args.next (rows_of v).order_lines)) c.loop.items c.list_short.new.items
+    c.loop.walk c.take_sold-sold.new.walk c.take_sold-sold.result c.loop.counter c.loop.invariant
+    c.take_sold-sold.ensures.sold c.take_sold-sold.ensures.standing c.take_sold-sold.ensures.taken
+    c.take_sold-sold.ensures.most
+    (c.list_short.ensures.items ∙ ap (λ (ss : List Sold). listed p c.loop.items (map (λ s. s.item) ss))
+    c.as_slice.ensures.value)
+    (subst (λ (ss : List Sold). length c.list_short.new.items ≤ length c.loop.items + length ss)
+    c.as_slice.ensures.value c.list_short.ensures.few)
 
 pub returns : goal.returns
 returns c =
     let v = c.args.version.now in
     let q = c.args.query.now in
-    are_low q (rows_of v) c.args.next c.loop-key.items
-    (all_listed v.tables v.log v.moment (is_short q (rows_of v)) q.district c.args.next c.loop-key.items
-    c.loop-key.key-iterator c.in-None.ensures.steps.0 c.loop-key.invariant)
+    let p = is_short q (rows_of v) in
+    are_low q (rows_of v) c.args.next c.loop.items
+    (all_listed v q.district.warehouse p (listed p [] (items_sold q.district c.args.next (rows_of v).order_lines))
+    c.loop.items c.loop.walk c.loop.counter c.loop.invariant c.loop-test.false)
