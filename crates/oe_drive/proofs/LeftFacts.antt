@@ -1,9 +1,10 @@
 -- What a drive leaves.
-use Rattle.std.proofs.Common.{◌≡◌, ℕ, [], subst, ◌∙◌, IfOk}
+use Rattle.std.proofs.Common.{◌≡◌, List, [], map, subst, ◌∙◌, IfOk}
 use Rattle.std.specs.Prelude.{Result, Ok, Err}
 use Rattle.oe_theory.specs.World.{newest}
 use Rattle.oe_theory.specs.Theorems.{opened}
-use Rattle.oe_rows.specs.declared.scales.Scale.{Scale}
+use Rattle.oe_numbers.specs.declared.drives.DriveNumbers.{DriveNumbers}
+use Rattle.oe_requests.specs.declared.requests.Errand.{Errand}
 use Rattle.oe_rows.specs.declared.layouts.Layout.{Layout}
 use Rattle.oe_rows.specs.declared.layouts.Layout.TheVariants as layout
 use Rattle.oe_model.specs.Rows.{Rows}
@@ -14,27 +15,30 @@ use Rattle.oe_history.specs.Views.{calls_by}
 use Rattle.oe_hall.specs.Histories.{IsHistory}
 use Rattle.oe_hall.specs.Turns.{open_count}
 use Rattle.oe_drive.specs.declared.driving.Driven.{Driven}
+use Rattle.oe_drive.specs.declared.stations.Plan.{Plan}
+use Rattle.oe_drive.specs.Plans.{errands_in, plans_of, ArePlansCarriedOut}
 use Rattle.oe_drive.specs.Runs.{IsLeft}
 
 -- what is known of the core, the counts and the history is what a drive leaves
-pub left_here : {E : Type 0} (s : Scale) (r : Result Driven E) (base : Rows) (extents : ℕ) (y : Layout)
-    → y ≡ layout.ChangedColumns → IsPopulated s base → IfOk r (λ d. open_count (world_of d.core) ≡ 0)
+pub left_here : {E : Type 0} (n : DriveNumbers) (r : Result Driven E) (ps : List Plan) (base : Rows) (y : Layout)
+    → y ≡ layout.ChangedColumns → IsPopulated n.scale base → IfOk r (λ d. open_count (world_of d.core) ≡ 0)
     → IfOk r (λ d. newest system (world_of d.core) ≡ d.counted.committed)
     → IfOk r (λ d. (world_of d.core).layout ≡ y)
-    → IfOk r (λ d. IsHistory (opened system base extents y) d.history.log (world_of d.core))
+    → IfOk r (λ d. IsHistory (opened system base n.extents y) d.history.log (world_of d.core))
     → IfOk r (λ d. calls_by 0 d.history.log ≡ [])
-    → IfOk r (λ d. IsLeft s (world_of d.core) d.counted.committed)
-left_here s (Ok d) base extents y same populated quiet committed kept run unpurged = record {
+    → IfOk r (λ d. ArePlansCarriedOut d.history.log (map errands_in ps)) → map errands_in ps ≡ plans_of n
+    → IfOk r (λ d. IsLeft n (world_of d.core) d.counted.committed)
+left_here n (Ok d) ps base y same populated quiet committed kept run unpurged carried drawn = record {
   driven = (
     base,
-    extents,
     d.history.log,
     populated,
-    subst (λ (z : Layout). IsHistory (opened system base extents z) d.history.log (world_of d.core)) same run,
+    subst (λ (z : Layout). IsHistory (opened system base n.extents z) d.history.log (world_of d.core)) same run,
     unpurged,
+    subst (λ (es : List (List Errand)). ArePlansCarriedOut d.history.log es) drawn carried,
   );
   quiet = quiet;
   newest = committed;
   layout = kept ∙ same;
 }
-left_here s (Err e) base extents y same populated quiet committed kept run unpurged = tt
+left_here n (Err e) ps base y same populated quiet committed kept run unpurged carried drawn = tt

@@ -1,6 +1,7 @@
 -- The proofs of this crate.
 mod EndFacts
 mod PlanFacts
+pub mod PostFacts
 pub mod SlotFacts
 mod LeftFacts
 mod RestoredFacts

@@ -15,6 +15,7 @@ use Rattle.oe_theory.specs.Next.{lacks_memory, moment, works_on}
 use Rattle.oe_theory.specs.Theorems.{opened}
 use Rattle.oe_requests.specs.declared.steps.Step.{Step}
 use Rattle.oe_requests.specs.declared.steps.Step.TheVariants as step
+use Rattle.oe_numbers.specs.declared.drives.DriveNumbers.{DriveNumbers}
 use Rattle.oe_rows.specs.declared.scales.Scale.{Scale}
 use Rattle.oe_rows.specs.declared.layouts.Layout.TheVariants as layout
 use Rattle.oe_model.specs.Rows.{Rows}
@@ -117,17 +118,17 @@ to_base w _ _ _ is quiet whole (not_open s t e f) =
 to_base w _ _ _ is quiet whole n = cc
 
 -- what a rewind leaves of a drive is the population of its scale
-pub gives_back : (s : Scale) (w : World system) (left fresh : Rows) → IsDriven s w → open_count w ≡ 0
-    → IsRewoundToBase w left → IsPopulated s fresh → left ≡ fresh
-gives_back s w left fresh driven quiet back populated =
-    let (base, extents, log, of_scale, history, unpurged) = driven in
-    let first = opened system base extents layout.ChangedColumns in
+pub gives_back : (d : DriveNumbers) (w : World system) (left fresh : Rows) → IsDriven d w → open_count w ≡ 0
+    → IsRewoundToBase w left → IsPopulated d.scale fresh → left ≡ fresh
+gives_back d w left fresh driven quiet back populated =
+    let (base, log, of_scale, history, unpurged, carried) = driven in
+    let first = opened system base d.extents layout.ChangedColumns in
     let same = all_stay first w log history.run history.own unpurged in
     let whole : horizon system w ≡ 0 =
     ap (λ (c : ℕ → ℕ). total terminal_limit c) same.1
-    ∙ horizon_opened first base extents layout.ChangedColumns refl in
+    ∙ horizon_opened first base d.extents layout.ChangedColumns refl in
     let (v, a, next, is) = back in
-    is ∙ (to_base w v _ a refl quiet whole next ∙ (same.0 ∙ one_population s base fresh of_scale populated))
+    is ∙ (to_base w v _ a refl quiet whole next ∙ (same.0 ∙ one_population d.scale base fresh of_scale populated))
 
 -- what a report says of a drive in which nothing fails
 pub told_so : (before after : List ℕ) (v : Option Condition) (b : Bool) → after ≡ before ++ report_of v b → before ≡ []

@@ -1,8 +1,7 @@
--- Slots of seats from which the last is taken, and lists that were lent whole.
-use Rattle.std.proofs.Common.{◌≡◌, ◌≢◌, ℕ, ◌+◌, ◌-◌, ◌<◌, ◌≤◌, Option, Some, None, List, ◌++◌, length, length-append}
-use Rattle.std.proofs.Common.{take, drop, slice_get, slice_set, sym, ap, ◌∙◌, arith, IfOk}
+-- Slots of seats from which the last is taken.
+use Rattle.std.proofs.Common.{◌≡◌, ◌≢◌, ℕ, ◌+◌, ◌-◌, ◌<◌, ◌≤◌, Option, Some, None, List}
+use Rattle.std.proofs.Common.{slice_get, slice_set, sym, ap, ◌∙◌, arith, IfOk, OnOk}
 use Rattle.std.specs.Prelude.{Result, Ok, Err}
-use Rattle.std.proofs.lemmas.List.{length-take-le}
 use Rattle.oe_hall.specs.Seats.{ThePlace}
 use Rattle.oe_hall.proofs.SeatFacts.{get_other}
 use Rattle.oe_drive.specs.Ends.{AreFree}
@@ -21,14 +20,12 @@ free_before seats taken n slot free le is k lt there =
     ∙ (sym (get_other seats slot k None (λ e. omega (arith, lt, le, e)))
     ∙ (ap (λ (s : List (Option ThePlace)). slice_get s k) (sym is) ∙ there)))
 
--- a list that was lent whole, and came back as long, is as long
-pub as_long : {A : Type 0} (n : ℕ) (old new : List A) → n ≡ length old → length new ≡ length old
-    → length (take n (new ++ drop (length new) old)) ≡ length old
-as_long n old new whole same =
-    let all = length-append new (drop (length new) old) in
-    length-take-le n (new ++ drop (length new) old) (omega (arith, all, same, whole)) ∙ whole
-
 -- what follows of an answer follows where there is one
 pub if_ok : {A E : Type 0} {P Q : A → Type 0} (r : Result A E) → IfOk r P → ((x : A) → P x → Q x) → IfOk r Q
 if_ok (Ok x) h f = f x h
 if_ok (Err e) h f = tt
+
+pub if_ok_so : {A E W : Type 0} {P Q : A → Type 0} (r : Result A E) → IfOk r P → OnOk r W
+    → ((x : A) → P x → W → Q x) → IfOk r Q
+if_ok_so (Ok x) h w f = f x h w
+if_ok_so (Err e) h w f = tt

@@ -1,13 +1,13 @@
 -- One errand more of a plan is carried out.
 use Rattle.std.proofs.Common.{◌≡◌, ℕ, suc, ◌+◌, ◌<◌, ◌≤◌, List, [], ◌∷◌, ◌++◌, length, take, get_or}
 use Rattle.std.proofs.Common.{refl, sym, ap, subst, ◌∙◌, arith}
-use Rattle.std.proofs.lemmas.List.{append_assoc, append-nil}
+use Rattle.std.proofs.lemmas.List.{append_assoc, append-nil, take_all}
 use Rattle.std.proofs.Math.Seq.{take-suc}
 use Rattle.oe_requests.specs.declared.requests.Errand.{Errand}
 use Rattle.oe_history.specs.declared.views.Entry.{Entry}
 use Rattle.oe_hall.specs.Desks.{TheDesk, most_begun}
 use Rattle.oe_drive.specs.Errands.{HasCalled, IsCarriedOut, AreCarriedOut}
-use Rattle.oe_drive.specs.Stations.{IsOnPlan}
+use Rattle.oe_drive.specs.Stations.{TheStation, IsOnPlan, IsWhole}
 
 -- an errand behind the others
 one_more : (t : ℕ) (xs : List Errand) (x : Errand) (es more : List Entry) → AreCarriedOut t xs es
@@ -41,3 +41,12 @@ stays_on_plan d d' xs x n m lt at one same least on called few =
     subst (λ (t : ℕ). AreCarriedOut t (take m xs) d'.calls.mine) (sym same)
     (next d.seat.terminal n m xs x d.calls.mine d'.calls.mine lt at one (on (omega (arith, few, one)))
     (called (omega (arith, few, one, least))))
+
+-- a desk that has carried out as many errands as its plan has
+pub is_whole : (s : TheStation) → s.desk.calls.by ≡ s.desk.seat.terminal → IsOnPlan s → s.carried ≡ length s.errands
+    → s.carried ≤ most_begun → IsWhole s
+is_whole s by on all few = (
+  by,
+  subst (λ (xs : List Errand). AreCarriedOut s.desk.seat.terminal xs s.desk.calls.mine)
+      (take_all s.carried s.errands (omega (arith, all))) (on few),
+)

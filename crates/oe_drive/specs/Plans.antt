@@ -1,8 +1,11 @@
 -- What the terminals of a drive are to do.
-use Rattle.std.specs.Prelude.{ℕ, zero, suc, List, [], ◌∷◌, ◌++◌}
+use Rattle.std.specs.Prelude.{◌≡◌, ℕ, zero, suc, List, [], ◌∷◌, ◌++◌, Some, slice_get}
 use Rattle.oe_rows.specs.declared.scales.Scale.{Scale}
 use Rattle.oe_requests.specs.declared.requests.Errand.{Errand}
 use Rattle.oe_terms.specs.Errands.{request_of}
+use Rattle.oe_history.specs.Views.{calls_by}
+use Rattle.oe_history.specs.declared.views.Entry.{Entry}
+use Rattle.oe_drive.specs.Errands.{AreCarriedOut}
 use Rattle.oe_drive.specs.declared.stations.Plan.{Plan}
 use Rattle.oe_numbers.specs.declared.drives.DriveNumbers.{DriveNumbers}
 
@@ -22,3 +25,10 @@ plans_of d = errands_by d.scale d.seed d.requests d.terminals
 -- the errands of a plan
 abbrev pub errands_in : Plan → List Errand
 errands_in p = p.errands.items
+
+-- In the history the entries of each terminal are what its plan's errands call, one after another, and no others; the
+-- first plan is terminal 1's.
+abbrev pub ArePlansCarriedOut : List Entry → List (List Errand) → Type 0
+ArePlansCarriedOut log plans =
+    (k : ℕ) (errands : List Errand) → slice_get plans k ≡ Some errands
+    → AreCarriedOut (suc k) errands (calls_by (suc k) log)

@@ -4,6 +4,7 @@ use Rattle.oe_theory.specs.World.{World, newest, latest, tables}
 use Rattle.oe_theory.specs.Next as theory
 use Rattle.oe_theory.specs.Next.{Next}
 use Rattle.oe_theory.specs.Theorems.{opened}
+use Rattle.oe_numbers.specs.declared.drives.DriveNumbers.{DriveNumbers}
 use Rattle.oe_rows.specs.declared.scales.Scale.{Scale}
 use Rattle.oe_rows.specs.declared.layouts.Layout.TheVariants as layout
 use Rattle.oe_model.specs.Rows.{Rows}
@@ -15,6 +16,7 @@ use Rattle.oe_hall.specs.Histories.{IsHistory}
 use Rattle.oe_hall.specs.Turns.{open_count}
 use Rattle.oe_io.specs.Ports.{Sink, Sent, Cut}
 use Rattle.oe_report.specs.Verdicts.{IsFirstFailing}
+use Rattle.oe_drive.specs.Plans.{plans_of, ArePlansCarriedOut}
 use Rattle.oe_drive.specs.declared.endings.Ending.{Ending}
 use Rattle.oe_drive.specs.declared.runs.Ran.{Ran}
 use Rattle.oe_drive.specs.declared.runs.DriveFault.{DriveFault}
@@ -31,15 +33,17 @@ IsEndOfDrive s w e =
     (left : Rows) × (fresh : Rows) × IsRewoundToBase w left × IsPopulated s fresh × (left ≡ fresh)
     × (e.is_restored ≡ true) × IsFirstFailing (tables system w) None × (e.failing ≡ None)
 
--- one history, in which nobody purges, leads to the world from a population of the scale
-abbrev pub IsDriven : Scale → World system → Type 0
-IsDriven s w =
-    (base : Rows) × (extents : ℕ) × (log : List Entry) × IsPopulated s base
-    × IsHistory (opened system base extents layout.ChangedColumns) log w × (calls_by 0 log ≡ [])
+-- one history, in which nobody purges and each terminal carries out its plan, leads to the world from a population of
+-- the scale, with so many extents
+abbrev pub IsDriven : DriveNumbers → World system → Type 0
+IsDriven d w =
+    (base : Rows) × (log : List Entry) × IsPopulated d.scale base
+    × IsHistory (opened system base d.extents layout.ChangedColumns) log w × (calls_by 0 log ≡ [])
+    × ArePlansCarriedOut log (plans_of d)
 
 -- so it is; nothing is open, `committed` commits have led there, and undo records keep changed columns
-pub record IsLeft (s : Scale) (w : World system) (committed : ℕ) : Type 0 where
-  pub driven : IsDriven s w
+pub record IsLeft (d : DriveNumbers) (w : World system) (committed : ℕ) : Type 0 where
+  pub driven : IsDriven d w
   pub quiet : open_count w ≡ 0
   pub newest : newest system w ≡ committed
   pub layout : w.layout ≡ layout.ChangedColumns
@@ -50,8 +54,8 @@ ending_lines = codes "conditions 1 2 3 4 hold\npopulation restored\n"
 
 -- All terminals ended, and the two lines were written, with status 0; nothing was, for want of memory; or a beginning
 -- of them was.
-abbrev pub DriveRan : Scale → Option Sink → Option Sink → Result Ran DriveFault → Type 0
-DriveRan s old new (Ok ran) =
-    (w : World system) × IsLeft s w ran.counted.committed × Sent old [] new [] ending_lines × (ran.status ≡ 0)
-DriveRan s old new (Err fault.NoMemory) = new ≡ old
-DriveRan s old new (Err fault.Write) = (w : World system) × (k : ℕ) × IsLeft s w k × Cut old [] new ending_lines
+abbrev pub DriveRan : DriveNumbers → Option Sink → Option Sink → Result Ran DriveFault → Type 0
+DriveRan d old new (Ok ran) =
+    (w : World system) × IsLeft d w ran.counted.committed × Sent old [] new [] ending_lines × (ran.status ≡ 0)
+DriveRan d old new (Err fault.NoMemory) = new ≡ old
+DriveRan d old new (Err fault.Write) = (w : World system) × (k : ℕ) × IsLeft d w k × Cut old [] new ending_lines

@@ -1,18 +1,23 @@
 //! All terminals and the worker at once, each in a thread of its own.
-ghost use Rattle.std.specs.Prelude.{◌≡◌, ◌≢◌, ◌+◌, ◌-◌, ◌≤◌, ℕ, length, vec_len, vec_capacity, slice_set, [], IfOk, OnOk, Some, None, false};
+ghost use Rattle.std.specs.Prelude.{◌≡◌, ◌≢◌, ◌+◌, ◌-◌, ◌≤◌, ℕ, List, length, map, vec_len, vec_capacity, slice_set, [], IfOk, OnOk, IsTrue, Some, None, false};
 ghost use Rattle.oe_theory.specs.World.{newest};
 ghost use Rattle.oe_model.specs.System.{system};
 ghost use Rattle.oe_core.specs.Core.{world_of};
 ghost use Rattle.oe_history.specs.Views.{calls_by};
+ghost use Rattle.oe_history.specs.declared.views.Entry.{Entry};
 ghost use Rattle.oe_hall.specs.Histories.{IsHistory};
 ghost use Rattle.oe_hall.specs.Turns.{open_count};
 ghost use Rattle.oe_hall.specs.Counts.{untold};
-ghost use Rattle.oe_hall.specs.Desks.{TheDesk, seat_for};
+ghost use Rattle.oe_hall.specs.Desks.{TheDesk, seat_for, AreKnown};
 ghost use Rattle.oe_moments.specs.Pins.{is_pinned};
 ghost use Rattle.oe_drive.specs.Ends.{AreFree, HaveEnded};
+ghost use Rattle.oe_drive.specs.Plans.{errands_in, ArePlansCarriedOut};
+ghost use Rattle.oe_drive.specs.Posts.{station_of};
+ghost use Rattle.oe_drive.specs.Stations.{HaveCarriedOut};
 
 use crate::deeds::Deeds;
 use crate::gates::Gate;
+use crate::posts::{Post, join, start_all};
 use crate::stations::{Bench, Plan, Station};
 use oe_core::Core;
 use oe_hall::crossing::front_crosses;
@@ -61,6 +66,8 @@ pub fn drive<J: Naming + Send + Sync, H: Threads + Wait + Sync, G: Gate + Sync>(
     ensures layout { IfOk result (λ d. (world_of d.core).layout ≡ J.names.layout) }
     ensures run { IfOk result (λ d. IsHistory J.names.opened d.history.log (world_of d.core)) }
     ensures unpurged { IfOk result (λ d. calls_by 0 d.history.log ≡ []) }
+    ensures carried { IfOk result (λ d.
+        ArePlansCarriedOut d.history.log (map errands_in plans.items)) }
     ensures kept { IfOk result (λ d. d.deeds.commits.is_short ≡ false) }
 {
     let count = plans.len();
@@ -74,6 +81,9 @@ pub fn drive<J: Naming + Send + Sync, H: Threads + Wait + Sync, G: Gate + Sync>(
     let Ok(stations) = Vec::with_capacity(alloc, count) else {
         return give_up(alloc, shop, purger);
     };
+    let Ok(posts) = Vec::with_capacity(alloc, count) else {
+        return give_up(alloc, shop, purger);
+    };
     drive_all(
         rt,
         alloc,
@@ -82,7 +92,7 @@ pub fn drive<J: Naming + Send + Sync, H: Threads + Wait + Sync, G: Gate + Sync>(
         plans,
         (senders, taker),
         desks,
-        stations,
+        (stations, posts),
     )
 }
 
@@ -117,14 +127,15 @@ fn drive_all<J: Naming + Send + Sync, H: Threads + Wait + Sync, G: Gate + Sync>(
     plans: Vec<Plan>,
     ends: (Vec<Sender>, Taker),
     desks: Vec<Desk<J>>,
-    mut stations: Vec<Station<J>>,
+    rooms: (Vec<Station<J>>, Vec<Post<J>>),
 ) -> Result<Driven, NoMemory>
     requires plans { (1 ≤ vec_len plans) × (vec_len plans ≤ 63) }
     requires senders { vec_len ends.0 ≡ vec_len plans }
     requires new { shop.0.given ≡ 0 }
     requires free { (t : ℕ) → seat_for shop.0 t ≢ Some None }
     requires silent { shop.1.mine ≡ [] }
-    requires stations { (stations.items ≡ []) × (vec_len plans ≤ vec_capacity stations) }
+    requires stations { (rooms.0.items ≡ []) × (vec_len plans ≤ vec_capacity rooms.0) }
+    requires posts { (rooms.1.items ≡ []) × (vec_len plans ≤ vec_capacity rooms.1) }
     requires desks { (desks.items ≡ []) × (vec_len plans + 1 ≤ vec_capacity desks) }
     ensures ended { IfOk result (λ d.
         d.counted.begun ≡ d.counted.committed + d.counted.rolled_back) }
@@ -133,11 +144,14 @@ fn drive_all<J: Naming + Send + Sync, H: Threads + Wait + Sync, G: Gate + Sync>(
     ensures layout { IfOk result (λ d. (world_of d.core).layout ≡ J.names.layout) }
     ensures run { IfOk result (λ d. IsHistory J.names.opened d.history.log (world_of d.core)) }
     ensures unpurged { IfOk result (λ d. calls_by 0 d.history.log ≡ []) }
+    ensures carried { IfOk result (λ d.
+        ArePlansCarriedOut d.history.log (map errands_in plans.items)) }
     ensures kept { IfOk result (λ d. d.deeds.commits.is_short ≡ false) }
 {
     let count = plans.len();
     let (mut shop, purger) = shop;
     let (senders, taker) = ends;
+    let (mut stations, posts) = rooms;
     let desk = take_desk(&mut shop, Number::new(count as u32 + 1).unwrap());
     let keeps_commits = gate.keeps_commits();
     let deeds = Deeds::none(alloc, keeps_commits);
@@ -150,20 +164,21 @@ fn drive_all<J: Naming + Send + Sync, H: Threads + Wait + Sync, G: Gate + Sync>(
         &mut stations,
         plans,
     );
-    let is_whole = run_all(rt, shop.front(), gate, &mut bench, stations.as_mut_slice());
-    let (desks, deeds) = rise(bench, stations, desks);
+    let (posts, had_threads) = run_all(rt, shop.front(), gate, &mut bench, stations, posts);
+    let (desks, deeds, is_whole) = rise(rt, bench, posts, had_threads, desks);
     match shop.close(desks, purger) {
         Ok(closed) => left(closed, deeds, is_whole),
         Err(_) => unreachable!(),
     }
 }
 
-// Gives what a drive left, where each terminal had a thread and its commits had memory, and lets it
-// go otherwise.
+// Gives what a drive left, where each terminal had a thread and carried out its plan and its commits
+// had memory, and lets it go otherwise.
 fn left(closed: Closed, deeds: Deeds, is_whole: bool) -> Result<Driven, NoMemory>
     ensures same { IfOk result (λ d. (d.core ≡ closed.core) × (d.counted ≡ closed.counted)
         × (d.history ≡ closed.history)) }
     ensures kept { IfOk result (λ d. (d.deeds ≡ deeds) × (d.deeds.commits.is_short ≡ false)) }
+    ensures whole { OnOk result (IsTrue is_whole) }
 {
     if !is_whole || deeds.commits.is_short {
         let_go(closed);
@@ -188,6 +203,7 @@ fn take_desk<J: Naming>(shop: &mut Shop<J>, terminal: Terminal) -> Desk<J>
     ensures told { result.told ≡ untold 1 }
     ensures free { is_pinned result.seat.notes.pin ≡ false }
     ensures silent { result.calls.mine ≡ [] }
+    ensures terminal { (result.seat.terminal ≡ terminal) × (result.calls.by ≡ terminal) }
     ensures given { shop.new.given ≡ shop.old.given + 1 }
     ensures seats { shop.new.seats ≡ slice_set shop.old.seats (terminal - 1) None }
 {
@@ -213,6 +229,8 @@ fn sit_down<J: Naming>(
     requires room { (stations.old.items ≡ []) × (vec_len plans ≤ vec_capacity stations.old) }
     ensures stations { length stations.new.items ≡ vec_len senders }
     ensures given { shop.new.given ≡ shop.old.given + vec_len senders }
+    ensures carried { (log : List Entry) → HaveCarriedOut log stations.new.items
+        → ArePlansCarriedOut log (map errands_in plans.items) }
 {
     let mut senders = senders;
     let mut plans = plans;
@@ -227,53 +245,66 @@ fn sit_down<J: Naming>(
     }
 }
 
-// Runs the worker and all terminals to their ends. Tells whether each had a thread.
+// Runs the worker and all terminals to their ends, and tells whether each had a thread.
 fn run_all<J: Naming + Send + Sync, H: Threads + Wait + Sync, G: Gate + Sync>(
     rt: &H,
     front: &Front<J>,
     gate: &G,
     bench: &mut Bench<J>,
-    stations: &mut [Station<J>],
-) -> bool {
+    stations: Vec<Station<J>>,
+    posts: Vec<Post<J>>,
+) -> (Vec<Post<J>>, bool)
+    requires room { (posts.items ≡ []) × (length stations.items ≤ vec_capacity posts) }
+    ensures count { length result.0.items ≡ length stations.items }
+    ensures carried { (log : List Entry) → HaveCarriedOut log (map station_of result.0.items)
+        → HaveCarriedOut log stations.items }
+{
     let stop = AtomicBool::new(false);
     let stop = &stop;
-    let walk = stations.iter_mut();
-    thread::scope(thread::scope_env(), rt, move |scope| {
-        front_crosses::<J>();
-        let work = move || bench.run(rt, front, gate);
-        if let Err(_refused) = scope.spawn(work) {
-            return false;
-        }
-        for station in walk {
-            let job = move || station.run(rt, front, gate, stop);
-            if let Err(refused) = scope.spawn(job) {
-                stop.store(true, Ordering::SeqCst);
-                let thread::SpawnError { mut value } = refused;
-                value();
-            }
-        }
-        !stop.load(Ordering::SeqCst)
-    })
+    thread::scope(
+        thread::scope_env(),
+        rt,
+        move |scope| -> (Vec<Post<J>>, bool)
+            requires { (posts.items ≡ []) × (length stations.items ≤ vec_capacity posts) }
+            ensures count { length result.0.items ≡ length stations.items }
+            ensures carried { (log : List Entry) → HaveCarriedOut log (map station_of result.0.items)
+                → HaveCarriedOut log stations.items }
+        {
+            front_crosses::<J>();
+            let work = move || bench.run(rt, front, gate);
+            let has_worker = scope.spawn(work).is_ok();
+            let posts = start_all(scope, rt, front, gate, stop, has_worker, stations, posts);
+            (posts, has_worker && !stop.load(Ordering::SeqCst))
+        },
+    )
 }
 
-// Takes all desks back, with what was done at them.
-fn rise<J: Naming>(
+// Takes all desks back, with what was done at them, and tells whether all had threads and each plan
+// was carried out.
+fn rise<J: Naming, H: Threads>(
+    rt: &H,
     bench: Bench<J>,
-    stations: Vec<Station<J>>,
+    posts: Vec<Post<J>>,
+    had_threads: bool,
     desks: Vec<Desk<J>>,
-) -> (Vec<Desk<J>>, Deeds)
-    requires { (desks.items ≡ []) × (length stations.items + 1 ≤ vec_capacity desks) }
-    ensures count { length result.0.items ≡ length stations.items + 1 }
+) -> (Vec<Desk<J>>, Deeds, bool)
+    requires { (desks.items ≡ []) × (length posts.items + 1 ≤ vec_capacity desks) }
+    ensures count { length result.0.items ≡ length posts.items + 1 }
     ensures ended { HaveEnded result.0.items }
+    ensures carried { IsTrue result.2 → (log : List Entry) → AreKnown log result.0.items
+        → HaveCarriedOut log (map station_of posts.items) }
 {
-    let mut stations = stations;
+    let mut posts = posts;
     let mut desks = desks;
+    let mut is_whole = had_threads;
     let (desk, mut deeds) = bench.into_parts();
     desks.push_reserved(desk);
-    while let Some(station) = stations.pop() {
+    while let Some(post) = posts.pop() {
+        let station = join(rt, post);
+        is_whole &= station.is_whole();
         let (desk, done) = station.into_parts();
         desks.push_reserved(desk);
         deeds.add(done);
     }
-    (desks, deeds)
+    (desks, deeds, is_whole)
 }

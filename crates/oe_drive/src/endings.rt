@@ -10,10 +10,10 @@ ghost use Rattle.oe_drive.specs.Runs.{IsDriven, IsRewoundToBase, IsEndOfDrive};
 
 use oe_core::Core;
 use oe_model::conditions_hold;
+use oe_numbers::DriveNumbers;
 use oe_population::populate;
 use oe_report::{are_same, first_failing};
 use oe_requests::{Condition, Step};
-use oe_rows::Scale;
 use oe_store::Tables;
 use oe_values::{Moment, NoMemory};
 use std::alloc::Global;
@@ -49,13 +49,13 @@ fn failing_in(core: &Core) -> Option<Condition>
 
 /// Audits the core, rewinds it to moment 0, and compares it with a new population of the scale.
 /// Memory for that is the only refusal. What it finds is known before, and looked for all the same.
-pub(crate) fn ended(alloc: Global, scale: Scale, core: Core) -> Result<Ending, NoMemory>
+pub(crate) fn ended(alloc: Global, numbers: &DriveNumbers, core: Core) -> Result<Ending, NoMemory>
     requires quiet { open_count (world_of core) ≡ 0 }
-    requires driven { IsDriven scale (world_of core) }
-    ensures { IfOk result (λ e. IsEndOfDrive scale (world_of core) e) }
+    requires driven { IsDriven numbers.now (world_of core) }
+    ensures { IfOk result (λ e. IsEndOfDrive numbers.now.scale (world_of core) e) }
 {
     let failing = failing_in(&core);
-    let Ok(fresh) = populate(alloc, scale) else {
+    let Ok(fresh) = populate(alloc, numbers.scale) else {
         core.discard();
         return Err(NoMemory);
     };

@@ -13,6 +13,7 @@ pub mod gates;
 pub mod idle;
 pub mod openings;
 pub mod planning;
+pub mod posts;
 pub mod room;
 pub mod runs;
 pub mod stations;

@@ -1,5 +1,5 @@
 //! A new shop, and a drive in it.
-ghost use Rattle.std.specs.Prelude.{◌≡◌, ◌+◌, ◌≤◌, [], IfOk, vec_len};
+ghost use Rattle.std.specs.Prelude.{◌≡◌, ◌+◌, ◌≤◌, [], IfOk, map, vec_len};
 ghost use Rattle.oe_core.specs.Core.{world_of};
 ghost use Rattle.oe_theory.specs.World.{newest};
 ghost use Rattle.oe_theory.specs.Theorems.{opened};
@@ -11,6 +11,7 @@ ghost use Rattle.oe_history.specs.Views.{calls_by};
 ghost use Rattle.oe_hall.specs.Histories.{IsHistory};
 ghost use Rattle.oe_hall.specs.Naming.{named};
 ghost use Rattle.oe_hall.specs.Turns.{open_count};
+ghost use Rattle.oe_drive.specs.Plans.{errands_in, ArePlansCarriedOut};
 
 use crate::driving::{Driven, drive};
 use crate::gates::Gate;
@@ -62,6 +63,8 @@ pub(crate) fn driven<J: Naming + Send + Sync, H: Threads + Wait + Sync, G: Gate 
         (opened system (rows tables) numbers.now.extents seats.names.layout)
         d.history.log (world_of d.core)) }
     ensures unpurged { IfOk result (λ d. calls_by 0 d.history.log ≡ []) }
+    ensures carried { IfOk result (λ d.
+        ArePlansCarriedOut d.history.log (map errands_in plans.items)) }
 {
     let (shop, purger) = Shop::open(alloc, tables, numbers.extents, seats)?;
     drive::<J, H, G>(rt, alloc, gate, shop, purger, plans)

@@ -1,6 +1,7 @@
 //! The whole run.
-ghost use Rattle.std.specs.Prelude.{◌≡◌, ◌+◌, ◌≤◌, IfOk, vec_len};
+ghost use Rattle.std.specs.Prelude.{◌≡◌, ◌+◌, ◌≤◌, IfOk, map, vec_len};
 ghost use Rattle.oe_core.specs.Core.{world_of};
+ghost use Rattle.oe_drive.specs.Plans.{errands_in, plans_of};
 ghost use Rattle.oe_drive.specs.Runs.{DriveRan, IsLeft};
 
 use crate::deeds::Deeds;
@@ -56,10 +57,11 @@ fn driven_here<H: Threads + Wait + Sync, G: Gate + Sync>(
     plans: Vec<Plan>,
 ) -> Result<Driven, NoMemory>
     requires plans { (1 ≤ vec_len plans) × (vec_len plans ≤ 63) }
+    requires drawn { map errands_in plans.items ≡ plans_of numbers.now }
     ensures ended { IfOk result (λ d.
         d.counted.begun ≡ d.counted.committed + d.counted.rolled_back) }
     ensures left { IfOk result (λ d.
-        IsLeft numbers.now.scale (world_of d.core) d.counted.committed) }
+        IsLeft numbers.now (world_of d.core) d.counted.committed) }
 {
     let Ok(seats) = Seats::new(alloc, SHOP, Layout::ChangedColumns) else {
         return Err(NoMemory);
@@ -82,7 +84,7 @@ pub fn run_drive<H: Threads + Wait + Sync, G: Gate + Sync, W: Outlet>(
     numbers: &DriveNumbers,
     writer: &mut W,
 ) -> Result<Ran, DriveFault>
-    ensures lines { DriveRan numbers.now.scale (W.sink writer.old) (W.sink writer.new) result }
+    ensures lines { DriveRan numbers.now (W.sink writer.old) (W.sink writer.new) result }
     ensures ended { IfOk result (λ r.
         r.counted.begun ≡ r.counted.committed + r.counted.rolled_back) }
 {
@@ -100,7 +102,7 @@ pub fn run_drive<H: Threads + Wait + Sync, G: Gate + Sync, W: Outlet>(
         counted,
         deeds,
     } = driven;
-    let Ok(ending) = ended(alloc, numbers.scale, core) else {
+    let Ok(ending) = ended(alloc, numbers, core) else {
         return Err(DriveFault::NoMemory);
     };
     let mut out = Pending::new();

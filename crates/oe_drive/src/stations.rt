@@ -1,13 +1,13 @@
 //! Where terminals and the worker sit: a desk, and an end of the delivery queue.
 //!
-//! What a thread at a station does, no clause tells. But it keeps the type's promise: a station has
-//! an idle desk, whose calls are those of the errands that were carried out there.
-ghost use Rattle.std.specs.Prelude.{◌≡◌, ◌+◌, ◌<◌, ◌≤◌, [], length, false};
+//! By its invariant a station has an idle desk, whose calls are those of the errands that were
+//! carried out there. A thread takes a station and gives it back.
+ghost use Rattle.std.specs.Prelude.{◌≡◌, ◌+◌, ◌<◌, ◌≤◌, [], length, IsTrue, false};
 ghost use Rattle.oe_moments.specs.Pins.{is_pinned};
 ghost use Rattle.oe_hall.specs.Counts.{untold};
 ghost use Rattle.oe_hall.specs.Desks.{TheDesk, most_begun};
 ghost use Rattle.oe_drive.specs.Errands.{HasCalled, IsCarriedOut};
-ghost use Rattle.oe_drive.specs.Stations.{TheStation, IsOnPlan};
+ghost use Rattle.oe_drive.specs.Stations.{TheStation, IsOnPlan, IsWhole, KeepsPlan};
 
 use crate::deeds::Deeds;
 use crate::gates::{Calls, Gate};
@@ -19,6 +19,9 @@ use oe_values::Terminal;
 use std::marker::Model;
 use std::sync::Wait;
 use std::sync::atomic::{AtomicBool, Ordering};
+
+/// How many transactions a desk begins at most.
+const MOST_ERRANDS: usize = usize::MAX / 64;
 
 /// What a terminal is to do, in order.
 #[derive(Drop)]
@@ -48,7 +51,7 @@ impl<J: Naming> Model for Station<J> {
     } };
 
     ghost invariant = { λ s. (s.carried ≤ length s.plan.errands.items)
-        × (s.idle.told.begun ≤ s.carried)
+        × (s.idle.told.begun ≤ s.carried) × (s.idle.calls.by ≡ s.idle.seat.terminal)
         × IsOnPlan (record {
           desk = s.idle;
           errands = s.plan.errands.items;
@@ -127,6 +130,7 @@ impl<J: Naming> Station<J> {
         requires told { desk.told ≡ untold 1 }
         requires free { is_pinned desk.seat.notes.pin ≡ false }
         requires silent { desk.calls.mine ≡ [] }
+        requires caller { desk.calls.by ≡ desk.seat.terminal }
         ensures { result ≡ record { desk = desk; errands = plan.errands.items; carried = 0 } }
     {
         Station {
@@ -143,7 +147,7 @@ impl<J: Naming> Station<J> {
     #[tactic(auto, using(crate::proofs::StationFacts::stays_on_plan))]
     fn carry_next<W: Wait, G: Gate>(&mut self, rt: &W, front: &Front<J>, calls: &mut Calls<'_, G>)
         requires { self.old.carried < length self.old.errands }
-        ensures errands { self.new.errands ≡ self.old.errands }
+        ensures plan { KeepsPlan self.old self.new }
         ensures carried { self.new.carried ≡ self.old.carried + 1 }
     {
         let errand = &self.plan.errands[self.carried];
@@ -159,27 +163,39 @@ impl<J: Naming> Station<J> {
         self.carried += 1;
     }
 
-    /// Carries out the plan, unless a stop is asked for, and submits the end mark.
+    /// Carries out the plan, unless a stop is asked for, submits the end mark, and gives the station
+    /// back.
     pub(crate) fn run<W: Wait, G: Gate>(
-        &mut self,
+        self,
         rt: &W,
         front: &Front<J>,
         gate: &G,
         stop: &AtomicBool,
-    )
-        ensures { self.new.errands ≡ self.old.errands }
+    ) -> Station<J>
+        ensures { KeepsPlan self result }
     {
-        let mut calls = Calls::new(gate, self.terminal);
-        while self.carried < self.plan.errands.len() {
+        let mut station = self;
+        let mut calls = Calls::new(gate, station.terminal);
+        while station.carried < station.plan.errands.len() {
             if stop.load(Ordering::SeqCst) {
                 break;
             }
-            self.carry_next(rt, front, &mut calls);
+            station.carry_next(rt, front, &mut calls);
             calls.done();
         }
-        if let Some(sender) = self.sender.take() {
+        if let Some(sender) = station.sender.take() {
             let _finished = sender.finish(rt);
         }
+        station
+    }
+
+    /// Tells whether the whole plan was carried out. A desk begins no more than so many
+    /// transactions, and no memory holds a plan of more errands.
+    #[tactic(auto, using(crate::proofs::StationFacts::is_whole))]
+    pub(crate) fn is_whole(&self) -> bool
+        ensures { IsTrue result → IsWhole self.now }
+    {
+        self.carried == self.plan.errands.len() && self.carried <= MOST_ERRANDS
     }
 
     /// Gives the desk, whose transactions have ended, and what was done there. The desk's calls are

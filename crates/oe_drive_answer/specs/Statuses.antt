@@ -9,7 +9,6 @@ use Rattle.oe_drive.specs.declared.runs.Ran.{Ran}
 use Rattle.oe_drive.specs.declared.runs.DriveFault.{DriveFault}
 use Rattle.oe_numbers.specs.declared.drives.DriveNumbers.{DriveNumbers}
 use Rattle.oe_io.specs.Ports.{Sink, Sent, Cut}
-use Rattle.oe_rows.specs.declared.scales.Scale.{Scale}
 
 -- its own, which is 0 where conditions hold and the population is restored; or 1 after a fault
 abbrev pub drive_status : Result Ran DriveFault → ℕ
@@ -17,9 +16,9 @@ drive_status (Ok ran) = ran.status
 drive_status (Err fault) = 1
 
 -- a drive ran and ended so; or there was no clock, and nothing was written
-abbrev pub DriveAnswered : {E : Type 0} → Scale → Option Sink → Option Sink → Result ℕ E → Type 0
-DriveAnswered s old new result =
-    Comes (DriveRan s old new) drive_status result ⊎ ((new ≡ old) × (is_err result ≡ true))
+abbrev pub DriveAnswered : {E : Type 0} → DriveNumbers → Option Sink → Option Sink → Result ℕ E → Type 0
+DriveAnswered d old new result =
+    Comes (DriveRan d old new) drive_status result ⊎ ((new ≡ old) × (is_err result ≡ true))
 
 -- The commits that the drive kept were written, in the order of their moments, and the status is the drive's; or a
 -- beginning of them was, and it is 1.
@@ -39,5 +38,5 @@ FileWritten d (Err fault) old new result = (new ≡ old) × EndsWith 1 result
 abbrev pub DriveWritten : {E : Type 0} → DriveNumbers → Option Sink → Option Sink → Option Sink → Option Sink
     → Result ℕ E → Type 0
 DriveWritten d old new file_old file_new result =
-    ((answer : Result Ran DriveFault) × DriveRan d.scale old new answer × FileWritten d answer file_old file_new result)
+    ((answer : Result Ran DriveFault) × DriveRan d old new answer × FileWritten d answer file_old file_new result)
     ⊎ ((new ≡ old) × (file_new ≡ file_old) × (is_err result ≡ true))

@@ -54,7 +54,7 @@ pub fn answer_drive<R: Threads + Wait + Clock + Eprint + AllocGlobal + Sync, W: 
     shown: Shown,
     writer: &mut W,
 ) -> io::Result<u8>
-    ensures { DriveAnswered numbers.now.scale (W.sink writer.old) (W.sink writer.new) result }
+    ensures { DriveAnswered numbers.now (W.sink writer.old) (W.sink writer.new) result }
 {
     let progress = match Progress::begin(rt, numbers, shown, false) {
         Ok(progress) => progress,

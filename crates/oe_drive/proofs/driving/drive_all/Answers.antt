@@ -1,5 +1,5 @@
-use Rattle.std.proofs.Common.{◌≡◌, ℕ, ◌+◌, ◌-◌, ◌<◌, ◌≤◌, length, ap, ◌∙◌, rules, arith}
-use Rattle.oe_drive.proofs.SlotFacts.{free_before, as_long, if_ok}
+use Rattle.std.proofs.Common.{◌≡◌, ℕ, ◌+◌, ◌-◌, ◌<◌, ◌≤◌, length, ◌∙◌, rules, arith}
+use Rattle.oe_drive.proofs.SlotFacts.{free_before, if_ok, if_ok_so}
 use Rattle.oe_drive.proofs.driving.drive_all.Goals as goal
 
 pub sit_down-requires-clause-free : goal.sit_down-requires-clause-free
@@ -12,24 +12,20 @@ sit_down-requires-clause-free g c =
 
 pub rise-desks-requires : goal.rise-desks-requires
 rise-desks-requires g c =
-    let same = c.run_all-is_whole.auto.stations ∙ ap length c.as_mut_slice.ensures.value in
-    let long = as_long c.sit_down.new.stations.len c.sit_down.new.stations.items c.run_all-is_whole.new.stations
-    (search rules) same in
+    let same = c.run_all-posts.ensures.count in
     let count = c.sit_down.ensures.stations in
     let room = c.requires.desks in
     let senders = c.requires.senders in
-    (room.0, omega (arith, long, count, room.1, senders))
+    (room.0, omega (arith, same, count, room.1, senders))
 
 pub close-requires : goal.close-requires
 close-requires g c =
-    let same = c.run_all-is_whole.auto.stations ∙ ap length c.as_mut_slice.ensures.value in
-    let long = as_long c.sit_down.new.stations.len c.sit_down.new.stations.items c.run_all-is_whole.new.stations
-    (search rules) same in
+    let same = c.run_all-posts.ensures.count in
     let count = c.sit_down.ensures in
     let rise = c.rise-desks.ensures.count in
     let taken = c.take_desk-desk.ensures.given in
     let none = c.requires.new in
-    omega (arith, long, count.stations, count.given, rise, taken, none)
+    omega (arith, same, count.stations, count.given, rise, taken, none)
 
 -- what the shop left is handed on
 pub returns-clause-ended : goal.returns-clause-ended
@@ -50,6 +46,12 @@ returns-clause-run g c = if_ok c.left.result c.left.ensures.same (λ d h. rw (h.
 pub returns-clause-unpurged : goal.returns-clause-unpurged
 returns-clause-unpurged g c =
     if_ok c.left.result c.left.ensures.same (λ d h. rw (h.2) (c.in-Ok.ensures.purges ∙ c.requires.silent))
+
+-- what desks have called stands in the history, so that each terminal has carried out its plan there
+pub returns-clause-carried : goal.returns-clause-carried
+returns-clause-carried g c =
+    if_ok_so c.left.result c.left.ensures.same c.left.ensures.whole (λ d h whole. rw (h.2) (c.sit_down.ensures.carried _
+    (c.run_all-posts.ensures.carried _ (c.rise-desks.ensures.carried whole _ c.in-Ok.ensures.told.0))))
 
 pub returns-clause-kept : goal.returns-clause-kept
 returns-clause-kept g c = if_ok c.left.result c.left.ensures.kept (λ d h. h.1)

@@ -10,8 +10,8 @@ use Rattle.oe_drive.proofs.endings.ended.Goals as goal
 pub returns : goal.returns
 returns c =
     let same =
-    gives_back c.args.scale (world_of c.args.core) (rows c.rewound-left.result) (rows c.in-Ok.fresh) c.requires.driven
-    c.requires.quiet c.rewound-left.ensures c.in-Ok.ensures in (
+    gives_back c.args.numbers.now (world_of c.args.core) (rows c.rewound-left.result) (rows c.in-Ok.fresh)
+    c.requires.driven c.requires.quiet c.rewound-left.ensures c.in-Ok.ensures in (
       rows c.rewound-left.result,
       rows c.in-Ok.fresh,
       c.rewound-left.ensures,
