@@ -15,7 +15,8 @@ use Rattle.oe_image.proofs.MaskFacts.{binary_small, in_bytes, bytes_wide}
 use Rattle.oe_decode.specs.Fronts.{IsBytes, kept, seen}
 use Rattle.oe_decode.specs.ColumnFronts.{present}
 use Rattle.oe_decode.specs.BeforeFronts.{digits, bit, mask_at, kept_at}
-use Rattle.oe_decode.proofs.FrontFacts.{IsCodec, Takes, some_is, seen_some, kept_some, number_law}
+use Rattle.oe_decode.specs.Codec.{IsCodec, Takes}
+use Rattle.oe_decode.specs.FrontFacts.{some_is, seen_some, kept_some, number_law}
 
 -- ---- columns that are there or not
 

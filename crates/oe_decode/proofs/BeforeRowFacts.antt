@@ -21,10 +21,11 @@ use Rattle.oe_decode.specs.BeforeFronts.{district_before_at, customer_before_at,
 use Rattle.oe_decode.specs.BeforeFronts.{stock_before_at}
 use Rattle.oe_decode.specs.BeforeRanges.{IsWarehouseBefore, IsDistrictBefore, IsCustomerBefore, IsOrderBefore}
 use Rattle.oe_decode.specs.BeforeRanges.{IsOrderLineBefore, IsStockBefore}
-use Rattle.oe_decode.proofs.FrontFacts.{Takes, Takes-then, IsCodec, bind_some, ranged_law, seen_law, record_law}
-use Rattle.oe_decode.proofs.FrontFacts.{pair_law}
-use Rattle.oe_decode.proofs.ColumnFacts.{upto_law, stamp_law, balance_law, text_law, optional_law, flag_law, credit_law}
-use Rattle.oe_decode.proofs.ColumnFacts.{cells, cells-all, all_ten}
+use Rattle.oe_decode.specs.Codec.{Takes, IsCodec}
+use Rattle.oe_decode.specs.FrontFacts.{Takes-then, bind_some, ranged_law, seen_law, record_law}
+use Rattle.oe_decode.specs.FrontFacts.{pair_law}
+use Rattle.oe_decode.specs.ColumnFacts.{upto_law, stamp_law, balance_law, text_law, optional_law, flag_law, credit_law}
+use Rattle.oe_decode.specs.ColumnFacts.{cells, cells-all, all_ten}
 use Rattle.oe_decode.proofs.BeforeFacts.{IsKept, kept_column, mask_law}
 
 -- ---- a mask, and columns by it
@@ -69,9 +70,8 @@ pub address_columns_law : (bits : List Bool) (i : ℕ) → IsCodec (KeptAddress 
     (address_columns_at bits i)
 unfolding address_columns address_columns_at
 address_columns_law bits i =
-    record_law (λ p. record { street_1 = p.0; street_2 = p.1.0; city = p.1.1.0; state = p.1.1.1.0; zip = p.1.1.1.1 })
-    (λ v. (v.street_1, (v.street_2, (v.city, (v.state, v.zip))))) (KeptAddress bits i) (λ _. refl) (λ _. refl)
-    (λ y h. h) (λ x h. h)
+    record_law _ (λ v. (v.street_1, (v.street_2, (v.city, (v.state, v.zip))))) (KeptAddress bits i)
+    (λ _. refl) (λ _. refl) (λ y h. h) (λ x h. h)
     (pair_law (kept_column (bit bits i) (text_law 0 20 (omega arith)))
     (pair_law (kept_column (bit bits (i + 1)) (text_law 0 20 (omega arith)))
     (pair_law (kept_column (bit bits (i + 2)) (text_law 0 20 (omega arith)))
@@ -87,8 +87,7 @@ KeptName bits i n =
 pub name_columns_law : (bits : List Bool) (i : ℕ) → IsCodec (KeptName bits i) name_columns (name_columns_at bits i)
 unfolding name_columns name_columns_at
 name_columns_law bits i =
-    record_law (λ p. record { first = p.0; middle = p.1.0; last = p.1.1 })
-    (λ v. (v.first, (v.middle, v.last))) (KeptName bits i) (λ _. refl) (λ _. refl) (λ y h. h) (λ x h. h)
+    record_law _ (λ v. (v.first, (v.middle, v.last))) (KeptName bits i) (λ _. refl) (λ _. refl) (λ y h. h) (λ x h. h)
     (pair_law (kept_column (bit bits i) (text_law 0 16 (omega arith)))
     (pair_law (kept_column (bit bits (i + 1)) (text_law 2 2 (omega arith)))
     (kept_column (bit bits (i + 2)) (text_law 0 16 (omega arith)))))
@@ -106,14 +105,7 @@ pub account_columns_law : (bits : List Bool) (i : ℕ) → IsCodec (KeptAccount 
     (account_columns_at bits i)
 unfolding account_columns account_columns_at
 account_columns_law bits i =
-    record_law (λ p. record {
-      credit_limit = p.0;
-      discount = p.1.0;
-      balance = p.1.1.0;
-      ytd_payment = p.1.1.1.0;
-      payment_count = p.1.1.1.1.0;
-      delivery_count = p.1.1.1.1.1;
-    })
+    record_law _
     (λ v. (v.credit_limit, (v.discount, (v.balance, (v.ytd_payment, (v.payment_count, v.delivery_count))))))
     (KeptAccount bits i) (λ _. refl) (λ _. refl) (λ y h. h) (λ x h. h)
     (pair_law (kept_column (bit bits i) (upto_law 8 999_999_999_999 (omega arith)))
@@ -179,9 +171,8 @@ pub warehouse_columns_law : (bits : List Bool) → length bits ≡ 8
     → IsCodec (λ w. IsWarehouseBefore w × (warehouse_bits w ≡ bits)) warehouse_columns (warehouse_columns_at bits)
 unfolding warehouse_columns warehouse_columns_at bit cells
 warehouse_columns_law bits long =
-    record_law (λ p. record { name = p.0; address = p.1.0; tax = p.1.1.0; ytd = p.1.1.1 })
-    (λ v. (v.name, (v.address, (v.tax, v.ytd)))) (λ v. IsWarehouseBefore v × (warehouse_bits v ≡ bits)) (λ _. refl)
-    (λ _. refl)
+    record_law _ (λ v. (v.name, (v.address, (v.tax, v.ytd)))) (λ v. IsWarehouseBefore v × (warehouse_bits v ≡ bits))
+    (λ _. refl) (λ _. refl)
     (λ y h.
     let at : (k : ℕ) → get_or (warehouse_bits y) k false ≡ get_or bits k false = λ k. ap
     (λ (l : List Bool). get_or l k false) h.1 in (
@@ -221,8 +212,7 @@ pub district_columns_law : (bits : List Bool) → length bits ≡ 9
     → IsCodec (λ d. IsDistrictBefore d × (district_bits d ≡ bits)) district_columns (district_columns_at bits)
 unfolding district_columns district_columns_at bit cells
 district_columns_law bits long =
-    record_law (λ p. record { name = p.0; address = p.1.0; tax = p.1.1.0; ytd = p.1.1.1.0; next_order = p.1.1.1.1 })
-    (λ v. (v.name, (v.address, (v.tax, (v.ytd, v.next_order)))))
+    record_law _ (λ v. (v.name, (v.address, (v.tax, (v.ytd, v.next_order)))))
     (λ v. IsDistrictBefore v × (district_bits v ≡ bits)) (λ _. refl) (λ _. refl)
     (λ y h.
     let at : (k : ℕ) → get_or (district_bits y) k false ≡ get_or bits k false = λ k. ap
@@ -265,16 +255,7 @@ pub customer_columns_law : (bits : List Bool) → length bits ≡ 18
     → IsCodec (λ c. IsCustomerBefore c × (customer_bits c ≡ bits)) customer_columns (customer_columns_at bits)
 unfolding customer_columns customer_columns_at bit cells
 customer_columns_law bits long =
-    record_law (λ p. record {
-      name = p.0;
-      address = p.1.0;
-      phone = p.1.1.0;
-      since = p.1.1.1.0;
-      credit = p.1.1.1.1.0;
-      account = p.1.1.1.1.1.0;
-      «data» = p.1.1.1.1.1.1;
-    })
-    (λ v. (v.name, (v.address, (v.phone, (v.since, (v.credit, (v.account, v.data)))))))
+    record_law _ (λ v. (v.name, (v.address, (v.phone, (v.since, (v.credit, (v.account, v.data)))))))
     (λ v. IsCustomerBefore v × (customer_bits v ≡ bits)) (λ _. refl) (λ _. refl)
     (λ y h.
     let at : (k : ℕ) → get_or (customer_bits y) k false ≡ get_or bits k false = λ k. ap
@@ -351,14 +332,7 @@ pub order_columns_law : (bits : List Bool) → length bits ≡ 5
     → IsCodec (λ o. IsOrderBefore o × (order_bits o ≡ bits)) order_columns (order_columns_at bits)
 unfolding order_columns order_columns_at bit cells
 order_columns_law bits long =
-    record_law (λ p. record {
-      customer = p.0;
-      entry = p.1.0;
-      carrier = p.1.1.0;
-      line_count = p.1.1.1.0;
-      all_local = p.1.1.1.1;
-    })
-    (λ v. (v.customer, (v.entry, (v.carrier, (v.line_count, v.all_local)))))
+    record_law _ (λ v. (v.customer, (v.entry, (v.carrier, (v.line_count, v.all_local)))))
     (λ v. IsOrderBefore v × (order_bits v ≡ bits)) (λ _. refl) (λ _. refl)
     (λ y h.
     let at : (k : ℕ) → get_or (order_bits y) k false ≡ get_or bits k false = λ k. ap
@@ -385,15 +359,7 @@ pub order_line_columns_law : (bits : List Bool) → length bits ≡ 6
     → IsCodec (λ l. IsOrderLineBefore l × (order_line_bits l ≡ bits)) order_line_columns (order_line_columns_at bits)
 unfolding order_line_columns order_line_columns_at bit cells
 order_line_columns_law bits long =
-    record_law (λ p. record {
-      item = p.0;
-      supply = p.1.0;
-      delivery = p.1.1.0;
-      quantity = p.1.1.1.0;
-      amount = p.1.1.1.1.0;
-      dist_info = p.1.1.1.1.1;
-    })
-    (λ v. (v.item, (v.supply, (v.delivery, (v.quantity, (v.amount, v.dist_info))))))
+    record_law _ (λ v. (v.item, (v.supply, (v.delivery, (v.quantity, (v.amount, v.dist_info))))))
     (λ v. IsOrderLineBefore v × (order_line_bits v ≡ bits)) (λ _. refl) (λ _. refl)
     (λ y h.
     let at : (k : ℕ) → get_or (order_line_bits y) k false ≡ get_or bits k false = λ k. ap
@@ -430,15 +396,7 @@ pub stock_columns_law : (bits : List Bool) → length bits ≡ 15
     → IsCodec (λ s. IsStockBefore s × (stock_bits s ≡ bits)) stock_columns (stock_columns_at bits)
 unfolding stock_columns stock_columns_at bit cells
 stock_columns_law bits long =
-    record_law (λ p. record {
-      quantity = p.0;
-      dist_info = p.1.0;
-      ytd = p.1.1.0;
-      order_count = p.1.1.1.0;
-      remote_count = p.1.1.1.1.0;
-      «data» = p.1.1.1.1.1;
-    })
-    (λ v. (v.quantity, (v.dist_info, (v.ytd, (v.order_count, (v.remote_count, v.data))))))
+    record_law _ (λ v. (v.quantity, (v.dist_info, (v.ytd, (v.order_count, (v.remote_count, v.data))))))
     (λ v. IsStockBefore v × (stock_bits v ≡ bits)) (λ _. refl) (λ _. refl)
     (λ y h.
     let at : (k : ℕ) → get_or (stock_bits y) k false ≡ get_or bits k false = λ k. ap

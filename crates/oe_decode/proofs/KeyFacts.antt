@@ -1,5 +1,5 @@
 -- Keys are read exactly.
-use Rattle.std.proofs.Common.{◌≡◌, ℕ, List, ◌++◌, Some, refl, subst, arith}
+use Rattle.std.proofs.Common.{◌≡◌, ℕ, List, ◌++◌, Some, refl, subst, arith, rules}
 use Rattle.oe_rows.specs.Key.{table_of, IsDistrictKey, IsCustomerKey}
 use Rattle.oe_rows.specs.declared.keys.Key.{Key}
 use Rattle.oe_rows.specs.declared.keys.Key.TheVariants as key
@@ -12,83 +12,57 @@ use Rattle.oe_image.specs.Keys.{IsNewOrderKey, IsOrderKey, IsOrderLineKey, IsIte
 use Rattle.oe_decode.specs.KeyFronts.{warehouse_key_at, district_key_at, customer_key_at, history_key_at}
 use Rattle.oe_decode.specs.KeyFronts.{new_order_key_at, order_key_at, order_line_key_at, item_key_at, stock_key_at}
 use Rattle.oe_decode.specs.KeyFronts.{key_at, IsKeyOf}
-use Rattle.oe_decode.proofs.FrontFacts.{IsCodec, ranged_law, record_law, pair_law, found_as, finds_as}
+use Rattle.oe_decode.specs.Codec.{IsCodec}
+use Rattle.oe_decode.specs.FrontFacts.{ranged_law, row_law, pair_law, found_as, finds_as}
 
 pub warehouse_key_law : IsCodec IsWarehouseKey warehouse_key warehouse_key_at
 unfolding warehouse_key warehouse_key_at
-warehouse_key_law = record_law (λ p. record { warehouse = p }) (λ v. v.warehouse) IsWarehouseKey (λ _. refl) (λ _. refl)
-    (λ y h. h) (λ x h. h) (ranged_law 2 1 16 (omega arith))
+warehouse_key_law = row_law {g = λ v. v.warehouse} (search rules)
+    (ranged_law 2 1 16 (omega arith))
 
 pub district_key_law : IsCodec IsDistrictKey district_key district_key_at
 unfolding district_key district_key_at
-district_key_law =
-    record_law (λ p. record { warehouse = p.0; district = p.1 }) (λ v. (v.warehouse, v.district)) IsDistrictKey
-    (λ _. refl) (λ _. refl)
-    (λ y h. (h.warehouse, h.district)) (λ x h. record { warehouse = h.0; district = h.1 })
+district_key_law = row_law {g = λ v. (v.warehouse, v.district)} (search rules)
     (pair_law (ranged_law 2 1 16 (omega arith)) (ranged_law 1 1 10 (omega arith)))
 
 pub customer_key_law : IsCodec IsCustomerKey customer_key customer_key_at
 unfolding customer_key customer_key_at
-customer_key_law =
-    record_law (λ p. record { warehouse = p.0; district = p.1.0; customer = p.1.1 })
-    (λ v. (v.warehouse, (v.district, v.customer))) IsCustomerKey
-    (λ _. refl) (λ _. refl) (λ y h. (h.warehouse, (h.district, h.customer)))
-    (λ x h. record { warehouse = h.0; district = h.1.0; customer = h.1.1 })
+customer_key_law = row_law {g = λ v. (v.warehouse, (v.district, v.customer))} (search rules)
     (pair_law (ranged_law 2 1 16 (omega arith))
     (pair_law (ranged_law 1 1 10 (omega arith)) (ranged_law 2 1 3_000 (omega arith))))
 
 pub history_key_law : IsCodec IsHistoryKey history_key history_key_at
 unfolding history_key history_key_at
-history_key_law =
-    record_law (λ p. record { terminal = p.0; number = p.1.0; ordinal = p.1.1 })
-    (λ v. (v.terminal, (v.number, v.ordinal))) IsHistoryKey
-    (λ _. refl) (λ _. refl) (λ y h. (h.terminal, (h.number_of_terminal, h.ordinal)))
-    (λ x h. record { terminal = h.0; number_of_terminal = h.1.0; ordinal = h.1.1 })
+history_key_law = row_law {g = λ v. (v.terminal, (v.number, v.ordinal))} (search rules)
     (pair_law (ranged_law 2 0 64 (omega arith))
     (pair_law (ranged_law 4 0 4_294_967_295 (omega arith)) (ranged_law 1 1 1 (omega arith))))
 
 pub new_order_key_law : IsCodec IsNewOrderKey new_order_key new_order_key_at
 unfolding new_order_key new_order_key_at
-new_order_key_law =
-    record_law (λ p. record { warehouse = p.0; district = p.1.0; order = p.1.1 })
-    (λ v. (v.warehouse, (v.district, v.order))) IsNewOrderKey
-    (λ _. refl) (λ _. refl) (λ y h. (h.warehouse, (h.district, h.order)))
-    (λ x h. record { warehouse = h.0; district = h.1.0; order = h.1.1 })
+new_order_key_law = row_law {g = λ v. (v.warehouse, (v.district, v.order))} (search rules)
     (pair_law (ranged_law 2 1 16 (omega arith))
     (pair_law (ranged_law 1 1 10 (omega arith)) (ranged_law 4 1 10_000_000 (omega arith))))
 
 pub order_key_law : IsCodec IsOrderKey order_key order_key_at
 unfolding order_key order_key_at
-order_key_law =
-    record_law (λ p. record { warehouse = p.0; district = p.1.0; order = p.1.1 })
-    (λ v. (v.warehouse, (v.district, v.order))) IsOrderKey
-    (λ _. refl) (λ _. refl) (λ y h. (h.warehouse, (h.district, h.order)))
-    (λ x h. record { warehouse = h.0; district = h.1.0; order = h.1.1 })
+order_key_law = row_law {g = λ v. (v.warehouse, (v.district, v.order))} (search rules)
     (pair_law (ranged_law 2 1 16 (omega arith))
     (pair_law (ranged_law 1 1 10 (omega arith)) (ranged_law 4 1 10_000_000 (omega arith))))
 
 pub order_line_key_law : IsCodec IsOrderLineKey order_line_key order_line_key_at
 unfolding order_line_key order_line_key_at
-order_line_key_law =
-    record_law (λ p. record { warehouse = p.0; district = p.1.0; order = p.1.1.0; number = p.1.1.1 })
-    (λ v. (v.warehouse, (v.district, (v.order, v.number))))
-    IsOrderLineKey (λ _. refl) (λ _. refl) (λ y h. (h.warehouse, (h.district, (h.order, h.line))))
-    (λ x h. record { warehouse = h.0; district = h.1.0; order = h.1.1.0; line = h.1.1.1 })
-    (pair_law (ranged_law 2 1 16 (omega arith))
-    (pair_law (ranged_law 1 1 10 (omega arith))
+order_line_key_law = row_law {g = λ v. (v.warehouse, (v.district, (v.order, v.number)))} (search rules)
+    (pair_law (ranged_law 2 1 16 (omega arith)) (pair_law (ranged_law 1 1 10 (omega arith))
     (pair_law (ranged_law 4 1 10_000_000 (omega arith)) (ranged_law 1 1 15 (omega arith)))))
 
 pub item_key_law : IsCodec IsItemKey item_key item_key_at
 unfolding item_key item_key_at
-item_key_law = record_law (λ p. record { item = p }) (λ v. v.item) IsItemKey (λ _. refl) (λ _. refl) (λ y h. h)
-    (λ x h. h) (ranged_law 4 1 100_000 (omega arith))
+item_key_law = row_law {g = λ v. v.item} (search rules)
+    (ranged_law 4 1 100_000 (omega arith))
 
 pub stock_key_law : IsCodec IsStockKey stock_key stock_key_at
 unfolding stock_key stock_key_at
-stock_key_law =
-    record_law (λ p. record { warehouse = p.0; item = p.1 }) (λ v. (v.warehouse, v.item)) IsStockKey (λ _. refl)
-    (λ _. refl)
-    (λ y h. (h.warehouse, h.item)) (λ x h. record { warehouse = h.0; item = h.1 })
+stock_key_law = row_law {g = λ v. (v.warehouse, v.item)} (search rules)
     (pair_law (ranged_law 2 1 16 (omega arith)) (ranged_law 4 1 100_000 (omega arith)))
 
 -- ---- the key of a table

@@ -1,6 +1,6 @@
 -- Rows are read exactly.
 use Rattle.std.proofs.Common.{◌≡◌, ℕ, ◌+◌, ◌≤◌, List, ◌++◌, length, take, Some, None, refl, sym, ap, subst, ◌∙◌, arith}
-use Rattle.std.proofs.Common.{append_assoc}
+use Rattle.std.proofs.Common.{append_assoc, rules}
 use Rattle.std.proofs.lemmas.List.{take_at, length-append}
 use Rattle.oe_rows.specs.Row.{table_of_row}
 use Rattle.oe_rows.specs.Warehouse.{IsAddress, IsWarehouse}
@@ -15,6 +15,8 @@ use Rattle.oe_rows.specs.declared.keys.Key.{Key}
 use Rattle.oe_rows.specs.declared.keys.Table.{Table}
 use Rattle.oe_rows.specs.declared.keys.Table.TheVariants as table
 use Rattle.oe_decode.specs.Fronts.{Reads, IsBytes, IsExact}
+use Rattle.oe_extent.specs.Images.{number}
+use Rattle.oe_image.specs.Columns.{text, credit}
 use Rattle.oe_image.specs.Keys.{key_image}
 use Rattle.oe_decode.specs.KeyFronts.{IsKeyOf}
 use Rattle.oe_image.specs.Rows.{address, warehouse, district, customer_name, account, customer, history, order}
@@ -22,231 +24,97 @@ use Rattle.oe_image.specs.Rows.{order_line, item, stock, row_image, image_of, Is
 use Rattle.oe_decode.specs.RowFronts.{address_at, warehouse_at, district_at, customer_name_at, account_at, customer_at}
 use Rattle.oe_decode.specs.RowFronts.{history_at, order_at, order_line_at, item_at, stock_at, row_at, IsRowOf}
 use Rattle.oe_decode.specs.RowFronts.{ReadsImage}
-use Rattle.oe_decode.proofs.FrontFacts.{IsCodec, some_is, ranged_law, record_law, pair_law, found_as, finds_as}
-use Rattle.oe_decode.proofs.ColumnFacts.{upto_law, stamp_law, balance_law, text_law, optional_law, flag_law, credit_law}
-use Rattle.oe_decode.proofs.ColumnFacts.{ten_texts_law}
+use Rattle.oe_decode.specs.Codec.{IsCodec}
+use Rattle.oe_decode.specs.FrontFacts.{some_is, ranged_law, row_law, pair_law, image_law, grouped, found_as}
+use Rattle.oe_decode.specs.FrontFacts.{finds_as}
+use Rattle.oe_decode.specs.ColumnFacts.{upto_law, stamp_law, balance_law, text_law, optional_law, flag_law, credit_law}
+use Rattle.oe_decode.specs.ColumnFacts.{ten_texts_law}
 
 pub address_law : IsCodec IsAddress address address_at
 unfolding address address_at
-address_law =
-    record_law (λ p. record { street_1 = p.0; street_2 = p.1.0; city = p.1.1.0; state = p.1.1.1.0; zip = p.1.1.1.1 })
-    (λ v. (v.street_1, (v.street_2, (v.city, (v.state, v.zip))))) IsAddress (λ _. refl) (λ _. refl)
-    (λ y h. (h.street_1, (h.street_2, (h.city, (h.state, h.zip)))))
-    (λ x h. record { street_1 = h.0; street_2 = h.1.0; city = h.1.1.0; state = h.1.1.1.0; zip = h.1.1.1.1 })
-    (pair_law (text_law 0 20 (omega arith))
-    (pair_law (text_law 0 20 (omega arith))
+address_law = row_law {g = λ v. (v.street_1, (v.street_2, (v.city, (v.state, v.zip))))} (search rules)
+    (pair_law (text_law 0 20 (omega arith)) (pair_law (text_law 0 20 (omega arith))
     (pair_law (text_law 0 20 (omega arith)) (pair_law (text_law 2 2 (omega arith)) (text_law 9 9 (omega arith))))))
 
 pub warehouse_law : IsCodec IsWarehouse warehouse warehouse_at
 unfolding warehouse warehouse_at
-warehouse_law =
-    record_law (λ p. record { name = p.0; address = p.1.0; tax = p.1.1.0; ytd = p.1.1.1 })
-    (λ v. (v.name, (v.address, (v.tax, v.ytd)))) IsWarehouse (λ _. refl) (λ _. refl)
-    (λ y h. (h.name, (h.address, (h.tax, h.ytd))))
-    (λ x h. record { name = h.0; address = h.1.0; tax = h.1.1.0; ytd = h.1.1.1 })
-    (pair_law (text_law 0 10 (omega arith))
-    (pair_law address_law (pair_law (upto_law 2 9_999 (omega arith)) (upto_law 8 999_999_999_999 (omega arith)))))
+warehouse_law = row_law {g = λ v. (v.name, (v.address, (v.tax, v.ytd)))} (search rules)
+    (pair_law (text_law 0 10 (omega arith)) (pair_law address_law
+    (pair_law (ranged_law 2 0 9_999 (omega arith)) (upto_law 8 999_999_999_999 (omega arith)))))
 
 pub district_law : IsCodec IsDistrict district district_at
 unfolding district district_at
-district_law =
-    record_law (λ p. record { name = p.0; address = p.1.0; tax = p.1.1.0; ytd = p.1.1.1.0; next_order = p.1.1.1.1 })
-    (λ v. (v.name, (v.address, (v.tax, (v.ytd, v.next_order))))) IsDistrict (λ _. refl) (λ _. refl)
-    (λ y h. (h.name, (h.address, (h.tax, (h.ytd, h.next_order)))))
-    (λ x h. record { name = h.0; address = h.1.0; tax = h.1.1.0; ytd = h.1.1.1.0; next_order = h.1.1.1.1 })
-    (pair_law (text_law 0 10 (omega arith))
-    (pair_law address_law
-    (pair_law (upto_law 2 9_999 (omega arith))
+district_law = row_law {g = λ v. (v.name, (v.address, (v.tax, (v.ytd, v.next_order))))} (search rules)
+    (pair_law (text_law 0 10 (omega arith)) (pair_law address_law
+    (pair_law (ranged_law 2 0 9_999 (omega arith))
     (pair_law (upto_law 8 999_999_999_999 (omega arith)) (ranged_law 4 1 10_000_000 (omega arith))))))
 
 pub customer_name_law : IsCodec IsCustomerName customer_name customer_name_at
 unfolding customer_name customer_name_at
-customer_name_law =
-    record_law (λ p. record { first = p.0; middle = p.1.0; last = p.1.1 })
-    (λ v. (v.first, (v.middle, v.last))) IsCustomerName (λ _. refl) (λ _. refl)
-    (λ y h. (h.first, (h.middle, h.last)))
-    (λ x h. record { first = h.0; middle = h.1.0; last = h.1.1 })
+customer_name_law = row_law {g = λ v. (v.first, (v.middle, v.last))} (search rules)
     (pair_law (text_law 0 16 (omega arith)) (pair_law (text_law 2 2 (omega arith)) (text_law 0 16 (omega arith))))
 
 pub account_law : IsCodec IsAccount account account_at
 unfolding account account_at
-account_law =
-    record_law (λ p. record {
-      credit_limit = p.0;
-      discount = p.1.0;
-      balance = p.1.1.0;
-      ytd_payment = p.1.1.1.0;
-      payment_count = p.1.1.1.1.0;
-      delivery_count = p.1.1.1.1.1;
-    })
-    (λ v. (v.credit_limit, (v.discount, (v.balance, (v.ytd_payment, (v.payment_count, v.delivery_count)))))) IsAccount
-    (λ _. refl) (λ _. refl)
-    (λ y h. (h.credit_limit, (h.discount, (h.balance, (h.ytd_payment, (h.payment_count, h.delivery_count))))))
-    (λ x h. record {
-      credit_limit = h.0;
-      discount = h.1.0;
-      balance = h.1.1.0;
-      ytd_payment = h.1.1.1.0;
-      payment_count = h.1.1.1.1.0;
-      delivery_count = h.1.1.1.1.1;
-    })
-    (pair_law (upto_law 8 999_999_999_999 (omega arith))
-    (pair_law (upto_law 2 9_999 (omega arith))
-    (pair_law balance_law
-    (pair_law (upto_law 8 999_999_999_999 (omega arith))
-    (pair_law (upto_law 2 9_999 (omega arith)) (upto_law 2 9_999 (omega arith)))))))
-
-pub customer_law : IsCodec IsCustomer customer customer_at
-unfolding customer customer_at
-customer_law =
-    record_law (λ p. record {
-      name = p.0;
-      address = p.1.0;
-      phone = p.1.1.0;
-      since = p.1.1.1.0;
-      credit = p.1.1.1.1.0;
-      account = p.1.1.1.1.1.0;
-      «data» = p.1.1.1.1.1.1;
-    })
-    (λ v. (v.name, (v.address, (v.phone, (v.since, (v.credit, (v.account, v.data))))))) IsCustomer (λ _. refl)
-    (λ _. refl)
-    (λ y h. (h.name, (h.address, (h.phone, (h.since, (tt, (h.account, h.text)))))))
-    (λ x h. record {
-      name = h.0;
-      address = h.1.0;
-      phone = h.1.1.0;
-      since = h.1.1.1.0;
-      account = h.1.1.1.1.1.0;
-      text = h.1.1.1.1.1.1;
-    })
-    (pair_law customer_name_law
-    (pair_law address_law
-    (pair_law (text_law 16 16 (omega arith))
-    (pair_law stamp_law (pair_law credit_law (pair_law account_law (text_law 0 500 (omega arith))))))))
+account_law = row_law
+    {g = λ v. (v.credit_limit, (v.discount, (v.balance, (v.ytd_payment, (v.payment_count, v.delivery_count)))))}
+    (search rules)
+    (pair_law (upto_law 8 999_999_999_999 (omega arith)) (pair_law (ranged_law 2 0 9_999 (omega arith))
+    (pair_law balance_law (pair_law (upto_law 8 999_999_999_999 (omega arith))
+    (pair_law (ranged_law 2 0 9_999 (omega arith)) (ranged_law 2 0 9_999 (omega arith)))))))
 
 pub order_law : IsCodec IsOrder order order_at
 unfolding order order_at
-order_law =
-    record_law (λ p. record {
-      customer = p.0;
-      entry = p.1.0;
-      carrier = p.1.1.0;
-      line_count = p.1.1.1.0;
-      all_local = p.1.1.1.1;
-    })
-    (λ v. (v.customer, (v.entry, (v.carrier, (v.line_count, v.all_local))))) IsOrder (λ _. refl) (λ _. refl)
-    (λ y h. (h.customer, (h.entry, (h.carrier, (h.line_count, tt)))))
-    (λ x h. record { customer = h.0; entry = h.1.0; carrier = h.1.1.0; line_count = h.1.1.1.0 })
-    (pair_law (ranged_law 2 1 3_000 (omega arith))
-    (pair_law stamp_law (pair_law (optional_law (ranged_law 1 1 10 (omega arith)))
+order_law = row_law {g = λ v. (v.customer, (v.entry, (v.carrier, (v.line_count, v.all_local))))} (search rules)
+    (pair_law (ranged_law 2 1 3_000 (omega arith)) (pair_law stamp_law
+    (pair_law (optional_law (ranged_law 1 1 10 (omega arith)))
     (pair_law (ranged_law 1 5 15 (omega arith)) flag_law))))
 
 pub order_line_law : IsCodec IsOrderLine order_line order_line_at
 unfolding order_line order_line_at
-order_line_law =
-    record_law (λ p. record {
-      item = p.0;
-      supply = p.1.0;
-      delivery = p.1.1.0;
-      quantity = p.1.1.1.0;
-      amount = p.1.1.1.1.0;
-      dist_info = p.1.1.1.1.1;
-    })
-    (λ v. (v.item, (v.supply, (v.delivery, (v.quantity, (v.amount, v.dist_info)))))) IsOrderLine (λ _. refl) (λ _. refl)
-    (λ y h. (h.item, (h.supply, (h.delivery, (h.quantity, (h.amount, h.dist_info))))))
-    (λ x h. record {
-      item = h.0;
-      supply = h.1.0;
-      delivery = h.1.1.0;
-      quantity = h.1.1.1.0;
-      amount = h.1.1.1.1.0;
-      dist_info = h.1.1.1.1.1;
-    })
-    (pair_law (ranged_law 4 1 100_000 (omega arith))
-    (pair_law (ranged_law 2 1 16 (omega arith))
-    (pair_law (optional_law stamp_law)
-    (pair_law (upto_law 1 99 (omega arith))
+order_line_law = row_law {g = λ v. (v.item, (v.supply, (v.delivery, (v.quantity, (v.amount, v.dist_info)))))}
+    (search rules)
+    (pair_law (ranged_law 4 1 100_000 (omega arith)) (pair_law (ranged_law 2 1 16 (omega arith))
+    (pair_law (optional_law stamp_law) (pair_law (ranged_law 1 0 99 (omega arith))
     (pair_law (upto_law 8 999_999 (omega arith)) (text_law 24 24 (omega arith)))))))
 
 pub item_law : IsCodec IsItem item item_at
 unfolding item item_at
-item_law =
-    record_law (λ p. record { image = p.0; name = p.1.0; price = p.1.1.0; «data» = p.1.1.1 })
-    (λ v. (v.image, (v.name, (v.price, v.data)))) IsItem (λ _. refl) (λ _. refl)
-    (λ y h. (h.image, (h.name, (h.price, h.text))))
-    (λ x h. record { image = h.0; name = h.1.0; price = h.1.1.0; text = h.1.1.1 })
-    (pair_law (ranged_law 4 1 200_000 (omega arith))
-    (pair_law (text_law 0 24 (omega arith))
+item_law = row_law {g = λ v. (v.image, (v.name, (v.price, v.data)))} (search rules)
+    (pair_law (ranged_law 4 1 200_000 (omega arith)) (pair_law (text_law 0 24 (omega arith))
     (pair_law (upto_law 8 99_999 (omega arith)) (text_law 0 50 (omega arith)))))
 
 pub stock_law : IsCodec IsStock stock stock_at
 unfolding stock stock_at
-stock_law =
-    record_law (λ p. record {
-      quantity = p.0;
-      dist_info = p.1.0;
-      ytd = p.1.1.0;
-      order_count = p.1.1.1.0;
-      remote_count = p.1.1.1.1.0;
-      «data» = p.1.1.1.1.1;
-    })
-    (λ v. (v.quantity, (v.dist_info, (v.ytd, (v.order_count, (v.remote_count, v.data)))))) IsStock (λ _. refl)
-    (λ _. refl)
-    (λ y h. (h.quantity, ((h.ten_infos, h.dist_info), (h.ytd, (h.order_count, (h.remote_count, h.text))))))
-    (λ x h. record {
-      quantity = h.0;
-      ten_infos = h.1.0.0;
-      dist_info = h.1.0.1;
-      ytd = h.1.1.0;
-      order_count = h.1.1.1.0;
-      remote_count = h.1.1.1.1.0;
-      text = h.1.1.1.1.1;
-    })
-    (pair_law (upto_law 2 9_999 (omega arith))
-    (pair_law ten_texts_law
-    (pair_law (upto_law 4 99_999_999 (omega arith))
-    (pair_law (upto_law 2 9_999 (omega arith))
-    (pair_law (upto_law 2 9_999 (omega arith)) (text_law 0 50 (omega arith)))))))
+stock_law = row_law {g = λ v. (v.quantity, (v.dist_info, (v.ytd, (v.order_count, (v.remote_count, v.data)))))}
+    (search rules)
+    (pair_law (ranged_law 2 0 9_999 (omega arith)) (pair_law ten_texts_law
+    (pair_law (ranged_law 4 0 99_999_999 (omega arith)) (pair_law (ranged_law 2 0 9_999 (omega arith))
+    (pair_law (ranged_law 2 0 9_999 (omega arith)) (text_law 0 50 (omega arith)))))))
+
+pub customer_law : IsCodec IsCustomer customer customer_at
+unfolding customer customer_at
+customer_law =
+    image_law (λ c. grouped (customer_name c.name) (address c.address) (text c.phone) (number 8 c.since)
+    (credit c.credit ++ (account c.account ++ text c.data)))
+    (row_law {g = λ v. ((v.name, (v.address, (v.phone, v.since))), (v.credit, (v.account, v.data)))} (search rules)
+    (pair_law (pair_law customer_name_law (pair_law address_law (pair_law (text_law 16 16 (omega arith)) stamp_law)))
+    (pair_law credit_law (pair_law account_law (text_law 0 500 (omega arith))))))
 
 pub history_law : IsCodec IsHistory history history_at
 unfolding history history_at
 history_law =
-    record_law
-    (λ p. record {
-      customer = record { warehouse = p.1.1.0; district = p.1.0; customer = p.0 };
-      district = record { warehouse = p.1.1.1.1.0; district = p.1.1.1.0 };
-      date = p.1.1.1.1.1.0;
-      amount = p.1.1.1.1.1.1.0;
-      «data» = p.1.1.1.1.1.1.1;
-    })
-    (λ v. (
-      v.customer.customer,
-      (
-        v.customer.district,
-        (v.customer.warehouse, (v.district.district, (v.district.warehouse, (v.date, (v.amount, v.data))))),
-      ),
-    ))
-    IsHistory (λ _. refl) (λ _. refl)
-    (λ y h. (
-      h.customer.customer,
-      (
-        h.customer.district,
-        (h.customer.warehouse, (h.district.district, (h.district.warehouse, (h.date, (h.amount, h.text))))),
-      ),
-    ))
-    (λ x h. record {
-      customer = record { warehouse = h.1.1.0; district = h.1.0; customer = h.0 };
-      district = record { warehouse = h.1.1.1.1.0; district = h.1.1.1.0 };
-      date = h.1.1.1.1.1.0;
-      amount = h.1.1.1.1.1.1.0;
-      text = h.1.1.1.1.1.1.1;
-    })
-    (pair_law (ranged_law 2 1 3_000 (omega arith))
-    (pair_law (ranged_law 1 1 10 (omega arith))
-    (pair_law (ranged_law 2 1 16 (omega arith))
-    (pair_law (ranged_law 1 1 10 (omega arith))
-    (pair_law (ranged_law 2 1 16 (omega arith))
-    (pair_law stamp_law (pair_law (upto_law 8 999_999 (omega arith)) (text_law 0 24 (omega arith)))))))))
+    image_law (λ h. grouped (number 2 h.customer.customer) (number 1 h.customer.district)
+    (number 2 h.customer.warehouse) (number 1 h.district.district)
+    (number 2 h.district.warehouse ++ (number 8 h.date ++ (number 8 h.amount ++ text h.data))))
+    (row_law {g = λ v. (
+      (v.customer.customer, (v.customer.district, (v.customer.warehouse, v.district.district))),
+      (v.district.warehouse, (v.date, (v.amount, v.data))),
+    )} (search rules)
+    (pair_law (pair_law (ranged_law 2 1 3_000 (omega arith)) (pair_law (ranged_law 1 1 10 (omega arith))
+    (pair_law (ranged_law 2 1 16 (omega arith)) (ranged_law 1 1 10 (omega arith)))))
+    (pair_law (ranged_law 2 1 16 (omega arith)) (pair_law stamp_law
+    (pair_law (upto_law 8 999_999 (omega arith)) (text_law 0 24 (omega arith)))))))
 
 -- ---- the row of a table
 

@@ -81,31 +81,30 @@ unfoldable pub customer_at : List ℕ → Option (Customer × List ℕ)
 customer_at bytes =
     seen
     (λ p. record {
-      name = p.0;
-      address = p.1.0;
-      phone = p.1.1.0;
-      since = p.1.1.1.0;
-      credit = p.1.1.1.1.0;
-      account = p.1.1.1.1.1.0;
-      «data» = p.1.1.1.1.1.1;
+      name = p.0.0;
+      address = p.0.1.0;
+      phone = p.0.1.1.0;
+      since = p.0.1.1.1;
+      credit = p.1.0;
+      account = p.1.1.0;
+      «data» = p.1.1.1;
     })
-    (pair_at customer_name_at
-    (pair_at address_at (pair_at (text_at 16 16)
-    (pair_at stamp_at (pair_at credit_at (pair_at account_at (text_at 0 500)))))) bytes)
+    (pair_at (pair_at customer_name_at (pair_at address_at (pair_at (text_at 16 16) stamp_at)))
+    (pair_at credit_at (pair_at account_at (text_at 0 500))) bytes)
 
 unfoldable pub history_at : List ℕ → Option (History × List ℕ)
 history_at bytes =
     seen
     (λ p. record {
-      customer = record { warehouse = p.1.1.0; district = p.1.0; customer = p.0 };
-      district = record { warehouse = p.1.1.1.1.0; district = p.1.1.1.0 };
-      date = p.1.1.1.1.1.0;
-      amount = p.1.1.1.1.1.1.0;
-      «data» = p.1.1.1.1.1.1.1;
+      customer = record { warehouse = p.0.1.1.0; district = p.0.1.0; customer = p.0.0 };
+      district = record { warehouse = p.1.0; district = p.0.1.1.1 };
+      date = p.1.1.0;
+      amount = p.1.1.1.0;
+      «data» = p.1.1.1.1;
     })
-    (pair_at (ranged_at 2 1 3_000) (pair_at (ranged_at 1 1 10)
-    (pair_at (ranged_at 2 1 16) (pair_at (ranged_at 1 1 10) (pair_at (ranged_at 2 1 16)
-    (pair_at stamp_at (pair_at (ranged_at 8 0 999_999) (text_at 0 24))))))) bytes)
+    (pair_at (pair_at (ranged_at 2 1 3_000) (pair_at (ranged_at 1 1 10)
+    (pair_at (ranged_at 2 1 16) (ranged_at 1 1 10))))
+    (pair_at (ranged_at 2 1 16) (pair_at stamp_at (pair_at (ranged_at 8 0 999_999) (text_at 0 24)))) bytes)
 
 unfoldable pub order_at : List ℕ → Option (Order × List ℕ)
 order_at bytes =

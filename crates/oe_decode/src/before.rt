@@ -8,11 +8,7 @@ ghost use Rattle.oe_decode.specs.BeforeFronts.{order_columns_at, order_line_colu
 ghost use Rattle.oe_decode.specs.BeforeFronts.{warehouse_before_at, district_before_at, customer_before_at};
 ghost use Rattle.oe_decode.specs.BeforeFronts.{order_before_at, order_line_before_at, stock_before_at};
 
-use crate::masks::{
-    is_there, read_kept_amount, read_kept_balance, read_kept_carrier, read_kept_credit,
-    read_kept_delivery, read_kept_flag, read_kept_ranged, read_kept_stamp, read_kept_text,
-    read_mask,
-};
+use crate::masks::{is_there, read_kept, read_kept_carrier, read_kept_ranged, read_mask};
 use oe_rows::before::{
     AccountBefore, AddressBefore, CustomerBefore, CustomerNameBefore, DistrictBefore, OrderBefore,
     OrderLineBefore, StockBefore, WarehouseBefore,
@@ -34,19 +30,19 @@ fn read_address_columns(
     ensures { option_map (λ x. (x.0, x.1.now)) result
         ≡ address_columns_at (digits count mask) from bytes.now }
 {
-    let Some((street_1, rest)) = read_kept_text(bytes, is_there(mask, count, from)) else {
+    let Some((street_1, rest)) = read_kept(bytes, is_there(mask, count, from)) else {
         return None;
     };
-    let Some((street_2, rest)) = read_kept_text(rest, is_there(mask, count, from + 1)) else {
+    let Some((street_2, rest)) = read_kept(rest, is_there(mask, count, from + 1)) else {
         return None;
     };
-    let Some((city, rest)) = read_kept_text(rest, is_there(mask, count, from + 2)) else {
+    let Some((city, rest)) = read_kept(rest, is_there(mask, count, from + 2)) else {
         return None;
     };
-    let Some((state, rest)) = read_kept_text(rest, is_there(mask, count, from + 3)) else {
+    let Some((state, rest)) = read_kept(rest, is_there(mask, count, from + 3)) else {
         return None;
     };
-    let Some((zip, rest)) = read_kept_text(rest, is_there(mask, count, from + 4)) else {
+    let Some((zip, rest)) = read_kept(rest, is_there(mask, count, from + 4)) else {
         return None;
     };
     let address = AddressBefore {
@@ -74,13 +70,13 @@ fn read_name_columns(
     ensures { option_map (λ x. (x.0, x.1.now)) result
         ≡ name_columns_at (digits count mask) from bytes.now }
 {
-    let Some((first, rest)) = read_kept_text(bytes, is_there(mask, count, from)) else {
+    let Some((first, rest)) = read_kept(bytes, is_there(mask, count, from)) else {
         return None;
     };
-    let Some((middle, rest)) = read_kept_text(rest, is_there(mask, count, from + 1)) else {
+    let Some((middle, rest)) = read_kept(rest, is_there(mask, count, from + 1)) else {
         return None;
     };
-    let Some((last, rest)) = read_kept_text(rest, is_there(mask, count, from + 2)) else {
+    let Some((last, rest)) = read_kept(rest, is_there(mask, count, from + 2)) else {
         return None;
     };
     let name = CustomerNameBefore {
@@ -106,16 +102,16 @@ fn read_account_columns(
     ensures { option_map (λ x. (x.0, x.1.now)) result
         ≡ account_columns_at (digits count mask) from bytes.now }
 {
-    let Some((credit_limit, rest)) = read_kept_amount(bytes, is_there(mask, count, from)) else {
+    let Some((credit_limit, rest)) = read_kept(bytes, is_there(mask, count, from)) else {
         return None;
     };
     let Some((discount, rest)) = read_kept_ranged(rest, is_there(mask, count, from + 1), 2) else {
         return None;
     };
-    let Some((balance, rest)) = read_kept_balance(rest, is_there(mask, count, from + 2)) else {
+    let Some((balance, rest)) = read_kept(rest, is_there(mask, count, from + 2)) else {
         return None;
     };
-    let Some((ytd_payment, rest)) = read_kept_amount(rest, is_there(mask, count, from + 3)) else {
+    let Some((ytd_payment, rest)) = read_kept(rest, is_there(mask, count, from + 3)) else {
         return None;
     };
     let Some((payment_count, rest)) = read_kept_ranged(rest, is_there(mask, count, from + 4), 2)
@@ -152,34 +148,34 @@ fn read_ten_columns(
     ensures { option_map (λ x. (x.0, x.1.now)) result
         ≡ ten_columns_at (digits count mask) from bytes.now }
 {
-    let Some((d0, rest)) = read_kept_text(bytes, is_there(mask, count, from)) else {
+    let Some((d0, rest)) = read_kept(bytes, is_there(mask, count, from)) else {
         return None;
     };
-    let Some((d1, rest)) = read_kept_text(rest, is_there(mask, count, from + 1)) else {
+    let Some((d1, rest)) = read_kept(rest, is_there(mask, count, from + 1)) else {
         return None;
     };
-    let Some((d2, rest)) = read_kept_text(rest, is_there(mask, count, from + 2)) else {
+    let Some((d2, rest)) = read_kept(rest, is_there(mask, count, from + 2)) else {
         return None;
     };
-    let Some((d3, rest)) = read_kept_text(rest, is_there(mask, count, from + 3)) else {
+    let Some((d3, rest)) = read_kept(rest, is_there(mask, count, from + 3)) else {
         return None;
     };
-    let Some((d4, rest)) = read_kept_text(rest, is_there(mask, count, from + 4)) else {
+    let Some((d4, rest)) = read_kept(rest, is_there(mask, count, from + 4)) else {
         return None;
     };
-    let Some((d5, rest)) = read_kept_text(rest, is_there(mask, count, from + 5)) else {
+    let Some((d5, rest)) = read_kept(rest, is_there(mask, count, from + 5)) else {
         return None;
     };
-    let Some((d6, rest)) = read_kept_text(rest, is_there(mask, count, from + 6)) else {
+    let Some((d6, rest)) = read_kept(rest, is_there(mask, count, from + 6)) else {
         return None;
     };
-    let Some((d7, rest)) = read_kept_text(rest, is_there(mask, count, from + 7)) else {
+    let Some((d7, rest)) = read_kept(rest, is_there(mask, count, from + 7)) else {
         return None;
     };
-    let Some((d8, rest)) = read_kept_text(rest, is_there(mask, count, from + 8)) else {
+    let Some((d8, rest)) = read_kept(rest, is_there(mask, count, from + 8)) else {
         return None;
     };
-    let Some((d9, rest)) = read_kept_text(rest, is_there(mask, count, from + 9)) else {
+    let Some((d9, rest)) = read_kept(rest, is_there(mask, count, from + 9)) else {
         return None;
     };
     Some(([d0, d1, d2, d3, d4, d5, d6, d7, d8, d9], rest))
@@ -192,7 +188,7 @@ fn read_warehouse_columns(bytes: &[u8], mask: u32) -> Option<(WarehouseBefore, &
     ensures { option_map (λ x. (x.0, x.1.now)) result
         ≡ warehouse_columns_at (digits 8 mask) bytes.now }
 {
-    let Some((name, rest)) = read_kept_text(bytes, is_there(mask, 8, 0)) else {
+    let Some((name, rest)) = read_kept(bytes, is_there(mask, 8, 0)) else {
         return None;
     };
     let Some((address, rest)) = read_address_columns(rest, mask, 8, 1) else {
@@ -201,7 +197,7 @@ fn read_warehouse_columns(bytes: &[u8], mask: u32) -> Option<(WarehouseBefore, &
     let Some((tax, rest)) = read_kept_ranged(rest, is_there(mask, 8, 6), 2) else {
         return None;
     };
-    let Some((ytd, rest)) = read_kept_amount(rest, is_there(mask, 8, 7)) else {
+    let Some((ytd, rest)) = read_kept(rest, is_there(mask, 8, 7)) else {
         return None;
     };
     let warehouse = WarehouseBefore {
@@ -231,7 +227,7 @@ fn read_district_columns(bytes: &[u8], mask: u32) -> Option<(DistrictBefore, &[u
     ensures { option_map (λ x. (x.0, x.1.now)) result
         ≡ district_columns_at (digits 9 mask) bytes.now }
 {
-    let Some((name, rest)) = read_kept_text(bytes, is_there(mask, 9, 0)) else {
+    let Some((name, rest)) = read_kept(bytes, is_there(mask, 9, 0)) else {
         return None;
     };
     let Some((address, rest)) = read_address_columns(rest, mask, 9, 1) else {
@@ -240,7 +236,7 @@ fn read_district_columns(bytes: &[u8], mask: u32) -> Option<(DistrictBefore, &[u
     let Some((tax, rest)) = read_kept_ranged(rest, is_there(mask, 9, 6), 2) else {
         return None;
     };
-    let Some((ytd, rest)) = read_kept_amount(rest, is_there(mask, 9, 7)) else {
+    let Some((ytd, rest)) = read_kept(rest, is_there(mask, 9, 7)) else {
         return None;
     };
     let Some((next_order, rest)) = read_kept_ranged(rest, is_there(mask, 9, 8), 4) else {
@@ -280,19 +276,19 @@ fn read_customer_columns(bytes: &[u8], mask: u32) -> Option<(CustomerBefore, &[u
     let Some((address, rest)) = read_address_columns(rest, mask, 18, 3) else {
         return None;
     };
-    let Some((phone, rest)) = read_kept_text(rest, is_there(mask, 18, 8)) else {
+    let Some((phone, rest)) = read_kept(rest, is_there(mask, 18, 8)) else {
         return None;
     };
-    let Some((since, rest)) = read_kept_stamp(rest, is_there(mask, 18, 9)) else {
+    let Some((since, rest)) = read_kept(rest, is_there(mask, 18, 9)) else {
         return None;
     };
-    let Some((credit, rest)) = read_kept_credit(rest, is_there(mask, 18, 10)) else {
+    let Some((credit, rest)) = read_kept(rest, is_there(mask, 18, 10)) else {
         return None;
     };
     let Some((account, rest)) = read_account_columns(rest, mask, 18, 11) else {
         return None;
     };
-    let Some((data, rest)) = read_kept_text(rest, is_there(mask, 18, 17)) else {
+    let Some((data, rest)) = read_kept(rest, is_there(mask, 18, 17)) else {
         return None;
     };
     let customer = CustomerBefore {
@@ -327,7 +323,7 @@ fn read_order_columns(bytes: &[u8], mask: u32) -> Option<(OrderBefore, &[u8])>
     let Some((customer, rest)) = read_kept_ranged(bytes, is_there(mask, 5, 0), 2) else {
         return None;
     };
-    let Some((entry, rest)) = read_kept_stamp(rest, is_there(mask, 5, 1)) else {
+    let Some((entry, rest)) = read_kept(rest, is_there(mask, 5, 1)) else {
         return None;
     };
     let Some((carrier, rest)) = read_kept_carrier(rest, is_there(mask, 5, 2)) else {
@@ -336,7 +332,7 @@ fn read_order_columns(bytes: &[u8], mask: u32) -> Option<(OrderBefore, &[u8])>
     let Some((line_count, rest)) = read_kept_ranged(rest, is_there(mask, 5, 3), 1) else {
         return None;
     };
-    let Some((all_local, rest)) = read_kept_flag(rest, is_there(mask, 5, 4)) else {
+    let Some((all_local, rest)) = read_kept(rest, is_there(mask, 5, 4)) else {
         return None;
     };
     let order = OrderBefore {
@@ -373,16 +369,16 @@ fn read_order_line_columns(bytes: &[u8], mask: u32) -> Option<(OrderLineBefore, 
     let Some((supply, rest)) = read_kept_ranged(rest, is_there(mask, 6, 1), 2) else {
         return None;
     };
-    let Some((delivery, rest)) = read_kept_delivery(rest, is_there(mask, 6, 2)) else {
+    let Some((delivery, rest)) = read_kept(rest, is_there(mask, 6, 2)) else {
         return None;
     };
     let Some((quantity, rest)) = read_kept_ranged(rest, is_there(mask, 6, 3), 1) else {
         return None;
     };
-    let Some((amount, rest)) = read_kept_amount(rest, is_there(mask, 6, 4)) else {
+    let Some((amount, rest)) = read_kept(rest, is_there(mask, 6, 4)) else {
         return None;
     };
-    let Some((dist_info, rest)) = read_kept_text(rest, is_there(mask, 6, 5)) else {
+    let Some((dist_info, rest)) = read_kept(rest, is_there(mask, 6, 5)) else {
         return None;
     };
     let line = OrderLineBefore {
@@ -431,7 +427,7 @@ fn read_stock_columns(bytes: &[u8], mask: u32) -> Option<(StockBefore, &[u8])>
     let Some((remote_count, rest)) = read_kept_ranged(rest, is_there(mask, 15, 13), 2) else {
         return None;
     };
-    let Some((data, rest)) = read_kept_text(rest, is_there(mask, 15, 14)) else {
+    let Some((data, rest)) = read_kept(rest, is_there(mask, 15, 14)) else {
         return None;
     };
     let stock = StockBefore {

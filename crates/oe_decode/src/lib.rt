@@ -4,6 +4,7 @@
 
 pub mod before;
 pub mod customers;
+mod decode;
 mod fronts;
 pub mod items;
 pub mod keys;
@@ -13,5 +14,7 @@ pub mod orders;
 pub mod rows;
 pub mod warehouses;
 
+pub use decode::{Decode, Row, read_exactly};
+pub use fronts::Ranged;
 pub use keys::read_key;
 pub use rows::{read_image, read_row};

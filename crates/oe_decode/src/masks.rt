@@ -3,18 +3,13 @@
 ghost use Rattle.std.specs.Prelude.{◌≡◌, ◌≤◌, ◌<◌, ◌+◌, ◌*◌, ◌^◌, IfSome};
 ghost use Rattle.std.specs.Option.{option_map};
 ghost use Rattle.oe_decode.specs.Fronts.{ranged_at};
-ghost use Rattle.oe_decode.specs.ColumnFronts.{text_at, stamp_at, balance_at, credit_at, carrier_at, delivery_at, flag_at};
+ghost use Rattle.oe_decode.specs.ColumnFronts.{carrier_at};
 ghost use Rattle.oe_decode.specs.BeforeFronts.{digits, mask_at, bit, kept_at};
 
-use crate::fronts::{
-    read_amount, read_balance, read_carrier, read_credit, read_delivery, read_flag, read_ranged,
-    read_stamp, read_text,
-};
+use crate::decode::Decode;
+use crate::fronts::{Ranged, number_or_none, read_ranged};
 use oe_extent::numbers::read_number;
-use oe_rows::customers::Credit;
-use oe_values::numbers::{Amount, Balance, Carrier, Number};
-use oe_values::stamps::Stamp;
-use oe_values::texts::Text;
+use oe_values::numbers::{Carrier, Number};
 
 /// Reads a mask of `count` columns in the first `width` bytes; `None` also where a spare bit is 1.
 #[inline]
@@ -47,22 +42,19 @@ pub(crate) fn is_there(mask: u32, count: u32, index: u32) -> bool
     mask % (1 << (count - index)) >= 1 << (count - 1 - index)
 }
 
-/// Reads a text, where it is there.
+/// Reads a column, where it is there.
 #[inline]
-pub(crate) fn read_kept_text<const LEAST: usize, const MOST: usize>(
-    bytes: &[u8],
-    there: bool,
-) -> Option<(Option<Text<LEAST, MOST>>, &[u8])>
-    ensures { option_map (λ x. (x.0, x.1.now)) result
-        ≡ kept_at there (text_at LEAST MOST) bytes.now }
+pub(crate) fn read_kept<T: Decode>(bytes: &[u8], there: bool) -> Option<(Option<T>, &[u8])>
+    requires { T.sound }
+    ensures { option_map (λ x. (x.0, x.1.now)) result ≡ kept_at there T.at bytes.now }
 {
     if !there {
         return Some((None, bytes));
     }
-    let Some((text, rest)) = read_text(bytes) else {
+    let Some((column, rest)) = T::decode(bytes) else {
         return None;
     };
-    Some((Some(text), rest))
+    Some((Some(column), rest))
 }
 
 /// Reads a number in the first `width` bytes, from `LOW` to `HIGH`, where it is there.
@@ -87,66 +79,6 @@ pub(crate) fn read_kept_ranged<const LOW: u32, const HIGH: u32>(
     Some((Some(ranged), rest))
 }
 
-/// Reads cents, from 0 to `MOST`, where it is there.
-#[inline]
-pub(crate) fn read_kept_amount<const MOST: u64>(
-    bytes: &[u8],
-    there: bool,
-) -> Option<(Option<Amount<MOST>>, &[u8])>
-    ensures { option_map (λ x. (x.0, x.1.now)) result
-        ≡ kept_at there (ranged_at 8 0 MOST) bytes.now }
-{
-    if !there {
-        return Some((None, bytes));
-    }
-    let Some((amount, rest)) = read_amount(bytes) else {
-        return None;
-    };
-    Some((Some(amount), rest))
-}
-
-/// Reads a stamp, where it is there.
-#[inline]
-pub(crate) fn read_kept_stamp(bytes: &[u8], there: bool) -> Option<(Option<Stamp>, &[u8])>
-    ensures { option_map (λ x. (x.0, x.1.now)) result ≡ kept_at there stamp_at bytes.now }
-{
-    if !there {
-        return Some((None, bytes));
-    }
-    let Some((stamp, rest)) = read_stamp(bytes) else {
-        return None;
-    };
-    Some((Some(stamp), rest))
-}
-
-/// Reads a balance, where it is there.
-#[inline]
-pub(crate) fn read_kept_balance(bytes: &[u8], there: bool) -> Option<(Option<Balance>, &[u8])>
-    ensures { option_map (λ x. (x.0, x.1.now)) result ≡ kept_at there balance_at bytes.now }
-{
-    if !there {
-        return Some((None, bytes));
-    }
-    let Some((balance, rest)) = read_balance(bytes) else {
-        return None;
-    };
-    Some((Some(balance), rest))
-}
-
-/// Reads a credit, where it is there.
-#[inline]
-pub(crate) fn read_kept_credit(bytes: &[u8], there: bool) -> Option<(Option<Credit>, &[u8])>
-    ensures { option_map (λ x. (x.0, x.1.now)) result ≡ kept_at there credit_at bytes.now }
-{
-    if !there {
-        return Some((None, bytes));
-    }
-    let Some((credit, rest)) = read_credit(bytes) else {
-        return None;
-    };
-    Some((Some(credit), rest))
-}
-
 /// Reads a carrier, or none, where it is there.
 #[inline]
 pub(crate) fn read_kept_carrier(
@@ -155,42 +87,11 @@ pub(crate) fn read_kept_carrier(
 ) -> Option<(Option<Option<Carrier>>, &[u8])>
     ensures { option_map (λ x. (x.0, x.1.now)) result ≡ kept_at there carrier_at bytes.now }
 {
-    if !there {
-        return Some((None, bytes));
-    }
-    let Some((carrier, rest)) = read_carrier(bytes) else {
+    let Some((column, rest)) = read_kept::<Option<Ranged<1, 1, 10>>>(bytes, there) else {
         return None;
     };
-    Some((Some(carrier), rest))
-}
-
-/// Reads a stamp, or none, where it is there.
-#[inline]
-pub(crate) fn read_kept_delivery(
-    bytes: &[u8],
-    there: bool,
-) -> Option<(Option<Option<Stamp>>, &[u8])>
-    ensures { option_map (λ x. (x.0, x.1.now)) result ≡ kept_at there delivery_at bytes.now }
-{
-    if !there {
-        return Some((None, bytes));
-    }
-    let Some((delivery, rest)) = read_delivery(bytes) else {
-        return None;
+    let Some(carrier) = column else {
+        return Some((None, rest));
     };
-    Some((Some(delivery), rest))
-}
-
-/// Reads whether it is so, where it is there.
-#[inline]
-pub(crate) fn read_kept_flag(bytes: &[u8], there: bool) -> Option<(Option<bool>, &[u8])>
-    ensures { option_map (λ x. (x.0, x.1.now)) result ≡ kept_at there flag_at bytes.now }
-{
-    if !there {
-        return Some((None, bytes));
-    }
-    let Some((flag, rest)) = read_flag(bytes) else {
-        return None;
-    };
-    Some((Some(flag), rest))
+    Some((Some(number_or_none(carrier)), rest))
 }

@@ -29,7 +29,7 @@ use Rattle.oe_texts.specs.Column.{balance_text, rate_text, credit_text, flag_tex
 use Rattle.oe_texts.specs.Stamp.{stamp_text}
 use Rattle.oe_texts.proofs.StampFacts.{stamp_text_says}
 use Rattle.oe_decode.specs.ColumnFronts.{is_text, checked}
-use Rattle.oe_decode.proofs.ColumnFacts.{is_text-test, is_text-true}
+use Rattle.oe_decode.specs.ColumnFacts.{is_text-test, is_text-true}
 use Rattle.oe_lines.specs.Words.{within, stamp_of}
 use Rattle.oe_lines.proofs.WordFacts.{map_some, within_found, within_only}
 use Rattle.oe_lines.proofs.StampFacts.{stamp_found, stamp_only}

@@ -4,7 +4,8 @@ use Rattle.std.proofs.Common.{None, refl, sym, ap, subst, ◌∙◌, arith}
 use Rattle.std.specs.Prelude.{nat_le}
 use Rattle.std.proofs.lemmas.Bool.{leb-true, le-leb, eqb-true}
 use Rattle.std.proofs.lemmas.Bool.Decides.{nat_tests}
-use Rattle.oe_decode.proofs.FrontFacts.{Takes, IsCodec, some_is, both, number_law, pair_law}
+use Rattle.oe_decode.specs.Codec.{Takes, IsCodec}
+use Rattle.oe_decode.specs.FrontFacts.{some_is, both, number_law, pair_law}
 use Rattle.oe_layout.specs.Links.{LinkNumbers, link_numbers, previous_image, IsRecordAddress, IsPrevious}
 use Rattle.oe_layout.specs.Links.{with_rest, read_as, at_address, nothing_at, previous_of, previous_at}
 use Rattle.oe_layout.specs.Kinds.{kind_numbers, kind_image, inserted_in, updated_in, deleted_in, changed_in}

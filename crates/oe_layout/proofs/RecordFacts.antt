@@ -7,8 +7,9 @@ use Rattle.std.proofs.lemmas.List.{append-nil, drop_at}
 use Rattle.oe_extent.specs.Images.{number, number_at}
 use Rattle.oe_decode.specs.Fronts.{IsBytes, ◌>>=◌, pair_at}
 use Rattle.oe_image.specs.Keys.{new_order_key}
-use Rattle.oe_decode.proofs.FrontFacts.{Takes, IsCodec, some_is, bind_some, both, IsBytes-drop, Takes-then, number_law}
-use Rattle.oe_decode.proofs.FrontFacts.{pair_law, found_as, finds_as}
+use Rattle.oe_decode.specs.Codec.{Takes, IsCodec}
+use Rattle.oe_decode.specs.FrontFacts.{some_is, bind_some, both, IsBytes-drop, Takes-then, number_law}
+use Rattle.oe_decode.specs.FrontFacts.{pair_law, found_as, finds_as}
 use Rattle.oe_decode.proofs.KeyFacts.{warehouse_key_law, district_key_law, customer_key_law, history_key_law}
 use Rattle.oe_decode.proofs.KeyFacts.{new_order_key_law, order_key_law, order_line_key_law, stock_key_law}
 use Rattle.oe_decode.proofs.RowFacts.{warehouse_law, district_law, customer_law, order_law, order_line_law, stock_law}

@@ -10,7 +10,7 @@ use Rattle.oe_rows.specs.Key.{table_of}
 use Rattle.oe_decode.specs.Fronts.{Reads}
 use Rattle.oe_image.specs.Keys.{key_image, IsKey}
 use Rattle.oe_decode.specs.KeyFronts.{IsKeyOf}
-use Rattle.oe_decode.proofs.FrontFacts.{some_is}
+use Rattle.oe_decode.specs.FrontFacts.{some_is}
 use Rattle.oe_model.specs.Changes as model
 use Rattle.oe_model.specs.Changes.{Record, record_key}
 use Rattle.oe_model.specs.Lengths.{record_length}

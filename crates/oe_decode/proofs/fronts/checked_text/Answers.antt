@@ -1,5 +1,5 @@
 -- The test says what is read.
-use Rattle.oe_decode.proofs.ColumnFacts.{checked_is}
+use Rattle.oe_decode.specs.ColumnFacts.{checked_is}
 use Rattle.oe_decode.proofs.fronts.checked_text.Goals as goal
 
 pub returns : goal.returns

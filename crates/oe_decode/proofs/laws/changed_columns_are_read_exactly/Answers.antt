@@ -1,5 +1,5 @@
 -- Row by row.
-use Rattle.oe_decode.proofs.FrontFacts.{exact}
+use Rattle.oe_decode.specs.FrontFacts.{exact}
 use Rattle.oe_decode.proofs.BeforeRowFacts.{warehouse_before_law, district_before_law, customer_before_law}
 use Rattle.oe_decode.proofs.BeforeRowFacts.{order_before_law, order_line_before_law, stock_before_law}
 use Rattle.oe_decode.proofs.laws.changed_columns_are_read_exactly.Goals as goal

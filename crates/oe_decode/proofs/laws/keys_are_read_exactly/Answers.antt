@@ -1,5 +1,5 @@
 -- Key by key.
-use Rattle.oe_decode.proofs.FrontFacts.{exact}
+use Rattle.oe_decode.specs.FrontFacts.{exact}
 use Rattle.oe_decode.proofs.KeyFacts.{warehouse_key_law, district_key_law, customer_key_law, history_key_law}
 use Rattle.oe_decode.proofs.KeyFacts.{new_order_key_law, order_key_law, order_line_key_law, item_key_law, stock_key_law}
 use Rattle.oe_decode.proofs.laws.keys_are_read_exactly.Goals as goal

@@ -1,5 +1,5 @@
 -- Row by row.
-use Rattle.oe_decode.proofs.FrontFacts.{exact}
+use Rattle.oe_decode.specs.FrontFacts.{exact}
 use Rattle.oe_decode.proofs.RowFacts.{warehouse_law, district_law, customer_law, history_law, order_law, order_line_law}
 use Rattle.oe_decode.proofs.RowFacts.{item_law, stock_law}
 use Rattle.oe_decode.proofs.laws.rows_are_read_exactly.Goals as goal

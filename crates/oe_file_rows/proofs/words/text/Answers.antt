@@ -1,4 +1,4 @@
-use Rattle.oe_decode.proofs.ColumnFacts.{checked_is}
+use Rattle.oe_decode.specs.ColumnFacts.{checked_is}
 use Rattle.oe_file_rows.proofs.words.text.Goals as goal
 
 pub returns : goal.returns

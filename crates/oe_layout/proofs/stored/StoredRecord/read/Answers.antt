@@ -1,6 +1,6 @@
 -- The bytes are read as their record.
 use Rattle.std.proofs.Common.{◌∙◌, refl, sym, ap}
-use Rattle.oe_decode.proofs.FrontFacts.{some_is}
+use Rattle.oe_decode.specs.FrontFacts.{some_is}
 use Rattle.oe_layout.specs.Records.{record_of_own}
 use Rattle.oe_layout.specs.declared.links.Previous.{Previous}
 use Rattle.oe_layout.specs.declared.records.OwnRecord.{OwnRecord}

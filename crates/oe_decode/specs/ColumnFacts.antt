@@ -23,8 +23,9 @@ use Rattle.oe_image.specs.Columns.{text, optional, flag, balance, credit_text, c
 use Rattle.oe_decode.specs.ColumnFronts.{is_within, stamp_at, balance_at, is_printable, is_text, checked, text_at}
 use Rattle.oe_decode.specs.ColumnFronts.{present, marked, optional_at, flagged, flag_at, is_credit, credit_of}
 use Rattle.oe_decode.specs.ColumnFronts.{credit_at, ten_texts_at}
-use Rattle.oe_decode.proofs.FrontFacts.{Takes, IsCodec, IsBytes-drop, bind_some, guard_some, kept_some, Takes-then}
-use Rattle.oe_decode.proofs.FrontFacts.{number_law, kept_law, both, in_range, is_from-true, seen_law, pair_law}
+use Rattle.oe_decode.specs.Codec.{Takes, IsCodec}
+use Rattle.oe_decode.specs.FrontFacts.{IsBytes-drop, bind_some, guard_some, kept_some, Takes-then}
+use Rattle.oe_decode.specs.FrontFacts.{number_law, kept_law, both, in_range, is_from-true, seen_law, pair_law}
 
 -- ---- numbers from 0 on
 

@@ -10,19 +10,8 @@ use Rattle.byteorder.specs.Endian.{big_bytes, big_number}
 use Rattle.byteorder.specs.Numbers.{big_from-lt, big_number-reads_back, length-bytes_high_first}
 use Rattle.oe_extent.specs.Images.{number, number_at}
 use Rattle.oe_decode.specs.Fronts.{IsBytes, IsExact, ◌>>=◌, kept, seen, pair_at, is_from, ranged_at}
-use Rattle.oe_decode.proofs.NumberFacts.{number_back}
-
--- the bytes are the text, and then the rest
-pub record Takes (bytes text rest : List ℕ) : Type 0 where
-  pub parts : bytes ≡ text ++ rest
-  pub rest_fits : IsBytes rest
-
--- the same as `IsExact`, in a form that parts are put together by
-pub record IsCodec {X : Type 0} (Fits : X → Type 0) (image : X → List ℕ) (at : List ℕ → Option (X × List ℕ)) : Type
-    0 where
-  pub takes : (bytes : List ℕ) (x : X × List ℕ) → IsBytes bytes → at bytes ≡ Some x
-      → Fits x.0 × Takes bytes (image x.0) x.1
-  pub again : (v : X) (rest : List ℕ) → Fits v → at (image v ++ rest) ≡ Some (v, rest)
+use Rattle.oe_decode.specs.Codec.{Takes, IsCodec, Shows}
+use Rattle.oe_decode.specs.NumberFacts.{number_back}
 
 pub exact : {X : Type 0} {Fits : X → Type 0} {image : X → List ℕ} {at : List ℕ → Option (X × List ℕ)}
     → IsCodec Fits image at → IsExact Fits image at
@@ -215,3 +204,27 @@ pub finds_as : {X Y : Type 0} {Fits : X → Type 0} {image : X → List ℕ} {at
     → IsCodec Fits image at
     → (x : X) (bytes rest : List ℕ) → Fits x → bytes ≡ image x ++ rest → seen f (at bytes) ≡ Some (f x, rest)
 finds_as {at = at} f law x bytes rest fits e = ap (seen f) (ap at e ∙ law.again x rest fits)
+
+-- a row, by its columns
+pub row_law : {X Y : Type 0} {Fits : X → Type 0} {image : X → List ℕ} {at : List ℕ → Option (X × List ℕ)}
+    {Shown : Y → Type 0} {f : X → Y} {g : Y → X} → Shows Fits Shown f g
+    → IsCodec Fits image at → IsCodec Shown (λ y. image (g y)) (λ bytes. seen f (at bytes))
+row_law {Shown = Shown} {f = f} {g = g} s law =
+    seen_law f g Shown (λ y h. (s.apart y h, s.there y h)) (λ x h. (s.together x h, s.back x h)) law
+
+-- the same images, written otherwise
+pub image_law : {Y : Type 0} {Shown : Y → Type 0} {image whole : Y → List ℕ} {at : List ℕ → Option (Y × List ℕ)}
+    → ((y : Y) → image y ≡ whole y) → IsCodec Shown image at → IsCodec Shown whole at
+image_law {at = at} same law = record {
+  takes = λ bytes y fits e.
+      let t = law.takes bytes y fits e in
+      (t.0, subst (λ (l : List ℕ). Takes bytes l y.1) (same y.0) t.1);
+  again = λ v rest h. ap (λ (l : List ℕ). at (l ++ rest)) (sym (same v)) ∙ law.again v rest h;
+}
+
+-- four columns, and those behind them
+pub grouped : (a b c d rest : List ℕ) → (a ++ (b ++ (c ++ d))) ++ rest ≡ a ++ (b ++ (c ++ (d ++ rest)))
+grouped a b c d rest =
+    append_assoc a (b ++ (c ++ d)) rest
+    ∙ ap (λ (t : List ℕ). a ++ t)
+    (append_assoc b (c ++ d) rest ∙ ap (λ (t : List ℕ). b ++ t) (append_assoc c d rest))
