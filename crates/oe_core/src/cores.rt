@@ -25,11 +25,12 @@ use crate::advances::Advanced;
 use crate::slots::{begin_work, empty_places, end_work, open_tx, put_tx, take_tx};
 use crate::works::Work;
 use oe_admission::{ranges_hold, rejection};
-use oe_engine::{Engine, Lock, Progress, Tx};
+use oe_engine::{Engine, Progress, Tx};
 use oe_requests::{Answer, Condition, Query, Refusal, ReplyRef, Request, Step};
 use oe_rows::{Layout, Mode, Name};
 use oe_store::Tables;
 use oe_values::{ExtentCount, Moment, NoMemory, PerTerminal, Terminal};
+use oe_writes::Lock;
 use std::alloc::Global;
 use std::marker::Model;
 

@@ -14,12 +14,13 @@ ghost use Rattle.oe_engine.specs.Programs.{Progresses, hold_of, reply_at, wanted
 ghost use Rattle.oe_delivery.specs.Deliveries.{place_of, HoldsNames};
 ghost use Rattle.oe_core.specs.Works.{begun, state_of, HoldsTaken, Recalls, Leaves};
 
-use oe_engine::{Engine, Lock, Progress, Savepoint, Tx};
+use oe_engine::{Engine, Progress, Savepoint, Tx};
 use oe_requests::{
     DeliveriesRequest, DeliveryRequest, NewOrderRequest, PaymentRequest, RenameRequest, Reply,
     ReplyRef, Request,
 };
 use oe_store::Tables;
+use oe_writes::Lock;
 use std::marker::Model;
 use std::snapshot::Snapshot;
 

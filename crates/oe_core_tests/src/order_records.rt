@@ -4,8 +4,6 @@ ghost use Rattle.std.specs.Prelude.{◌≡◌, length};
 
 use crate::engines::{begun, end, engine_on, leave};
 use crate::made::order_key;
-use oe_engine::kinds::inserts::{InsertNewOrder, InsertOrder, InsertOrderLine};
-use oe_engine::kinds::updates::{NextOrder, StockCounts};
 use oe_engine::{Engine, Tx};
 use oe_extent::Written;
 use oe_image::parts::StockPart;
@@ -16,6 +14,8 @@ use oe_rows::{
 };
 use oe_undo::{Holder, Ticks};
 use oe_values::{Amount, Number, Stamp, Terminal, Text};
+use oe_writes::kinds::inserts::{InsertNewOrder, InsertOrder, InsertOrderLine};
+use oe_writes::kinds::updates::{NextOrder, StockCounts};
 use std::process::Abort;
 
 /// What item 1 of warehouse 1 was before the second sale: the record of the first lies at offset

@@ -14,10 +14,11 @@ ghost use Rattle.oe_engine.specs.Programs.{Progresses, hold_of, reply_at, wanted
 ghost use Rattle.oe_delivery.specs.Deliveries.{place_of, next_district, HoldsNames};
 
 use crate::programs::Program;
-use oe_engine::{Engine, Lock, Progress, Tx};
+use oe_engine::{Engine, Progress, Tx};
 use oe_requests::{DeliveriesRequest, DeliveryRequest, DistrictDeliveries, Refusal};
 use oe_rows::DistrictKey;
 use oe_values::DistrictNumber;
+use oe_writes::Lock;
 use std::marker::Model;
 
 /// Where a delivery of ten districts stands: what it did in the districts that are done, and where

@@ -16,10 +16,11 @@ ghost use Rattle.oe_delivery.specs.Stages.{Advances, HoldsTaken};
 
 use crate::remainders::Remainder;
 use crate::stages::{credit_customer, date_line, set_carrier, take_oldest};
-use oe_engine::{Engine, Lock, Progress, Tx};
+use oe_engine::{Engine, Progress, Tx};
 use oe_requests::{DeliveredOrder, DeliveryRequest, DistrictDelivery, Refusal};
 use oe_rows::{DistrictKey, Name};
 use oe_values::{LineNumber, OrderNumber};
+use oe_writes::Lock;
 
 /// Where the delivery of a district stands: the stage that it comes to next, with what the stages
 /// before have read. Whoever carries the program out keeps its request. The program has a fixed

@@ -9,14 +9,15 @@ ghost use Rattle.oe_delivery.specs.Stages.{Advances, HoldsTaken, Steps};
 use crate::looks::remainder_of;
 use crate::programs::Program;
 use crate::remainders::Remainder;
-use oe_engine::kinds::inserts::DeleteNewOrder;
-use oe_engine::kinds::updates::{CustomerAccount, DeliveryDate, OrderCarrier};
 use oe_engine::stages::{failed, hold, put, put_held};
-use oe_engine::{Engine, Lock, Progress, Tx};
+use oe_engine::{Engine, Progress, Tx};
 use oe_formulas::deliveries::account_after_delivery;
 use oe_requests::{DeliveredOrder, DeliveryRequest, Refusal};
 use oe_rows::{Key, Mode, Name};
 use oe_values::{LineNumber, OrderNumber};
+use oe_writes::Lock;
+use oe_writes::kinds::inserts::DeleteNewOrder;
+use oe_writes::kinds::updates::{CustomerAccount, DeliveryDate, OrderCarrier};
 
 /// Takes the name of the district's queue alone, and deletes the NEW-ORDER row of the oldest order,
 /// if one waits.

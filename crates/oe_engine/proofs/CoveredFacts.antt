@@ -40,7 +40,7 @@ use Rattle.oe_model.proofs.PresenceFacts.{some-map, mapped_absent}
 use Rattle.oe_model.proofs.ChangeFacts.{accepted_meets}
 use Rattle.oe_change.specs.PutBack.{Stands}
 use Rattle.oe_change.proofs.UndoFacts.{stands}
-use Rattle.oe_engine.specs.GoesBack.{CanUnwind, CanUnwindAll}
+use Rattle.oe_journal.specs.GoesBack.{CanUnwind, CanUnwindAll}
 use Rattle.oe_engine.specs.Covered.{IsWhole, FindsNewest, put_newest, HaveNone, Unwinds}
 use Rattle.oe_engine.proofs.LockFacts.{set_own, set_at, set_twice}
 

@@ -17,13 +17,13 @@ use Rattle.oe_log.proofs.LawFacts as stands
 use Rattle.oe_log.proofs.StateFacts.{seen_same}
 use Rattle.oe_locks.specs.Held.{Holdings, OthersKeep, HoldsNothing}
 use Rattle.oe_engine.specs.View.{view_from}
-use Rattle.oe_engine.specs.GoesBack.{HavePlaces, AllHavePlaces}
-use Rattle.oe_engine.specs.Named.{AreNeeded}
-use Rattle.oe_engine.proofs.NamedFacts.{active_placed, history_placed}
+use Rattle.oe_journal.specs.GoesBack.{HavePlaces, AllHavePlaces}
+use Rattle.oe_journal.specs.Named.{AreNeeded}
+use Rattle.oe_journal.proofs.NamedFacts.{active_placed, history_placed}
 use Rattle.oe_theory.proofs.Sets.{set_other}
 use Rattle.oe_engine.specs.Kept.{IsKept}
 use Rattle.oe_engine.specs.Calls.{back_at, rolled_back}
-use Rattle.oe_engine.specs.Unwinds.{TakesBack}
+use Rattle.oe_journal.specs.Unwinds.{TakesBack}
 use Rattle.oe_engine.proofs.LockFacts.{held_of, released_is}
 use Rattle.oe_engine.proofs.LogFacts.{active_set}
 use Rattle.oe_engine.proofs.KeptFacts.{released_idle}

@@ -26,7 +26,7 @@ use Rattle.oe_change.specs.declared.writes.Write.{Write}
 use Rattle.oe_change.specs.declared.writes.Write.TheVariants as writes
 use Rattle.oe_change.specs.Writes.{written}
 use Rattle.oe_engine.specs.Covered.{SamePart, OwnsParts}
-use Rattle.oe_engine.specs.Renames.{is_rename}
+use Rattle.oe_writes.specs.Kinds.{is_rename}
 use Rattle.oe_engine.specs.Writes.{HoldsBeside}
 use Rattle.oe_engine.proofs.RenameFacts.{of_row, same_name, changed_named}
 

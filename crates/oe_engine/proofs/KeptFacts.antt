@@ -23,8 +23,8 @@ use Rattle.oe_log.proofs.LawFacts as stands
 use Rattle.oe_log.proofs.LawFacts.{idle_at}
 use Rattle.oe_log.proofs.StateFacts.{seen_same, some_of}
 use Rattle.oe_locks.specs.Held.{Holdings, OthersKeep, HoldsNothing, IsIdle}
-use Rattle.oe_engine.specs.GoesBack.{HavePlaces, AllHavePlaces}
-use Rattle.oe_engine.specs.Named.{IsUnnamed, AreNeeded}
+use Rattle.oe_journal.specs.GoesBack.{HavePlaces, AllHavePlaces}
+use Rattle.oe_journal.specs.Named.{IsUnnamed, AreNeeded}
 use Rattle.oe_engine.specs.Kept.{IsKept}
 use Rattle.oe_engine.proofs.LogFacts.{active_set}
 

@@ -1,20 +1,3 @@
-pub mod RecordFacts
-pub mod RewindFacts
-pub mod BackFacts
-mod SetFacts
-mod UndoneFacts
-pub mod LinkedFacts
-mod ChainedFacts
-pub mod MoreFacts
-pub mod RecordedFacts
-mod OfLayoutFacts
-mod ForgettingFacts
-mod UnplacedFacts
-pub mod LedFacts
-pub mod PurgeFacts
-pub mod LeftFacts
-pub mod NamedFacts
-pub mod ExactFacts
 pub mod CoveredFacts
 mod FacetFacts
 pub mod StageFacts

@@ -13,11 +13,11 @@ use Rattle.oe_store.specs.Places as tables
 use Rattle.oe_log.specs.Log.{active_at}
 use Rattle.oe_log.specs.Stands.{undo_of}
 use Rattle.oe_undo.specs.Undo.{UndoState}
-use Rattle.oe_engine.specs.Recorded.{IsRecorded}
-use Rattle.oe_engine.specs.GoesBack.{HavePlaces, AllHavePlaces}
-use Rattle.oe_engine.proofs.BackFacts.{more_places}
-use Rattle.oe_engine.proofs.ExactFacts.{made_needed}
-use Rattle.oe_engine.proofs.PurgeFacts.{all_more_places}
+use Rattle.oe_journal.specs.Recorded.{IsRecorded}
+use Rattle.oe_journal.specs.GoesBack.{HavePlaces, AllHavePlaces}
+use Rattle.oe_journal.proofs.BackFacts.{more_places}
+use Rattle.oe_journal.proofs.ExactFacts.{made_needed}
+use Rattle.oe_journal.proofs.PurgeFacts.{all_more_places}
 use Rattle.oe_locks.specs.Held.{Holdings}
 use Rattle.oe_engine.specs.View.{view_from}
 use Rattle.oe_engine.specs.Kept.{IsKept}

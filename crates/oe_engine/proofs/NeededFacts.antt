@@ -26,11 +26,11 @@ use Rattle.oe_log.specs.Log.{SegmentLog, idle, records_in, with_newest}
 use Rattle.oe_log.specs.Stands.{model_records, undo_of}
 use Rattle.oe_log.proofs.LawFacts as stands
 use Rattle.oe_locks.specs.Held.{Holdings}
-use Rattle.oe_engine.specs.GivesUp.{IsDeleted, IsDeletedIn, HasNoRecord, GivesUpDeleted}
-use Rattle.oe_engine.specs.GoesBack.{CanUnwind, CanUnwindAll}
-use Rattle.oe_engine.specs.Named.{IsUnnamed, AreNeeded}
-use Rattle.oe_engine.proofs.ExactFacts.{there_or_not}
-use Rattle.oe_engine.proofs.NamedFacts.{left_unnamed}
+use Rattle.oe_journal.specs.GivesUp.{IsDeleted, IsDeletedIn, HasNoRecord, GivesUpDeleted}
+use Rattle.oe_journal.specs.GoesBack.{CanUnwind, CanUnwindAll}
+use Rattle.oe_journal.specs.Named.{IsUnnamed, AreNeeded}
+use Rattle.oe_journal.proofs.ExactFacts.{there_or_not}
+use Rattle.oe_journal.proofs.NamedFacts.{left_unnamed}
 use Rattle.oe_engine.specs.Covered.{put_newest, Unwinds, IsSafe}
 use Rattle.oe_engine.specs.View.{view_from}
 

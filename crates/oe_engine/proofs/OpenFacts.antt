@@ -12,7 +12,7 @@ use Rattle.oe_store.specs.Places.{Places}
 use Rattle.std.specs.List.{AllByRecursion}
 use Rattle.oe_store.specs.KeyWalk.{placed_keys}
 use Rattle.oe_store.proofs.KeyWalkFacts.{in_table}
-use Rattle.oe_engine.specs.Linked.{AreLinked}
+use Rattle.oe_journal.specs.Linked.{AreLinked}
 use Rattle.oe_engine.specs.Opened.{IsLinked, HasWaiting, IsCovered}
 
 -- some of all were given places, and no place went: when the rest have theirs, all have

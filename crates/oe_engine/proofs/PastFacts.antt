@@ -15,20 +15,20 @@ use Rattle.oe_model.specs.System.{system, terminal_limit}
 use Rattle.oe_store.specs.Places.{rows}
 use Rattle.oe_store.specs.Places as tables
 use Rattle.oe_log.specs.Log.{SegmentLog, Committed, active_at, open_total, with_newest, records_in}
-use Rattle.oe_engine.specs.Rewinds.{uncounted, without_newest}
-use Rattle.oe_engine.specs.Rewinds as journal
+use Rattle.oe_journal.specs.Rewinds.{uncounted, without_newest}
+use Rattle.oe_journal.specs.Rewinds as journal
 use Rattle.oe_log.specs.Stands.{model_records, undo_of}
 use Rattle.oe_log.proofs.LawFacts as stands
 use Rattle.oe_log.proofs.StandsFacts.{slots_counted}
-use Rattle.oe_engine.specs.GivesUp.{IsDeletedIn, HasNoRecord, GivesUpThose, GivesUpDeleted}
-use Rattle.oe_engine.specs.GoesBack.{CanUnwindAll, HavePlaces, AllHavePlaces}
+use Rattle.oe_journal.specs.GivesUp.{IsDeletedIn, HasNoRecord, GivesUpThose, GivesUpDeleted}
+use Rattle.oe_journal.specs.GoesBack.{CanUnwindAll, HavePlaces, AllHavePlaces}
 use Rattle.oe_log.specs.Moments.{store_with}
 use Rattle.oe_log.specs.Moments as past
-use Rattle.oe_engine.specs.Linked.{StayLinked}
-use Rattle.oe_engine.specs.Named.{AreNeeded, GivesUpUnnamed}
-use Rattle.oe_engine.proofs.NamedFacts.{active_placed, history_placed}
-use Rattle.oe_engine.proofs.LeftFacts.{none_in_open, none_in_commits}
-use Rattle.oe_engine.proofs.RewindFacts.{none_open, quiet_still, rewinds}
+use Rattle.oe_journal.specs.Linked.{StayLinked}
+use Rattle.oe_journal.specs.Named.{AreNeeded, GivesUpUnnamed}
+use Rattle.oe_journal.proofs.NamedFacts.{active_placed, history_placed}
+use Rattle.oe_journal.proofs.LeftFacts.{none_in_open, none_in_commits}
+use Rattle.oe_journal.proofs.RewindFacts.{none_open, quiet_still, rewinds}
 use Rattle.oe_undo.specs.Undo.{UndoState}
 use Rattle.oe_locks.specs.Held.{Holdings}
 use Rattle.oe_engine.specs.View.{View, view_from}

@@ -1,34 +1,38 @@
 -- What a write leaves of an engine, whether it was made or refused.
-use Rattle.std.proofs.Common.{◌≡◌, ℕ, suc, sym, subst, Some}
-use Rattle.std.specs.Prelude.{Result, Ok, Err, OnOk, OnErr}
+use Rattle.std.proofs.Common.{◌≡◌, ◌∙◌, ℕ, suc, sym, subst, length}
+use Rattle.std.specs.Prelude.{Result, Ok, Err, OnOk, OnErr, IfErr}
 use Rattle.std.specs.Option.{IsSomeAnd}
+use Rattle.oe_theory.specs.Machine.{Plain}
 use Rattle.oe_theory.specs.Next.{record_on}
+use Rattle.oe_requests.specs.declared.refusals.Refusal.{Refusal}
+use Rattle.oe_values.specs.declared.numbers.TheConstants.{TERMINALS}
 use Rattle.oe_model.specs.Changes.{Change, changed}
 use Rattle.oe_model.specs.Lengths.{record_length}
-use Rattle.oe_model.specs.Meets.{Accepts}
 use Rattle.oe_model.specs.System.{system}
 use Rattle.oe_change.specs.declared.writes.Write.{Write}
-use Rattle.oe_change.specs.Writes.{written}
+use Rattle.oe_change.specs.Writes.{key_written}
 use Rattle.oe_store.specs.Places.{rows}
 use Rattle.oe_store.specs.Places as tables
 use Rattle.oe_log.specs.Log.{IsFull}
 use Rattle.oe_undo.specs.Undo.{UndoState}
-use Rattle.oe_engine.specs.Linked.{AreLinked}
-use Rattle.oe_engine.specs.Recorded.{IsRecorded, HasRecorded, HasRoomFor}
-use Rattle.oe_engine.proofs.RecordFacts.{write_records}
+use Rattle.oe_journal.specs.Linked.{AreLinked}
+use Rattle.oe_journal.specs.Recorded.{IsRecorded, HasRecorded, HasRoomFor, CantWrite}
+use Rattle.oe_writes.proofs.RecordFacts.{write_records}
 use Rattle.oe_locks.specs.Held.{Holdings}
-use Rattle.oe_engine.specs.View.{view_from}
+use Rattle.oe_engine.specs.View.{EngineState, view_of, view_from, Handle, IsOpen}
 use Rattle.oe_engine.specs.Covered.{OwnsParts, MayMake, IsSafe}
 use Rattle.oe_engine.specs.Kept.{IsKept, IsSound, IsOrderly}
 use Rattle.oe_engine.specs.Renames.{AreNamed, Notes}
 use Rattle.oe_engine.specs.declared.renames.Renames.{Renames}
-use Rattle.oe_engine.specs.Calls.{made}
-use Rattle.oe_engine.specs.Writes.{MayWrite}
+use Rattle.oe_engine.specs.Writes.{MayWrite, IsMade, Writes}
 use Rattle.oe_engine.proofs.MakeFacts.{change_view, change_kept}
 use Rattle.oe_engine.proofs.SafeFacts.{safe_made}
 use Rattle.oe_engine.proofs.RenameFacts.{named_made, named_noted}
 use Rattle.oe_engine.proofs.HeldFacts.{parts_held}
-use Rattle.oe_engine.proofs.WriteFacts.{at_change, of_change, may_make}
+use Rattle.oe_engine.proofs.PartFacts.{change_done}
+use Rattle.oe_engine.proofs.FullFacts.{full_so, full_as}
+use Rattle.oe_engine.proofs.WriteFacts.{at_change, may_make, refused_written, refused_full, refused_absent, wants_row}
+use Rattle.oe_engine.proofs.WriteFacts.{change_refused, row_absent}
 
 module _ (ts ts' : tables.Places) (u x : UndoState) (ls : Holdings) (t : ℕ) where
   -- a transaction may make this change
@@ -65,21 +69,6 @@ module _ (ts ts' : tables.Places) (u x : UndoState) (ls : Holdings) (t : ℕ) wh
     linked = linked;
   }
 
-  made_view : {T E : Type 0} (r : Result T E) (c : Change) → OnOk r (IsRecorded c ts ts' u x t)
-      → OnOk r (view_from ts' x.log ls ≡ made t c (view_from ts u.log ls))
-  made_view (Ok v) c h = change_view ts ts' u x ls t c h
-  made_view (Err e) c h = tt
-
-  made_accepted : {T E : Type 0} (r : Result T E) (c : Change) → OnOk r (IsRecorded c ts ts' u x t)
-      → OnOk r (Accepts c (rows ts))
-  made_accepted (Ok v) c h = h.applies.accepted
-  made_accepted (Err e) c h = tt
-
-  pub same_view : {T E : Type 0} (r : Result T E) → OnErr r (ts' ≡ ts) → OnErr r (x.log ≡ u.log)
-      → OnErr r (view_from ts' x.log ls ≡ view_from ts u.log ls)
-  same_view (Ok v) tables log = tt
-  same_view (Err e) tables log = λ i. view_from (tables i) (log i) ls
-
   -- a write is a change of the row that is there
   module _ (w : Write) where
     pub put_sound : {T E : Type 0} (r : Result T E) → MayWriteHere w → OnOk r (HasRecorded w ts ts' u x t)
@@ -106,25 +95,50 @@ module _ (ts ts' : tables.Places) (u x : UndoState) (ls : Holdings) (t : ℕ) wh
         (subst (λ z. AreNamed (view_from z x.log ls) a) (sym tables)
         (subst (λ z. AreNamed (view_from ts z ls) a) (sym log) s.named))
 
-    put_recorded : {T E : Type 0} (r : Result T E) (c : Change) → written w (rows ts) ≡ Some c
-        → OnOk r (HasRecorded w ts ts' u x t) → OnOk r (IsRecorded c ts ts' u x t)
-    put_recorded (Ok v) c found h = of_change _ _ c found h
-    put_recorded (Err e) c found h = tt
+-- so the engine's write is what the contract says
+module _ (ts ts' : tables.Places) (u u' : UndoState) (ls : Holdings) (a b : Renames) (name : ℕ) (x : Handle)
+    (w : Write) where
+  abbrev pub before : EngineState
+  before = record { tables = ts; undo = u.log; links = u.links; locks = ls; renames = a; name = name }
 
-    pub put_view : {T E : Type 0} (r : Result T E) (c : Change) → written w (rows ts) ≡ Some c
-        → OnOk r (HasRecorded w ts ts' u x t)
-        → OnOk r (view_from ts' x.log ls ≡ made t c (view_from ts u.log ls))
-    put_view r c found h = made_view r c (put_recorded r c found h)
+  abbrev pub after : EngineState
+  after = record { tables = ts'; undo = u'.log; links = u'.links; locks = ls; renames = b; name = name }
 
-    pub put_accepted : {T E : Type 0} (r : Result T E) (c : Change) → written w (rows ts) ≡ Some c
-        → OnOk r (HasRecorded w ts ts' u x t) → OnOk r (Accepts c (rows ts))
-    put_accepted r c found h = made_accepted r c (put_recorded r c found h)
-
-    pub put_fits : {T E : Type 0} (r : Result T E) (c : Change) → written w (rows ts) ≡ Some c
-        → OnOk r (HasRecorded w ts ts' u x t) → OnOk r (HasRoomFor w (rows ts) u.log t)
-        → OnOk r (IsFull u.log t (record_length (record_on system u.log.layout c (rows ts))) → ⊥)
-    put_fits (Ok v) c found h room =
-        let accepted = (of_change (λ d. IsRecorded d ts ts' u x t) _ c found h).applies.accepted in
-        subst (λ o. IsSomeAnd o (λ b. IsFull u.log t (record_length b) → ⊥))
-        (write_records u.log.layout w c (rows ts) found accepted) room
-    put_fits (Err e) c found h room = tt
+  pub put_writes : (r : Result (Unit {0}) Refusal) → IsOpen before x → length u.log.terminals ≡ suc TERMINALS
+      → OnOk r (HasRecorded w ts ts' u u' x.terminal) → OnOk r (HasRoomFor w (rows ts) u.log x.terminal)
+      → IfErr r (CantWrite w ts u.log x.terminal) → OnErr r (ts' ≡ ts) → OnErr r (u'.log ≡ u.log)
+      → Writes before x Plain w r after
+  unfolding view_of view_from
+  put_writes (Ok v) o size recorded room cause tables log =
+      let (c, found, is) = at_change _ _ recorded in
+      let fits : IsFull u.log x.terminal (record_length (record_on system u.log.layout c (rows ts))) → ⊥ =
+      subst (λ m. IsSomeAnd m (λ d. IsFull u.log x.terminal (record_length d) → ⊥))
+      (write_records u.log.layout w c (rows ts) found is.applies.accepted) room in
+      let is_made : IsMade before x Plain c after =
+      record {
+        is_open = o;
+        free = tt;
+        accepted = is.applies.accepted;
+        room = λ full. fits (full_as ts u.log ls x.terminal c size full);
+        done = change_view ts ts' u u' ls x.terminal c is
+            ∙ sym (change_done x.terminal c (view_from ts u.log ls));
+      } in
+      record {
+        made = subst (λ m. IsSomeAnd m (λ d. IsMade before x Plain d after)) (sym found) is_made;
+        cause = λ d _. tt;
+        absent = λ _. tt;
+        full = λ d _. tt;
+        wants = λ _. tt;
+        unchanged = tt;
+      }
+  put_writes (Err e) o size recorded room cause tables log =
+      record {
+        made = tt;
+        cause = λ c found. change_refused before x c e o (refused_written w ts u.log x.terminal c e found cause);
+        absent = λ none. row_absent before x (key_written w) e o
+            (refused_absent w ts u.log x.terminal e none cause);
+        full = λ c found same. full_so ts u.log ls x.terminal c size
+            (refused_full w ts u.log x.terminal c e found cause same);
+        wants = λ _ same. wants_row w ts u.log x.terminal e cause same;
+        unchanged = λ i. view_from (tables i) (log i) ls;
+      }

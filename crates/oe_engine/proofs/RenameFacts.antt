@@ -51,7 +51,8 @@ use Rattle.oe_engine.specs.View.{View, view_from, opened_view}
 use Rattle.oe_engine.specs.Covered.{Owns, AreOwned, MayMake, IsSafe}
 use Rattle.oe_engine.specs.Calls.{newest, begun, made, count_since, back_at, committed, rolled_back}
 use Rattle.oe_engine.specs.Calls.{purged_to, rewound_to}
-use Rattle.oe_engine.specs.Renames.{KeepsName, KeepNames, AllKeepNames, AreNamed, is_rename, Notes}
+use Rattle.oe_engine.specs.Renames.{KeepsName, KeepNames, AllKeepNames, AreNamed, Notes}
+use Rattle.oe_writes.specs.Kinds.{is_rename}
 use Rattle.oe_engine.specs.Renames.{Forgets, HasStood}
 use Rattle.oe_engine.specs.declared.renames.Renames.{Renames}
 use Rattle.oe_engine.proofs.SafeFacts.{at_each, has_none, two_owners}

@@ -35,8 +35,9 @@ use Rattle.oe_locks.specs.Held as locks
 use Rattle.oe_locks.specs.Held.{Holdings}
 use Rattle.oe_engine.specs.View.{View, view_from, opened_view}
 use Rattle.oe_engine.specs.Covered.{Owns, AreOwned, OwnsParts, OwnAllParts, IsUnused, MayMake, IsOwn, IsSafe}
-use Rattle.oe_engine.specs.GoesBack.{CanUnwind}
-use Rattle.oe_engine.specs.Calls.{ask_to_write, IsFree, IsBelow, begun, locked, made, put_mode, count_since, back_at}
+use Rattle.oe_journal.specs.GoesBack.{CanUnwind}
+use Rattle.oe_writes.specs.Asks.{ask_to_write}
+use Rattle.oe_engine.specs.Calls.{IsFree, IsBelow, begun, locked, made, put_mode, count_since, back_at}
 use Rattle.oe_engine.specs.Calls.{committed, rolled_back}
 use Rattle.oe_engine.proofs.PartFacts.{free_is, locked_is}
 use Rattle.oe_engine.proofs.CoveredFacts.{RefersTo, AreApart, whole_made, made_unwinds, back_unwinds, can_go_back}

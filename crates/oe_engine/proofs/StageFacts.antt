@@ -1,7 +1,7 @@
 -- A stage that was done, or refused, by the engine is one of its program, whichever program that is.
 use Rattle.std.proofs.Common.{◌≡◌, Option, None, Some, refl, sym, ap, ◌∙◌, subst, inl}
 use Rattle.std.proofs.Common.{inr, ◌⊎◌}
-use Rattle.std.specs.Prelude.{Result, Ok, Err, OnOk, IfErr}
+use Rattle.std.specs.Prelude.{Result, Ok, Err}
 use Rattle.oe_theory.specs.Machine.{Ask, Stop, Plain, Take, Go, Guard, Free, Under, Own}
 use Rattle.oe_theory.specs.Machine as theory
 use Rattle.oe_theory.specs.Next.{IsNew, GivesWay}
@@ -19,7 +19,10 @@ use Rattle.oe_engine.specs.View.{EngineState, view_of, Handle, IsOpen}
 use Rattle.oe_engine.specs.Calls.{IsFree, IsFullFor, IsFullForAny, stage_done, AcceptsAll}
 use Rattle.oe_engine.specs.Calls.{StageRefused, WantsPlace}
 use Rattle.oe_engine.specs.Programs.{ask_here, act_here, GoesOn, WantsMemory, IsRefused}
+use Rattle.oe_change.specs.declared.writes.Write.{Write}
+use Rattle.oe_engine.specs.Writes.{change_written, WantsRow, IsMade, Writes}
 use Rattle.oe_engine.specs.Stages.{Does}
+use Rattle.oe_engine.proofs.WriteFacts.{of_change}
 
 -- done
 pub goes_on : (s s' : EngineState) (x : Handle) (a : Ask Name Refusal) (c : Option Change) → IsOpen s x
@@ -91,20 +94,15 @@ refused_change s x a c e room h q p p' asks does =
     with_change s x q p p' c does e (subst (λ b. IsRoom s x c b e) (sym asks) room)
     (subst (λ b. StageRefused s x b (Some c) e) (sym asks) h)
 
--- the answer of such a stage
-pub does_change : (s s' : EngineState) (x : Handle) (a : Ask Name Refusal) (c : Change) (r : Result (Unit {0}) Refusal)
-    → OnOk r (IsOpen s x)
-    → OnOk r (IsFree (view_of s) x.terminal a) → OnOk r (AcceptsAll (Some c) (view_of s).rows)
-    → OnOk r (IsFullFor (view_of s) x.terminal c → ⊥)
-    → OnOk r (view_of s' ≡ stage_done x.terminal a (Some c) (view_of s))
-    → s'.name ≡ s.name → IfErr r (StageRefused s x a (Some c)) → ((e : Refusal) → r ≡ Err e → IsRoom s x c a e)
-    → Does s x a (Some c) r s'
-does_change s s' x a c (Ok u) o free accepted fits done same cause room =
-    goes_on s s' x a (Some c) o free accepted fits done same
-does_change s s' x a c (Err e) o free accepted fits done same cause room = refused_change s x a c e (room e refl) cause
-
--- a stage without a lock waits for nobody
-pub is_free : (s : EngineState) (x : Handle) (r : Result (Unit {0}) Refusal)
-    → OnOk r (IsFree (view_of s) x.terminal Plain)
-is_free s x (Ok u) = tt
-is_free s x (Err e) = tt
+-- the answer of a stage that writes a row
+pub does_write : (s s' : EngineState) (x : Handle) (a : Ask Name Refusal) (w : Write) (r : Result (Unit {0}) Refusal)
+    → Writes s x a w r s' → s'.name ≡ s.name
+    → (c : Change) → change_written w (view_of s) ≡ Some c → Does s x a (Some c) r s'
+does_write s s' x a w (Ok u) h same c found =
+    let is : IsMade s x a c s' = of_change (λ d. IsMade s x a d s') _ c found h.made in
+    goes_on s s' x a (Some c) is.is_open is.free is.accepted is.room is.done same
+does_write s s' x a w (Err e) h same c found =
+    refused_change s x a c e (
+      λ held told. subst (λ o. WantsRow o s.tables) found (h.wants held told),
+      h.full c found,
+    ) (h.cause c found)

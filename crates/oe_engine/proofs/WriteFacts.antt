@@ -1,14 +1,15 @@
--- A write is a change of the row that is there: of which key, and who may make it.
-use Rattle.std.proofs.Common.{◌≡◌, ◌+◌, ◌≤◌, refl, sym, ◌∙◌, subst, suc, ℕ, Option, None, Some, arith}
-use Rattle.std.specs.Prelude.{IsSome, option_map, option_and_then}
+-- A write is a change of the row that is there: of which key, who may make it, and what becomes of it.
+use Rattle.std.proofs.Common.{◌≡◌, ◌+◌, ◌≤◌, refl, sym, ap, ◌∙◌, subst, suc, ℕ, Option, None, Some, arith, rules}
+use Rattle.std.specs.Prelude.{Ok, Err, IsSome, option_map, option_and_then}
 use Rattle.std.specs.Option.{IsSomeAnd}
 use Rattle.std.specs.FinMap.{get}
-use Rattle.oe_theory.specs.Machine.{Take}
+use Rattle.oe_theory.specs.Machine.{Ask, Plain, Take}
 use Rattle.oe_theory.specs.Machine as theory
 use Rattle.oe_theory.proofs.Sets.{some_inj}
+use Rattle.oe_rows.specs.declared.keys.Key.{Key}
 use Rattle.oe_rows.specs.declared.locks.Name.{Name}
 use Rattle.oe_requests.specs.declared.refusals.Refusal.{Refusal}
-use Rattle.oe_requests.specs.declared.refusals.Refusal.TheVariants.{UndoFull, NoMemory}
+use Rattle.oe_requests.specs.declared.refusals.Refusal.TheVariants.{NoSuchRow, UndoFull, NoMemory}
 use Rattle.oe_rows.specs.declared.orders.NewOrder.{NewOrder}
 use Rattle.oe_rows.specs.declared.rows.Row.TheVariants as row
 use Rattle.oe_theory.specs.Next.{held_after, record_on}
@@ -18,6 +19,7 @@ use Rattle.oe_model.specs.Changes.{Change, key_of, Record, InsertedHistory, Inse
 use Rattle.oe_model.specs.Changes.{InsertedOrderLine, DeletedNewOrder}
 use Rattle.oe_model.specs.Lengths.{record_length}
 use Rattle.oe_model.specs.Locks.{governs}
+use Rattle.oe_model.specs.Meets.{Accepts}
 use Rattle.oe_model.specs.System.{system}
 use Rattle.oe_change.specs.declared.writes.Write.{Write}
 use Rattle.oe_change.specs.declared.writes.Write.TheVariants.{WarehouseYtd, DistrictYtd, NextOrder, CustomerAccount}
@@ -29,17 +31,19 @@ use Rattle.oe_change.specs.Writes.{key_written, written}
 use Rattle.oe_store.specs.Places.{Places, rows}
 use Rattle.oe_change.specs.Applies.{Refuses, IsFirst}
 use Rattle.oe_log.specs.Log.{IsFull, SegmentLog}
-use Rattle.oe_engine.specs.Records.{record_of_write}
-use Rattle.oe_engine.specs.Recorded.{CantWrite, Absent, Full, Refused}
-use Rattle.oe_engine.proofs.RecordFacts.{recorded, update, history_in, new_order_in, order_in, order_line_in}
-use Rattle.oe_engine.proofs.RecordFacts.{deleted_in}
-use Rattle.oe_engine.specs.View.{View}
+use Rattle.oe_writes.specs.Records.{record_of_write}
+use Rattle.oe_journal.specs.Recorded.{CantWrite, Absent, Full, Refused}
+use Rattle.oe_writes.proofs.RecordFacts.{recorded, update, history_in, new_order_in, order_in, order_line_in}
+use Rattle.oe_writes.proofs.RecordFacts.{deleted_in}
+use Rattle.oe_engine.specs.View.{EngineState, View, view_from, view_of, Handle, IsOpen}
 use Rattle.oe_engine.specs.Covered.{Owns, HoldsOrder, MayMake, IsOwn}
-use Rattle.oe_engine.specs.Calls.{locked, ChangeRefused}
-use Rattle.oe_engine.specs.Writes.{ask_of_write, HoldsBeside, MayWrite, AbsentRefused, WantsRow}
+use Rattle.oe_engine.specs.Calls.{IsFree, IsFullFor, locked, made, ChangeRefused, StageRefused}
+use Rattle.oe_writes.specs.Asks.{ask_of_write}
+use Rattle.oe_engine.specs.Writes.{change_written, HoldsBeside, MayWrite, AbsentRowRefused, WantsRow}
+use Rattle.oe_engine.specs.Writes.{IsMade, Writes}
 use Rattle.oe_engine.proofs.LockFacts.{set_at}
 use Rattle.oe_engine.proofs.SafeFacts.{owns_to_write}
-use Rattle.oe_engine.proofs.PartFacts.{refused_so}
+use Rattle.oe_engine.proofs.PartFacts.{refused_so, change_done}
 
 -- what holds of the change that is there
 module _ (P : Change → Type 0) where
@@ -234,7 +238,72 @@ none_recorded l P w r absent h = is_none (written w r) absent (recorded l w r (i
     is_none (Some c) e h = let no : ⊥ = cc in no
 
 pub refused_absent : (w : Write) (s : Places) (u : SegmentLog) (t : ℕ) (e : Refusal) → written w (rows s) ≡ None
-    → CantWrite w s u t e → AbsentRefused (key_written w) e
+    → CantWrite w s u t e → e ≡ NoSuchRow (key_written w)
 refused_absent w s u t _ absent (Absent a) = refl
 refused_absent w s u t _ absent (Full h) = absurd (none_recorded u.layout _ w (rows s) absent h)
 refused_absent w s u t e absent (Refused _ room h) = absurd (none_recorded u.layout _ w (rows s) absent room)
+
+-- ---- what it is in the words of a stage
+
+-- of a write without a lock
+module _ (s : EngineState) (x : Handle) where
+  pub change_refused : (c : Change) (e : Refusal) → IsOpen s x → ChangeRefused c (view_of s).rows e
+      → StageRefused s x Plain (Some c) e
+  change_refused c e o h = search rules
+
+  pub row_absent : (k : Key) (e : Refusal) → IsOpen s x → e ≡ NoSuchRow k → AbsentRowRefused s x Plain k e
+  row_absent k e o h = subst (AbsentRowRefused s x Plain k) (sym h) (o, tt, refl)
+
+-- a write behind the lock that was taken for it
+module _ (s s₁ s₂ : EngineState) (x : Handle) (n : Name) (m : theory.Mode) (w : Write) (o : IsOpen s x)
+    (free : IsFree (view_of s) x.terminal (Take n m)) (taken : view_of s₁ ≡ locked x.terminal n m (view_of s))
+    (stored : s₁.tables ≡ s.tables) (same : s₁.name ≡ s.name) where
+  now : IsOpen s₁ x
+  now = record { engine = o.engine ∙ sym same; terminal = ap (λ (v : View). v.is_open x.terminal) taken ∙ o.terminal }
+
+  same_rows : (view_of s₁).rows ≡ (view_of s).rows
+  same_rows = ap (λ (v : View). v.rows) taken
+
+  found_there : (c : Option Change) → change_written w (view_of s) ≡ c → change_written w (view_of s₁) ≡ c
+  found_there c found = ap (written w) same_rows ∙ found
+
+  made_there : (c : Change) → IsMade s₁ x Plain c s₂ → IsMade s x (Take n m) c s₂
+  made_there c h = record {
+    is_open = o;
+    free = free;
+    accepted = subst (Accepts c) same_rows h.accepted;
+    room = λ full. h.room (subst (λ v. IsFullFor v x.terminal c) (sym taken) full);
+    done = h.done ∙ change_done x.terminal c (view_of s₁) ∙ ap (λ v. made x.terminal c v) taken;
+  }
+
+  pub made_behind : Writes s₁ x Plain w (Ok tt) s₂ → Writes s x (Take n m) w (Ok tt) s₂
+  made_behind h =
+      let (c, found, is) = at_change _ _ h.made in
+      record {
+        made = subst (λ z. IsSomeAnd z (λ d. IsMade s x (Take n m) d s₂)) (sym (ap (written w) (sym same_rows) ∙ found))
+            (made_there c is);
+        cause = λ d _. tt;
+        absent = λ _. tt;
+        full = λ d _. tt;
+        wants = λ _. tt;
+        unchanged = tt;
+      }
+
+  cause_there : (c : Change) (e : Refusal) → StageRefused s₁ x Plain (Some c) e
+      → StageRefused s x (Take n m) (Some c) e
+  cause_there c e h = let is = now in let there = same_rows in search (rules, is, there)
+
+  absent_there : (k : Key) (e : Refusal) → AbsentRowRefused s₁ x Plain k e → AbsentRowRefused s x (Take n m) k e
+  absent_there k e h = let is = now in search (rules, is)
+
+  pub refused_behind : (e : Refusal) (s' : EngineState) → Writes s₁ x Plain w (Err e) s₂ → view_of s' ≡ view_of s
+      → Writes s x (Take n m) w (Err e) s'
+  unfolding view_of view_from
+  refused_behind e s' h back = record {
+    made = tt;
+    cause = λ c found. cause_there c e (h.cause c (found_there (Some c) found));
+    absent = λ none. absent_there (key_written w) e (h.absent (found_there None none));
+    full = λ c found is. subst (λ v. IsFullFor v x.terminal c) taken (h.full c (found_there (Some c) found) is);
+    wants = λ _ is. subst (λ ts. WantsRow (written w (rows ts)) ts) stored (h.wants (λ never. never) is);
+    unchanged = back;
+  }

@@ -23,18 +23,7 @@ use Rattle.oe_store.specs.Places as tables
 use Rattle.oe_change.specs.Applies.{Refuses}
 use Rattle.oe_log.specs.Moments.{IsBetween, IsOutside}
 use Rattle.oe_engine.specs.View.{EngineState, View, view_of, Handle, IsOpen}
-use Rattle.oe_engine.specs.declared.programs.Lock.{Lock}
-
--- the lock that a row asks for, in the words of the theory
-abbrev pub ask_of : Option Lock → Ask Name Refusal
-ask_of None = Plain
-ask_of (Some l) = Take l.name (mode_of l.mode)
-
--- the lock under which a row is changed, by what governs its key: its name alone
-abbrev pub ask_to_write : Guard Name → Ask Name Refusal
-ask_to_write (Under n) = Take n theory.Exclusive
-ask_to_write (Own t k) = Plain
-ask_to_write Free = Plain
+use Rattle.oe_writes.specs.declared.locks.Lock.{Lock}
 
 -- a terminal's transaction may read rows that this governs: it holds their name, or they lie under none
 abbrev pub MayRead : View → ℕ → Guard Name → Type 0

@@ -14,7 +14,7 @@ use Rattle.oe_model.specs.Changes.{ChangedStock}
 use Rattle.oe_model.specs.Meets.{Meets}
 use Rattle.oe_model.specs.Locks.{governs, Facet, part, facet_key, governs_part}
 use Rattle.oe_change.specs.PutBack.{Stands}
-use Rattle.oe_engine.specs.GoesBack.{CanUnwindAll}
+use Rattle.oe_journal.specs.GoesBack.{CanUnwindAll}
 use Rattle.oe_engine.specs.View.{View}
 
 -- transaction k of terminal t alone may change rows under this guard: it holds their name exclusively, or they are its

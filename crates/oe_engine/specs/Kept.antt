@@ -7,9 +7,9 @@ use Rattle.oe_log.specs.Log as undo
 use Rattle.oe_log.specs.Stands.{undo_of}
 use Rattle.oe_locks.specs.Held.{Holdings, HoldsNothing}
 use Rattle.oe_undo.specs.Undo.{UndoState}
-use Rattle.oe_engine.specs.GoesBack.{HavePlaces, AllHavePlaces}
-use Rattle.oe_engine.specs.Linked.{AreLinked}
-use Rattle.oe_engine.specs.Named.{AreNeeded}
+use Rattle.oe_journal.specs.GoesBack.{HavePlaces, AllHavePlaces}
+use Rattle.oe_journal.specs.Linked.{AreLinked}
+use Rattle.oe_journal.specs.Named.{AreNeeded}
 use Rattle.oe_engine.specs.View.{view_from}
 use Rattle.oe_engine.specs.Covered.{IsSafe}
 use Rattle.oe_engine.specs.Renames.{AreNamed}

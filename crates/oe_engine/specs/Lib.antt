@@ -1,14 +1,4 @@
 -- What the clauses of this crate cite.
-pub mod Records
-pub mod Recorded
-pub mod Linked
-pub mod GoesBack
-pub mod Unwinds
-pub mod Rewinds
-pub mod GivesUp
-pub mod Forgetting
-pub mod Named
-pub mod Identity
 pub mod View
 pub mod Covered
 pub mod Kept

@@ -24,7 +24,7 @@ use Rattle.oe_model.specs.Rename.{rename_reply}
 use Rattle.oe_model.specs.System.{system, ask, act, yields}
 use Rattle.oe_engine.specs.View.{EngineState, view_of, Handle, IsOpen}
 use Rattle.oe_engine.specs.Calls.{IsFree, IsInTheWay, IsFullFor, IsFullForAny, stage_done, AcceptsAll, WantsPlace}
-use Rattle.oe_engine.specs.declared.programs.Lock.{Lock}
+use Rattle.oe_writes.specs.declared.locks.Lock.{Lock}
 use Rattle.oe_engine.specs.declared.programs.Progress.{Progress}
 use Rattle.oe_engine.specs.declared.programs.Progress.TheVariants as progress
 

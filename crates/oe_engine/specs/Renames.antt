@@ -1,5 +1,5 @@
 -- Since when customers have had the names that they have.
-use Rattle.std.specs.Prelude.{◌≡◌, ◌≢◌, ◌-◌, ◌≤◌, ℕ, Bool, true, false, List, [], ◌∷◌, Option, None, take}
+use Rattle.std.specs.Prelude.{◌≡◌, ◌≢◌, ◌-◌, ◌≤◌, ℕ, true, false, List, [], ◌∷◌, Option, None, take}
 use Rattle.oe_rows.specs.declared.keys.CustomerKey.{CustomerKey}
 use Rattle.oe_rows.specs.declared.keys.Key.TheVariants as key
 use Rattle.oe_rows.specs.declared.customers.CustomerName.{CustomerName}
@@ -9,10 +9,10 @@ use Rattle.oe_model.specs.Choice.{name_in, name_at, HaveSameNames}
 use Rattle.oe_model.specs.Changes.{Record, record_key, restore}
 use Rattle.oe_model.specs.System.{system}
 use Rattle.oe_change.specs.declared.writes.Write.{Write}
-use Rattle.oe_change.specs.declared.writes.Write.TheVariants.{CustomerNames}
 use Rattle.oe_store.specs.Places.{rows}
 use Rattle.oe_log.specs.Moments.{store_with}
 use Rattle.oe_locks.specs.Terminals.{has}
+use Rattle.oe_writes.specs.Kinds.{is_rename}
 use Rattle.oe_engine.specs.View.{EngineState, View}
 use Rattle.oe_engine.specs.Calls.{newest}
 use Rattle.oe_engine.specs.declared.renames.Renames.{Renames}
@@ -37,11 +37,6 @@ pub record AreNamed (v : View) (n : Renames) : Type 0 where
   pub now : (k : CustomerKey) → name_at v.rows k ≡ names k
   pub active : (t : ℕ) → has n.open t ≡ false → KeepNames names (v.undo.active t)
   pub commits : ((t : ℕ) → has n.open t ≡ false) → AllKeepNames names (take (newest v - n.since) v.undo.history)
-
--- it gives a customer other names
-abbrev pub is_rename : Write → Bool
-is_rename (CustomerNames k last first) = true
-is_rename _ = false
 
 -- a terminal's transaction makes a write
 pub record Notes (w : Write) (t : ℕ) (old new : Renames) : Type 0 where

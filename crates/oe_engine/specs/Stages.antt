@@ -1,5 +1,5 @@
 -- A stage of a program of any kind, carried out on an engine or refused by it.
-use Rattle.std.specs.Prelude.{◌≡◌, ℕ, Bool, true, false, List, Option, Result, Ok, Err}
+use Rattle.std.specs.Prelude.{◌≡◌, ◌⊎◌, ℕ, Bool, true, false, List, Option, Some, Result, Ok, Err}
 use Rattle.oe_theory.specs.Machine.{Ask, Take, Fail, Go, Hold}
 use Rattle.oe_theory.specs.Machine as theory
 use Rattle.oe_theory.specs.Laws.{Holds, held_of}
@@ -12,7 +12,9 @@ use Rattle.oe_model.specs.Locks.{mode_of}
 use Rattle.oe_model.specs.Positions.{Position}
 use Rattle.oe_model.specs.System.{system}
 use Rattle.oe_engine.specs.View.{EngineState, View, Handle}
-use Rattle.oe_engine.specs.declared.programs.Lock.{Lock}
+use Rattle.oe_writes.specs.declared.locks.Lock.{Lock}
+use Rattle.oe_writes.specs.Asks.{ask_of}
+use Rattle.oe_engine.specs.Calls.{IsFree, IsBusy}
 use Rattle.oe_engine.specs.Programs.{ask_here, act_here, GoesOn, IsRefused}
 
 -- the refusals that a stage fails with
@@ -28,6 +30,10 @@ abbrev pub IsFailure : EngineState → Handle → Lock → Refusal → Refusal �
 IsFailure s x l f e =
     (q : Request) (p : Position) → ask_here s x q p ≡ Take l.name (mode_of l.mode) → act_here s x q p ≡ Fail f
     → IsRefused s x q p e
+
+-- it is refused with that where the lock is free, and else it is told who is in the way
+abbrev pub FailsBeside : View → ℕ → Lock → Refusal → Refusal → Type 0
+FailsBeside v t l f e = (IsFree v t (ask_of (Some l)) × (e ≡ f)) ⊎ IsBusy v t l e
 
 -- each stage that asks for this lock and makes this change, if it makes one, was done and left s', or was refused
 abbrev pub Does : EngineState → Handle → Ask Name Refusal → Option Change → Result (Unit {0}) Refusal → EngineState

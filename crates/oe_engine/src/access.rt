@@ -9,25 +9,14 @@ ghost use Rattle.oe_locks.specs.Held.{names_of};
 ghost use Rattle.oe_locks.specs.Listed.{stands, AreOnce};
 ghost use Rattle.oe_engine.specs.View.{view_of, IsOpen};
 ghost use Rattle.oe_engine.specs.Covered.{IsUnused};
-ghost use Rattle.oe_engine.specs.Calls.{ask_of, IsFree, IsBelow, MayRead, locked, put_mode, StageRefused};
+ghost use Rattle.oe_engine.specs.Calls.{IsFree, IsBelow, MayRead, locked, put_mode, StageRefused};
 
 use crate::engine::{Engine, Tx};
-use crate::programs::Lock;
 use oe_requests::Refusal;
 use oe_rows::{Key, Mode, Name, Row};
 use oe_store::Tables;
 use oe_values::Terminal;
-
-// A name alone.
-#[inline(always)]
-pub(crate) fn exclusive(name: Name) -> Option<Lock>
-    ensures { ask_of result ≡ Take name (mode_of Mode.Exclusive) }
-{
-    Some(Lock {
-        name,
-        mode: Mode::Exclusive,
-    })
-}
+use oe_writes::Lock;
 
 // A copy of the row of a key, if it has one.
 fn row_at(tables: &Tables, key: Key) -> Option<Row>

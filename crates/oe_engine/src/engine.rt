@@ -10,16 +10,15 @@ ghost use Rattle.oe_model.specs.Locks.{mode_of};
 ghost use Rattle.oe_model.specs.Requests.{number_rejection};
 ghost use Rattle.oe_model.specs.System.{system, terminal_limit};
 ghost use Rattle.oe_store.specs.Places.{rows};
-ghost use Rattle.oe_engine.specs.GoesBack.{CanUnwind};
-ghost use Rattle.oe_engine.specs.Named.{AreExact};
+ghost use Rattle.oe_journal.specs.GoesBack.{CanUnwind};
+ghost use Rattle.oe_journal.specs.Named.{AreExact};
 ghost use Rattle.oe_locks.specs.Held as locks;
 ghost use Rattle.oe_engine.specs.View.{view_of, opened_view, IsOpen};
 ghost use Rattle.oe_engine.specs.Covered.{IsUnused, IsSafe};
-ghost use Rattle.oe_engine.specs.Calls.{ask_of, IsFree, IsBusy, IsBelow, begun, CantBegin, locked, put_mode, LockRefused, back_at, committed, rolled_back};
+ghost use Rattle.oe_writes.specs.Asks.{ask_of};
+ghost use Rattle.oe_engine.specs.Calls.{IsFree, IsBusy, IsBelow, begun, CantBegin, locked, put_mode, LockRefused, back_at, committed, rolled_back};
 
-use crate::journal;
 use crate::opening::beside;
-use crate::programs::Lock;
 use crate::renames::Renames;
 use oe_locks::Locks;
 use oe_log::Segment;
@@ -28,6 +27,7 @@ use oe_rows::{Layout, Mode, Name};
 use oe_store::Tables;
 use oe_undo::Undo;
 use oe_values::{ExtentCount, Moment, NoMemory, Terminal, TransactionNumber};
+use oe_writes::Lock;
 use std::alloc::Global;
 use std::marker::Model;
 use std::snapshot::Snapshot;
@@ -358,7 +358,7 @@ impl Engine {
     {
         let segment = Segment::of(tx.terminal);
         let count = self.undo.segments().mark(segment) - savepoint.records;
-        journal::take_back(&mut self.tables, &mut self.undo, segment, count);
+        oe_journal::take_back(&mut self.tables, &mut self.undo, segment, count);
     }
 
     /// Commits a transaction with its request and reply, keeps no byte of either, and answers the
@@ -417,7 +417,7 @@ impl Engine {
         let _number = terminal.get();
         let segment = Segment::of(terminal);
         let count = self.undo.segments().mark(segment);
-        journal::take_back(&mut self.tables, &mut self.undo, segment, count);
+        oe_journal::take_back(&mut self.tables, &mut self.undo, segment, count);
         self.undo.drop_segment(segment);
         self.locks.release_all(terminal);
         let newest = self.undo.segments().newest();

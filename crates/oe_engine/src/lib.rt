@@ -1,5 +1,6 @@
-//! The engine: tables, undo log and locks as one. A transaction's changes stand at its commit or
-//! are forgotten. A test begins one, which takes locks and reads under them, and rolls it back:
+//! The engine: tables, undo log and locks as one: transactions, what each holds and may write, and
+//! what programs call. A transaction's changes stand at its commit or are forgotten. A test begins
+//! one, which takes locks and reads under them, and rolls it back:
 //!
 //! ```
 //! let Ok(tx) = engine.begin(terminal) else {
@@ -17,8 +18,6 @@ pub mod access;
 pub mod choices;
 pub mod crossing;
 pub mod engine;
-pub mod journal;
-pub mod kinds;
 mod opening;
 pub mod past;
 pub mod programs;
@@ -28,5 +27,4 @@ mod touches;
 pub mod writes;
 
 pub use engine::{Engine, Savepoint, Tx};
-pub use kinds::OneWrite;
-pub use programs::{Lock, Progress};
+pub use programs::Progress;

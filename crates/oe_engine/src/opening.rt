@@ -2,7 +2,7 @@
 //! has one for its link, so that no later change of its row takes memory for that.
 ghost use Rattle.std.specs.Prelude.{◌≡◌, IfOk, OnOk};
 ghost use Rattle.oe_log.specs.Log.{no_segments};
-ghost use Rattle.oe_engine.specs.Linked.{AreLinked};
+ghost use Rattle.oe_journal.specs.Linked.{AreLinked};
 ghost use Rattle.oe_undo.specs.Links.{KeepsPlaces};
 ghost use Rattle.oe_locks.specs.Held.{IsIdle};
 ghost use Rattle.oe_engine.specs.Opened.{IsLinked, HasWaiting, IsCovered};

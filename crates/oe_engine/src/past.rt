@@ -2,13 +2,12 @@
 //! them. Nothing takes memory; a purge or a rewind that is refused changes nothing.
 ghost use Rattle.std.specs.Prelude.{◌≡◌, IsTrue, IfErr, OnOk, OnErr};
 ghost use Rattle.oe_log.specs.Moments.{IsOutside};
-ghost use Rattle.oe_engine.specs.GivesUp.{GivesUpDeleted};
+ghost use Rattle.oe_journal.specs.GivesUp.{GivesUpDeleted};
 ghost use Rattle.oe_engine.specs.Renames.{NamesStand};
 ghost use Rattle.oe_engine.specs.View.{view_of};
 ghost use Rattle.oe_engine.specs.Calls.{newest, horizon, records_up_to, IsQuiet, IsKeptMoment, CantRewind, purged_to, rewound_to};
 
 use crate::engine::Engine;
-use crate::journal;
 use crate::renames::Renames;
 use oe_requests::Refusal;
 use oe_values::Moment;
@@ -42,7 +41,7 @@ impl Engine {
         ensures err { OnErr result (self.new ≡ self.old) }
     {
         let may_forget = !self.renames.stand(self.undo.segments().horizon());
-        journal::purge(&mut self.tables, &mut self.undo, moment, may_forget)
+        oe_journal::purge(&mut self.tables, &mut self.undo, moment, may_forget)
     }
 
     /// Undoes the commits after a moment, the newest first, while no transaction is open: the
@@ -60,7 +59,7 @@ impl Engine {
         ensures cause { IfErr result (CantRewind (view_of self.old) moment) }
         ensures err { OnErr result (self.new ≡ self.old) }
     {
-        let answer = journal::rewind(&mut self.tables, &mut self.undo, moment);
+        let answer = oe_journal::rewind(&mut self.tables, &mut self.undo, moment);
         self.tables.schema_holds();
         match answer {
             Ok(()) => {

@@ -1,38 +1,5 @@
-//! What a stage of a program asks for, and how a stage ends.
-ghost use Rattle.std.specs.Prelude.{◌≡◌};
-ghost use Rattle.oe_rows.specs.declared.locks.Mode.{Mode};
-
+//! How a stage of a program ends.
 use oe_requests::Refusal;
-use oe_rows::{Mode, Name};
-
-/// A lock that a stage asks for before its work.
-#[derive(Clone, Copy)]
-pub struct Lock {
-    pub name: Name,
-    pub mode: Mode,
-}
-
-impl Lock {
-    /// Makes a lock of the name alone.
-    pub fn exclusive(name: Name) -> Self
-        ensures { result ≡ record { name = name; mode = Mode.Exclusive } }
-    {
-        Lock {
-            name,
-            mode: Mode::Exclusive,
-        }
-    }
-
-    /// Makes a lock of the name beside others.
-    pub fn shared(name: Name) -> Self
-        ensures { result ≡ record { name = name; mode = Mode.Shared } }
-    {
-        Lock {
-            name,
-            mode: Mode::Shared,
-        }
-    }
-}
 
 /// How one stage of a program ends.
 #[derive(Drop)]

@@ -3,11 +3,12 @@
 //! can fail.
 ghost use Rattle.std.specs.Prelude.{◌≡◌, ◌↔◌, ℕ, IsTrue, false};
 ghost use Rattle.oe_locks.specs.Terminals.{has};
-ghost use Rattle.oe_engine.specs.Renames.{is_rename, Notes, Forgets, HasStood};
+ghost use Rattle.oe_writes.specs.Kinds.{is_rename};
+ghost use Rattle.oe_engine.specs.Renames.{Notes, Forgets, HasStood};
 
-use crate::kinds::OneWrite;
 use oe_locks::TerminalSet;
 use oe_values::{Moment, Terminal};
+use oe_writes::OneWrite;
 
 /// The terminals whose open transactions may have renamed a customer, and a moment after which no
 /// commit has.

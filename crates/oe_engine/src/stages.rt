@@ -1,5 +1,5 @@
 //! A stage of a program of any kind, carried out on an engine or refused by it.
-ghost use Rattle.std.specs.Prelude.{◌≡◌, true, suc, Some, None, IsSome, OnOk, OnErr};
+ghost use Rattle.std.specs.Prelude.{◌≡◌, true, suc, Some, None, IfErr, OnOk, OnErr};
 ghost use Rattle.oe_theory.specs.Machine.{Plain, Take};
 ghost use Rattle.oe_theory.specs.Next.{held_after};
 ghost use Rattle.oe_model.specs.Changes as model;
@@ -8,20 +8,22 @@ ghost use Rattle.oe_model.specs.System.{system};
 ghost use Rattle.oe_change.specs.Writes.{key_written};
 ghost use Rattle.oe_engine.specs.View.{view_of, IsOpen};
 ghost use Rattle.oe_engine.specs.Covered.{IsOwn, Owns};
-ghost use Rattle.oe_engine.specs.Writes.{ask_of_write, change_written, HoldsBeside, MayWrite};
-ghost use Rattle.oe_engine.specs.Stages.{is_failure, IsFailure, Does};
+ghost use Rattle.oe_engine.specs.Calls.{IsFree, locked, StageRefused};
+ghost use Rattle.oe_writes.specs.Asks.{ask_of_write};
+ghost use Rattle.oe_engine.specs.Writes.{change_written, HoldsBeside, MayWrite, Writes};
+ghost use Rattle.oe_engine.specs.Stages.{is_failure, IsFailure, FailsBeside, Does};
 
 use crate::engine::{Engine, Tx};
-use crate::kinds::OneWrite;
-use crate::programs::Lock;
 use oe_requests::Refusal;
+use oe_writes::{Lock, OneWrite};
 
 /// Gives the refusal of a stage that asks for a lock and then fails: who is in the way of the lock,
 /// or what it fails with.
 pub fn failed(engine: &Engine, tx: &Tx, lock: Lock, refusal: Refusal) -> Refusal
     requires open { IsOpen engine.now tx.now }
     requires failure { is_failure refusal ≡ true }
-    ensures { IsFailure engine.now tx.now lock refusal result }
+    ensures fails { IsFailure engine.now tx.now lock refusal result }
+    ensures cause { FailsBeside (view_of engine.now) tx.now.terminal lock refusal result }
 {
     match engine.is_free(tx, lock) {
         Ok(()) => refusal,
@@ -34,6 +36,14 @@ pub fn failed(engine: &Engine, tx: &Tx, lock: Lock, refusal: Refusal) -> Refusal
 pub fn hold(engine: &mut Engine, tx: &Tx, lock: Lock) -> Result<(), Refusal>
     ensures does { Does engine.old tx.now
         (Take lock.name (mode_of lock.mode)) None result engine.new }
+    ensures open { OnOk result (IsOpen engine.old tx.now) }
+    ensures free { OnOk result
+        (IsFree (view_of engine.old) tx.now.terminal (Take lock.name (mode_of lock.mode))) }
+    ensures locked { OnOk result
+        (view_of engine.new
+        ≡ locked tx.now.terminal lock.name (mode_of lock.mode) (view_of engine.old)) }
+    ensures cause { IfErr result
+        (StageRefused engine.old tx.now (Take lock.name (mode_of lock.mode)) None) }
     ensures name { engine.new.name ≡ engine.old.name }
     ensures err { OnErr result (view_of engine.new ≡ view_of engine.old) }
 {
@@ -50,11 +60,11 @@ pub fn put<W: OneWrite>(engine: &mut Engine, tx: &Tx, write: &W) -> Result<(), R
     requires beside { IsOpen engine.old tx.now
         → HoldsBeside (view_of engine.old).rows ((view_of engine.old).held tx.now.terminal)
         (W.write write.now) }
+    ensures writes { Writes engine.old tx.now (ask_of_write (W.write write.now))
+        (W.write write.now) result engine.new }
     ensures does { (c : model.Change)
         → change_written (W.write write.now) (view_of engine.old) ≡ Some c
         → Does engine.old tx.now (ask_of_write (W.write write.now)) (Some c) result engine.new }
-    ensures there { OnOk result
-        (IsSome (change_written (W.write write.now) (view_of engine.old))) }
     ensures name { engine.new.name ≡ engine.old.name }
     ensures err { OnErr result (view_of engine.new ≡ view_of engine.old) }
 {
@@ -73,11 +83,10 @@ pub fn put_held<W: OneWrite>(engine: &mut Engine, tx: &Tx, write: &W) -> Result<
     requires beside { IsOpen engine.old tx.now
         → HoldsBeside (view_of engine.old).rows ((view_of engine.old).held tx.now.terminal)
         (W.write write.now) }
+    ensures writes { Writes engine.old tx.now Plain (W.write write.now) result engine.new }
     ensures does { (c : model.Change)
         → change_written (W.write write.now) (view_of engine.old) ≡ Some c
         → Does engine.old tx.now Plain (Some c) result engine.new }
-    ensures there { OnOk result
-        (IsSome (change_written (W.write write.now) (view_of engine.old))) }
     ensures name { engine.new.name ≡ engine.old.name }
     ensures err { OnErr result (view_of engine.new ≡ view_of engine.old) }
 {
@@ -97,12 +106,12 @@ pub fn put_under<W: OneWrite>(
         (held_after system (Take lock.now.name (mode_of lock.now.mode))
         ((view_of engine.old).held tx.now.terminal)) tx.now.terminal
         (suc ((view_of engine.old).counts tx.now.terminal)) (W.write write.now) }
+    ensures writes { Writes engine.old tx.now (Take lock.now.name (mode_of lock.now.mode))
+        (W.write write.now) result engine.new }
     ensures does { (c : model.Change)
         → change_written (W.write write.now) (view_of engine.old) ≡ Some c
         → Does engine.old tx.now (Take lock.now.name (mode_of lock.now.mode)) (Some c)
         result engine.new }
-    ensures there { OnOk result
-        (IsSome (change_written (W.write write.now) (view_of engine.old))) }
     ensures name { engine.new.name ≡ engine.old.name }
     ensures err { OnErr result (view_of engine.new ≡ view_of engine.old) }
 {

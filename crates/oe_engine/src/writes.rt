@@ -1,108 +1,57 @@
 //! What transactions write to rows, each with its lock and its undo record.
-ghost use Rattle.std.specs.Prelude.{◌≡◌, ◌<◌, suc, true, Some, None, IsSome, IfErr, OnOk, OnErr};
-ghost use Rattle.std.specs.Option.{ForSome};
+ghost use Rattle.std.specs.Prelude.{◌≡◌, suc};
 ghost use Rattle.oe_theory.specs.Machine.{Plain, Take};
-ghost use Rattle.oe_theory.specs.Next.{IsNew, held_after};
+ghost use Rattle.oe_theory.specs.Next.{held_after};
 ghost use Rattle.oe_model.specs.Locks.{mode_of, governs};
-ghost use Rattle.oe_model.specs.Meets.{Accepts};
 ghost use Rattle.oe_model.specs.System.{system};
 ghost use Rattle.oe_change.specs.Writes.{key_written};
 ghost use Rattle.oe_engine.specs.View.{view_of, IsOpen};
 ghost use Rattle.oe_engine.specs.Covered.{IsOwn};
-ghost use Rattle.oe_engine.specs.Calls.{IsFree, IsFullFor, locked, made, ChangeRefused, PairRefused, stage_done, StageRefused};
-ghost use Rattle.oe_engine.specs.Writes.{ask_of_write, change_written, HoldsBeside, MayWrite, AbsentRefused, AbsentPairRefused, AbsentRowRefused, WantsRow};
+ghost use Rattle.oe_writes.specs.Asks.{ask_of_write};
+ghost use Rattle.oe_engine.specs.Writes.{HoldsBeside, MayWrite, Writes};
 
 use crate::engine::{Engine, Tx};
-use crate::journal;
-use crate::kinds::OneWrite;
-use crate::programs::Lock;
 use oe_log::Segment;
 use oe_requests::Refusal;
-use oe_values::Terminal;
+use oe_writes::{Lock, OneWrite};
 
 impl Engine {
     // Writes to a row, with its undo record. Memory is wanted for a place in the tables alone.
     #[inline(always)]
-    fn put<W: OneWrite>(&mut self, terminal: Terminal, write: &W) -> Result<(), Refusal>
-        requires open { (view_of self.old).is_open terminal ≡ true }
-        requires covered { MayWrite (view_of self.old).rows ((view_of self.old).held terminal)
-            terminal
-            (suc ((view_of self.old).counts terminal)) (W.write write.now) }
-        ensures there { OnOk result
-            (IsSome (change_written (W.write write.now) (view_of self.old))) }
-        ensures accepted { ForSome (change_written (W.write write.now) (view_of self.old))
-            (λ c. OnOk result (Accepts c (view_of self.old).rows)) }
-        ensures made { ForSome (change_written (W.write write.now) (view_of self.old))
-            (λ c. OnOk result (view_of self.new ≡ made terminal c (view_of self.old))) }
+    fn put<W: OneWrite>(&mut self, tx: &Tx, write: &W) -> Result<(), Refusal>
+        requires open { IsOpen self.old tx.now }
+        requires covered { MayWrite (view_of self.old).rows
+            ((view_of self.old).held tx.now.terminal) tx.now.terminal
+            (suc ((view_of self.old).counts tx.now.terminal)) (W.write write.now) }
+        ensures writes { Writes self.old tx.now Plain (W.write write.now) result self.new }
         ensures name { self.new.name ≡ self.old.name }
-        ensures cause { ForSome (change_written (W.write write.now) (view_of self.old))
-            (λ c. IfErr result (ChangeRefused c (view_of self.old).rows)) }
-        ensures absent { change_written (W.write write.now) (view_of self.old) ≡ None
-            → IfErr result (AbsentRefused (key_written (W.write write.now))) }
-        ensures full { ForSome (change_written (W.write write.now) (view_of self.old))
-            (λ c. IfErr result
-            (λ e. e ≡ Refusal.UndoFull → IsFullFor (view_of self.old) terminal c)) }
-        ensures fits { ForSome (change_written (W.write write.now) (view_of self.old))
-            (λ c. OnOk result (IsFullFor (view_of self.old) terminal c → ⊥)) }
-        ensures wants { IfErr result (λ e. e ≡ Refusal.NoMemory
-            → WantsRow (change_written (W.write write.now) (view_of self.old)) self.old.tables) }
-        ensures err { OnErr result (view_of self.new ≡ view_of self.old) }
     {
+        let terminal = tx.terminal();
         let segment = Segment::of(terminal);
         self.renames = self.renames.noted(terminal, write);
-        journal::write(&mut self.tables, &mut self.undo, segment, write)
+        oe_journal::write(&mut self.tables, &mut self.undo, segment, write)
     }
 
     // Takes a lock and writes; where the write is refused, the name is held as it was. Where the
     // name was held before, memory is wanted for a place in the tables alone.
     #[inline(always)]
-    fn take_and_put<W: OneWrite>(
-        &mut self,
-        terminal: Terminal,
-        lock: &Lock,
-        write: &W,
-    ) -> Result<(), Refusal>
-        requires open { (view_of self.old).is_open terminal ≡ true }
+    fn take_and_put<W: OneWrite>(&mut self, tx: &Tx, lock: &Lock, write: &W) -> Result<(), Refusal>
+        requires open { IsOpen self.old tx.now }
         requires covered { MayWrite (view_of self.old).rows
             (held_after system (Take lock.now.name (mode_of lock.now.mode))
-            ((view_of self.old).held terminal)) terminal
-            (suc ((view_of self.old).counts terminal)) (W.write write.now) }
-        ensures free { OnOk result
-            (IsFree (view_of self.old) terminal (Take lock.now.name (mode_of lock.now.mode))) }
-        ensures there { OnOk result
-            (IsSome (change_written (W.write write.now) (view_of self.old))) }
-        ensures accepted { ForSome (change_written (W.write write.now) (view_of self.old))
-            (λ c. OnOk result (Accepts c (view_of self.old).rows)) }
-        ensures done { ForSome (change_written (W.write write.now) (view_of self.old))
-            (λ c. OnOk result
-            (view_of self.new
-            ≡ made terminal c
-            (locked terminal lock.now.name (mode_of lock.now.mode) (view_of self.old)))) }
+            ((view_of self.old).held tx.now.terminal)) tx.now.terminal
+            (suc ((view_of self.old).counts tx.now.terminal)) (W.write write.now) }
+        ensures writes { Writes self.old tx.now (Take lock.now.name (mode_of lock.now.mode))
+            (W.write write.now) result self.new }
         ensures name { self.new.name ≡ self.old.name }
-        ensures cause { ForSome (change_written (W.write write.now) (view_of self.old))
-            (λ c. IfErr result
-            (PairRefused (view_of self.old) terminal lock.now.name (mode_of lock.now.mode) c)) }
-        ensures absent { change_written (W.write write.now) (view_of self.old) ≡ None
-            → IfErr result
-            (AbsentPairRefused (view_of self.old) terminal lock.now.name (mode_of lock.now.mode)
-            (key_written (W.write write.now))) }
-        ensures full { ForSome (change_written (W.write write.now) (view_of self.old))
-            (λ c. IfErr result
-            (λ e. e ≡ Refusal.UndoFull → IsFullFor (view_of self.old) terminal c)) }
-        ensures fits { ForSome (change_written (W.write write.now) (view_of self.old))
-            (λ c. OnOk result (IsFullFor (view_of self.old) terminal c → ⊥)) }
-        ensures wants { (IsNew system ((view_of self.old).held terminal)
-            (Take lock.now.name (mode_of lock.now.mode)) → ⊥) → IfErr result
-            (λ e. e ≡ Refusal.NoMemory
-            → WantsRow (change_written (W.write write.now) (view_of self.old)) self.old.tables) }
-        ensures err { OnErr result (view_of self.new ≡ view_of self.old) }
     {
         self.is_safe();
+        let terminal = tx.terminal();
         let before = match self.take(terminal, *lock) {
             Ok(before) => before,
             Err(refusal) => return Err(refusal),
         };
-        if let Err(refusal) = self.put(terminal, write) {
+        if let Err(refusal) = self.put(tx, write) {
             self.restore(terminal, lock.name, before);
             return Err(refusal);
         }
@@ -130,44 +79,16 @@ impl Engine {
         requires beside { IsOpen self.old tx.now
             → HoldsBeside (view_of self.old).rows ((view_of self.old).held tx.now.terminal)
             (W.write write.now) }
-        ensures open { OnOk result (IsOpen self.old tx.now) }
-        ensures free { OnOk result
-            (IsFree (view_of self.old) tx.now.terminal (ask_of_write (W.write write.now))) }
-        ensures there { OnOk result
-            (IsSome (change_written (W.write write.now) (view_of self.old))) }
-        ensures accepted { ForSome (change_written (W.write write.now) (view_of self.old))
-            (λ c. OnOk result (Accepts c (view_of self.old).rows)) }
-        ensures done { ForSome (change_written (W.write write.now) (view_of self.old))
-            (λ c. OnOk result
-            (view_of self.new
-            ≡ stage_done tx.now.terminal (ask_of_write (W.write write.now)) (Some c)
-            (view_of self.old))) }
+        ensures writes { Writes self.old tx.now (ask_of_write (W.write write.now))
+            (W.write write.now) result self.new }
         ensures name { self.new.name ≡ self.old.name }
-        ensures cause { ForSome (change_written (W.write write.now) (view_of self.old))
-            (λ c. IfErr result
-            (StageRefused self.old tx.now (ask_of_write (W.write write.now)) (Some c))) }
-        ensures absent { change_written (W.write write.now) (view_of self.old) ≡ None
-            → IfErr result
-            (AbsentRowRefused self.old tx.now (ask_of_write (W.write write.now))
-            (key_written (W.write write.now))) }
-        ensures full { ForSome (change_written (W.write write.now) (view_of self.old))
-            (λ c. IfErr result
-            (λ e. e ≡ Refusal.UndoFull → IsFullFor (view_of self.old) tx.now.terminal c)) }
-        ensures fits { ForSome (change_written (W.write write.now) (view_of self.old))
-            (λ c. OnOk result (IsFullFor (view_of self.old) tx.now.terminal c → ⊥)) }
-        ensures wants { (IsNew system ((view_of self.old).held tx.now.terminal)
-            (ask_of_write (W.write write.now)) → ⊥) → IfErr result
-            (λ e. e ≡ Refusal.NoMemory
-            → WantsRow (change_written (W.write write.now) (view_of self.old)) self.old.tables) }
-        ensures err { OnErr result (view_of self.new ≡ view_of self.old) }
     {
         if !self.is_open(tx) {
             return Err(Refusal::NotOpen);
         }
-        let terminal = tx.terminal();
         match write.lock() {
-            None => self.put(terminal, write),
-            Some(lock) => self.take_and_put(terminal, &lock, write),
+            None => self.put(tx, write),
+            Some(lock) => self.take_and_put(tx, &lock, write),
         }
     }
 
@@ -182,33 +103,13 @@ impl Engine {
             → MayWrite (view_of self.old).rows ((view_of self.old).held tx.now.terminal)
             tx.now.terminal
             (suc ((view_of self.old).counts tx.now.terminal)) (W.write write.now) }
-        ensures open { OnOk result (IsOpen self.old tx.now) }
-        ensures there { OnOk result
-            (IsSome (change_written (W.write write.now) (view_of self.old))) }
-        ensures accepted { ForSome (change_written (W.write write.now) (view_of self.old))
-            (λ c. OnOk result (Accepts c (view_of self.old).rows)) }
-        ensures done { ForSome (change_written (W.write write.now) (view_of self.old))
-            (λ c. OnOk result
-            (view_of self.new ≡ stage_done tx.now.terminal Plain (Some c) (view_of self.old))) }
+        ensures writes { Writes self.old tx.now Plain (W.write write.now) result self.new }
         ensures name { self.new.name ≡ self.old.name }
-        ensures cause { ForSome (change_written (W.write write.now) (view_of self.old))
-            (λ c. IfErr result (StageRefused self.old tx.now Plain (Some c))) }
-        ensures absent { change_written (W.write write.now) (view_of self.old) ≡ None
-            → IfErr result
-            (AbsentRowRefused self.old tx.now Plain (key_written (W.write write.now))) }
-        ensures full { ForSome (change_written (W.write write.now) (view_of self.old))
-            (λ c. IfErr result
-            (λ e. e ≡ Refusal.UndoFull → IsFullFor (view_of self.old) tx.now.terminal c)) }
-        ensures fits { ForSome (change_written (W.write write.now) (view_of self.old))
-            (λ c. OnOk result (IsFullFor (view_of self.old) tx.now.terminal c → ⊥)) }
-        ensures wants { IfErr result (λ e. e ≡ Refusal.NoMemory
-            → WantsRow (change_written (W.write write.now) (view_of self.old)) self.old.tables) }
-        ensures err { OnErr result (view_of self.new ≡ view_of self.old) }
     {
         if !self.is_open(tx) {
             return Err(Refusal::NotOpen);
         }
-        self.put(tx.terminal(), write)
+        self.put(tx, write)
     }
 
     /// Writes to one row in its place for a transaction that holds the row's name alone, with its
@@ -227,40 +128,13 @@ impl Engine {
             (held_after system (Take lock.now.name (mode_of lock.now.mode))
             ((view_of self.old).held tx.now.terminal)) tx.now.terminal
             (suc ((view_of self.old).counts tx.now.terminal)) (W.write write.now) }
-        ensures open { OnOk result (IsOpen self.old tx.now) }
-        ensures free { OnOk result
-            (IsFree (view_of self.old) tx.now.terminal
-            (Take lock.now.name (mode_of lock.now.mode))) }
-        ensures there { OnOk result
-            (IsSome (change_written (W.write write.now) (view_of self.old))) }
-        ensures accepted { ForSome (change_written (W.write write.now) (view_of self.old))
-            (λ c. OnOk result (Accepts c (view_of self.old).rows)) }
-        ensures done { ForSome (change_written (W.write write.now) (view_of self.old))
-            (λ c. OnOk result
-            (view_of self.new
-            ≡ stage_done tx.now.terminal (Take lock.now.name (mode_of lock.now.mode)) (Some c)
-            (view_of self.old))) }
+        ensures writes { Writes self.old tx.now (Take lock.now.name (mode_of lock.now.mode))
+            (W.write write.now) result self.new }
         ensures name { self.new.name ≡ self.old.name }
-        ensures cause { ForSome (change_written (W.write write.now) (view_of self.old))
-            (λ c. IfErr result (StageRefused self.old tx.now
-            (Take lock.now.name (mode_of lock.now.mode)) (Some c))) }
-        ensures absent { change_written (W.write write.now) (view_of self.old) ≡ None
-            → IfErr result (AbsentRowRefused self.old tx.now
-            (Take lock.now.name (mode_of lock.now.mode)) (key_written (W.write write.now))) }
-        ensures full { ForSome (change_written (W.write write.now) (view_of self.old))
-            (λ c. IfErr result
-            (λ e. e ≡ Refusal.UndoFull → IsFullFor (view_of self.old) tx.now.terminal c)) }
-        ensures fits { ForSome (change_written (W.write write.now) (view_of self.old))
-            (λ c. OnOk result (IsFullFor (view_of self.old) tx.now.terminal c → ⊥)) }
-        ensures wants { (IsNew system ((view_of self.old).held tx.now.terminal)
-            (Take lock.now.name (mode_of lock.now.mode)) → ⊥) → IfErr result
-            (λ e. e ≡ Refusal.NoMemory
-            → WantsRow (change_written (W.write write.now) (view_of self.old)) self.old.tables) }
-        ensures err { OnErr result (view_of self.new ≡ view_of self.old) }
     {
         if !self.is_open(tx) {
             return Err(Refusal::NotOpen);
         }
-        self.take_and_put(tx.terminal(), lock, write)
+        self.take_and_put(tx, lock, write)
     }
 }

@@ -19,14 +19,15 @@ ghost use Rattle.oe_neworder.specs.Program.{line_position};
 ghost use Rattle.oe_neworder.specs.Stages.{Advances, HoldsTaken, Fills};
 
 use crate::looks::{Supply, supply_of};
-use oe_engine::kinds::{inserts, updates};
 use oe_engine::stages::{failed, put, put_held};
-use oe_engine::{Engine, Lock, Progress, Tx};
+use oe_engine::{Engine, Progress, Tx};
 use oe_formulas::orders::{Seen, stock_key};
 use oe_requests::{LineReplies, LineReply, NewOrderRequest, Refusal, ReplyRef, RequestLine};
 use oe_rows::{Mode, Name, OrderLine};
 use oe_store::Tables;
 use oe_values::{LineNumber, OrderNumber};
+use oe_writes::Lock;
+use oe_writes::kinds::{inserts, updates};
 
 /// A line whose stock has been taken: its OL_NUMBER, its ORDER-LINE row, which is still to be
 /// inserted, and its reply.

@@ -13,12 +13,13 @@ ghost use Rattle.oe_neworder.specs.Stages.{HoldsTaken};
 
 use crate::fillings::Filling;
 use crate::stages::{insert_new_order, insert_order, read_customer, read_warehouse, take_number};
-use oe_engine::{Engine, Lock, Progress, Tx};
+use oe_engine::{Engine, Progress, Tx};
 use oe_formulas::orders::Seen;
 use oe_requests::{NewOrderRequest, Refusal, ReplyRef};
 use oe_rows::Name;
 use oe_store::Tables;
 use oe_values::{OrderNumber, Rate};
+use oe_writes::Lock;
 
 /// Where a New-Order stands: the stage that it comes to next, with what the stages before have
 /// read. Whoever carries the program out keeps its request. The program has a fixed size, and any

@@ -11,13 +11,14 @@ ghost use Rattle.oe_neworder.specs.Stages.{Steps};
 use crate::fillings::Filling;
 use crate::looks::{next_number, seen, warehouse_tax};
 use crate::programs::Program;
-use oe_engine::kinds::{inserts, updates};
 use oe_engine::stages::{failed, hold, put};
-use oe_engine::{Engine, Lock, Progress, Tx};
+use oe_engine::{Engine, Progress, Tx};
 use oe_formulas::orders::{Seen, order_row};
 use oe_requests::{LineReplies, NewOrderRequest, Refusal};
 use oe_rows::{Mode, Name};
 use oe_values::{OrderNumber, Rate};
+use oe_writes::Lock;
+use oe_writes::kinds::{inserts, updates};
 
 /// Takes the warehouse's name beside others.
 pub fn read_warehouse(

@@ -1,31 +1,24 @@
--- A stage that was done, or refused, by the engine is a step of the program.
-use Rattle.std.proofs.Common.{◌≡◌, ℕ, List, Some, refl, sym, ap, subst, ◌∙◌}
+-- A stage of a payment is a step of the program.
+use Rattle.std.proofs.Common.{◌≡◌, ℕ, List, refl, sym, ap, subst, ◌∙◌}
 use Rattle.std.specs.Prelude.{IsSome}
 use Rattle.oe_requests.specs.declared.replies.Reply.{Reply}
 use Rattle.oe_requests.specs.declared.replies.Reply.TheVariants as reply
-use Rattle.oe_requests.specs.declared.refusals.Refusal.{Refusal}
-use Rattle.oe_model.specs.Changes.{Change}
 use Rattle.oe_requests.specs.declared.requests.CustomerChoice.{CustomerChoice}
 use Rattle.oe_requests.specs.declared.requests.CustomerChoice.TheVariants.{Number, LastName}
 use Rattle.oe_requests.specs.declared.requests.PaymentRequest.{PaymentRequest}
 use Rattle.oe_requests.specs.declared.requests.Request.TheVariants as request
-use Rattle.oe_model.specs.Meets.{Accepts}
 use Rattle.oe_model.specs.Payment.{behind_district}
 use Rattle.oe_model.specs.Positions.{PaymentPosition, PaymentWarehouse, PaymentDistrict, PaymentNames}
 use Rattle.oe_model.specs.Positions.{PaymentCustomer, PaymentHistory, PaymentEnd, InPayment}
-use Rattle.oe_change.specs.declared.writes.Write.{Write}
-use Rattle.oe_engine.specs.View.{EngineState, view_of, Handle, IsOpen}
-use Rattle.oe_engine.specs.Calls.{IsFree, IsFullFor, stage_done, StageRefused}
-use Rattle.oe_engine.specs.Writes.{ask_of_write}
+use Rattle.oe_engine.specs.View.{EngineState, Handle, IsOpen}
 use Rattle.oe_engine.specs.Programs.{GoesOn, IsReady, payment_reply, IsRefused, Progresses}
-use Rattle.oe_engine.proofs.StageFacts as stages
 use Rattle.oe_engine.specs.declared.programs.Progress.{Progress}
 use Rattle.oe_engine.specs.declared.programs.Progress.TheVariants as progress
 use Rattle.oe_payment.specs.declared.positions.Position.{Position}
 use Rattle.oe_payment.specs.declared.positions.Stage.{Stage}
 use Rattle.oe_payment.specs.declared.positions.Stage.TheVariants as stage
 use Rattle.oe_payment.specs.Program.{position_at, position_in, stage_behind, number_given}
-use Rattle.oe_payment.specs.Stages.{IsStage, Does, stage_after}
+use Rattle.oe_payment.specs.Stages.{Does, stage_after}
 
 -- a payment at its end is ready
 pub is_ready : (s : EngineState) (x : Handle) (q : PaymentRequest) (p : PaymentPosition) → IsOpen s x
@@ -37,25 +30,6 @@ is_ready s x q (PaymentDistrict w) o h = let no : ⊥ = cc in absurd no
 is_ready s x q (PaymentNames w d) o h = let no : ⊥ = cc in absurd no
 is_ready s x q (PaymentCustomer w d c) o h = let no : ⊥ = cc in absurd no
 is_ready s x q (PaymentHistory d y) o h = let no : ⊥ = cc in absurd no
-
--- a stage that was done, and one that was refused
-pub goes_on : (s s' : EngineState) (x : Handle) (q : PaymentRequest) (p p' : PaymentPosition) (w : Write) (c : Change)
-    → IsStage q x s p w c p'
-    → IsOpen s x → IsFree (view_of s) x.terminal (ask_of_write w) → Accepts c (view_of s).rows
-    → (IsFullFor (view_of s) x.terminal c → ⊥)
-    → view_of s' ≡ stage_done x.terminal (ask_of_write w) (Some c) (view_of s) → s'.name ≡ s.name
-    → GoesOn s x (request.Payment q) (InPayment q p) s' (InPayment q p')
-goes_on s s' x q p p' w c d o free accepted room done same =
-    stages.goes_on s s' x (ask_of_write w) (Some c) o free accepted room done same (request.Payment q) (InPayment q p)
-    (InPayment q p') d.asks d.does
-
-pub is_refused : (s : EngineState) (x : Handle) (q : PaymentRequest) (p p' : PaymentPosition) (w : Write) (c : Change)
-    → IsStage q x s p w c p'
-    → (e : Refusal) → stages.IsRoom s x c (ask_of_write w) e → StageRefused s x (ask_of_write w) (Some c) e
-    → IsRefused s x (request.Payment q) (InPayment q p) e
-is_refused s x q p p' w c d e room h =
-    stages.refused_change s x (ask_of_write w) c e room h (request.Payment q) (InPayment q p) (InPayment q p') d.asks
-    d.does
 
 -- a stage of a payment whose names and reply may have been written: they count once it is done
 pub carried : (q : PaymentRequest) (x : Handle) (s s' : EngineState) (p p' : PaymentPosition) (old : Position)

@@ -12,7 +12,8 @@ use Rattle.oe_model.specs.Changes.{Change}
 use Rattle.oe_model.specs.Positions.{PaymentPosition, InPayment}
 use Rattle.oe_change.specs.declared.writes.Write.{Write}
 use Rattle.oe_engine.specs.View.{EngineState, view_of, Handle}
-use Rattle.oe_engine.specs.Writes.{ask_of_write, change_written}
+use Rattle.oe_writes.specs.Asks.{ask_of_write}
+use Rattle.oe_engine.specs.Writes.{change_written}
 use Rattle.oe_engine.specs.Programs.{ask_here, act_here, GoesOn, IsRefused}
 use Rattle.oe_engine.specs.declared.programs.Progress.{Progress}
 use Rattle.oe_engine.specs.declared.programs.Progress.TheVariants as progress

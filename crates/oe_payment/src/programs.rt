@@ -11,11 +11,12 @@ ghost use Rattle.oe_engine.specs.Programs.{Progresses, hold_of, payment_reply, w
 
 use crate::positions::{Position, Stage};
 use crate::stages::carry_out;
-use oe_engine::{Engine, Lock, Progress, Tx};
+use oe_engine::{Engine, Progress, Tx};
 use oe_requests::{CustomerChoice, PaymentReply, PaymentRequest, Refusal};
 use oe_rows::Name;
 use oe_store::Tables;
 use oe_values::{CustomerNumber, ShortText};
+use oe_writes::Lock;
 use std::marker::Model;
 
 /// Where a payment stands: the stage that it comes to next, with what the stages before have read.

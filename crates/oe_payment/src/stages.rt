@@ -22,10 +22,8 @@ ghost use Rattle.oe_payment.specs.Program.{position_in, stage_behind, number_giv
 ghost use Rattle.oe_payment.specs.Stages.{is_failure, failed_by, FailsAt, Does, stage_after, IsStage};
 
 use crate::positions::{Position, Stage};
-use oe_engine::kinds::inserts::InsertHistory;
-use oe_engine::kinds::updates::{BadCredit, CustomerAccount, DistrictYtd, WarehouseYtd};
 use oe_engine::stages::{failed, hold};
-use oe_engine::{Engine, Lock, OneWrite, Progress, Tx};
+use oe_engine::{Engine, Progress, Tx};
 use oe_formulas::payments::{
     account_after, bad_credit_entry, district_ytd_after, history_data, history_key, history_row,
     warehouse_ytd_after,
@@ -33,6 +31,9 @@ use oe_formulas::payments::{
 use oe_requests::{Column, CustomerChoice, PaymentReply, PaymentRequest, Refusal};
 use oe_rows::{Account, Credit, Customer, CustomerKey, DistrictKey, Key, Mode, Name, WarehouseKey};
 use oe_values::{CustomerNumber, ShortText, Text};
+use oe_writes::kinds::inserts::InsertHistory;
+use oe_writes::kinds::updates::{BadCredit, CustomerAccount, DistrictYtd, WarehouseYtd};
+use oe_writes::{Lock, OneWrite};
 
 // Why a stage fails: for its own reason, or since another holds the name that it asks for.
 #[inline(never)]

@@ -12,11 +12,12 @@ ghost use Rattle.oe_engine.specs.Programs.{Progresses, hold_of, renamed_reply, w
 ghost use Rattle.oe_rename.specs.Program.{position_of, HasEnded, HoldsTaken, Recalls, Steps};
 
 use crate::stages::{set_names, take_customer, take_old_name};
-use oe_engine::{Engine, Lock, Progress, Tx};
+use oe_engine::{Engine, Progress, Tx};
 use oe_requests::{Refusal, RenameRequest, ReplyRef};
 use oe_rows::Name;
 use oe_store::Tables;
 use oe_values::ShortText;
+use oe_writes::Lock;
 
 /// Where a rename stands: the stage that it comes to next, with the C_LAST that the customer had.
 /// Whoever carries the program out keeps its request. The program has a fixed size, and any value

@@ -4,5 +4,5 @@ mod WaitFacts
 mod SetFacts
 mod ReachFacts
 mod TextFacts
-mod OrderFacts
-mod HeldFacts
+pub mod OrderFacts
+pub mod HeldFacts

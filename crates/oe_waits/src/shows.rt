@@ -16,12 +16,12 @@ use crate::reaching::{Way, is_in_both, reached};
 use crate::waiting::{terminal_after, waits, waits_for};
 use itoa::Buffer;
 use oe_core::Core;
-use oe_engine::Lock;
 use oe_io::output::make_room;
 use oe_io::ports::{Failed, Outlet};
 use oe_rows::Mode;
 use oe_texts::{LONGEST, Pending, SIZE, name, small, text};
 use oe_values::{TERMINALS, Terminal};
+use oe_writes::Lock;
 
 /// Appends `S` or `X`.
 pub(crate) fn mode(out: &mut Pending, mode: Mode)

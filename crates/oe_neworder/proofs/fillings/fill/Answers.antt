@@ -23,7 +23,7 @@ returns-in-Fails c = (
   λ y before done ls count.
       let here = (subst (λ r. IsSupply c.args.request.now r c.args.line.now c.args.number
       (supply.Fails c.in-Fails.key c.in-Fails.refusal)) c.tables.ensures c.in-Fails.ensures).1 y before done ls in
-      c.failed.ensures (request.NewOrder c.args.request.now)
+      c.failed.ensures.fails (request.NewOrder c.args.request.now)
       (InNewOrder c.args.request.now (NewOrderStock y before done (c.args.line.now ∷ ls))) here.0 here.1,
   refl,
   refl,

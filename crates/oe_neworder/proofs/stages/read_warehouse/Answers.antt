@@ -8,7 +8,7 @@ use Rattle.oe_neworder.proofs.stages.read_warehouse.Goals as goal
 
 pub returns-in-Err : goal.returns-in-Err
 returns-in-Err c = (
-  c.failed.ensures (request.NewOrder c.args.request.now) (InNewOrder c.args.request.now NewOrderWarehouse)
+  c.failed.ensures.fails (request.NewOrder c.args.request.now) (InNewOrder c.args.request.now NewOrderWarehouse)
       (ap (λ k. Take (name.Warehouse k) Shared) (sym c.warehouse_key.ensures))
       (subst (λ r. ReadsTax c.args.request.now r (Err c.in-Err.refusal)) c.tables.ensures c.in-Err.ensures).1,
   refl,

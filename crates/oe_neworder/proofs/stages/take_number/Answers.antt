@@ -6,7 +6,8 @@ use Rattle.oe_neworder.proofs.stages.take_number.Goals as goal
 
 pub returns-in-Err : goal.returns-in-Err
 returns-in-Err c = (
-  c.failed.ensures (request.NewOrder c.args.request.now) (InNewOrder c.args.request.now (NewOrderDistrict c.args.tax))
+  c.failed.ensures.fails (request.NewOrder c.args.request.now)
+      (InNewOrder c.args.request.now (NewOrderDistrict c.args.tax))
       refl
       ((subst (λ r. TakesNumber c.args.request.now r (Err c.in-Err.refusal)) c.tables.ensures c.in-Err.ensures).1
       c.args.tax),
@@ -30,7 +31,8 @@ returns-in-Err-put c =
     c.args.tax in (
       c.in-Err-put.ensures.does taken.0 taken.1 (request.NewOrder c.args.request.now)
           (InNewOrder c.args.request.now (NewOrderDistrict c.args.tax))
-          (InNewOrder c.args.request.now (NewOrderCustomer c.in-Ok.numbered.order c.args.tax c.in-Ok.numbered.tax)) refl
+          (InNewOrder c.args.request.now
+          (NewOrderCustomer c.in-Ok.numbered.order c.args.tax c.in-Ok.numbered.tax)) refl
           taken.2,
       c.in-Err-put.ensures.err,
       c.in-Err-put.ensures.name,

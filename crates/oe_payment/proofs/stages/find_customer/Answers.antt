@@ -20,7 +20,7 @@ returns-in_default-clause-does c = λ w d.
     let x = c.args.tx.now in
     let s = c.args.engine.now in
     let last = c.in-LastName.last in (
-      c.failed.ensures (request.Payment q) (InPayment q (PaymentNames w d))
+      c.failed.ensures.fails (request.Payment q) (InPayment q (PaymentNames w d))
           (rw (c.shared-lock.ensures, c.of.ensures, c.as_text-last.ensures)
           (names_asks q x s w d last c.in-LastName.is))
           (names_find q x s w d last c.in-LastName.is None

@@ -12,7 +12,7 @@ use Rattle.oe_engine.proofs.KeptFacts.{opened_kept}
 use Rattle.oe_engine.proofs.SafeFacts.{safe_begun}
 use Rattle.oe_engine.proofs.LogFacts.{opened_is, is_none}
 use Rattle.oe_engine.proofs.PartFacts.{idle_is, not_so}
-use Rattle.oe_engine.specs.Linked.{AreLinked}
+use Rattle.oe_journal.specs.Linked.{AreLinked}
 use Rattle.oe_engine.specs.Renames.{AreNamed}
 use Rattle.oe_engine.proofs.RenameFacts.{named_begun}
 use Rattle.oe_engine.proofs.engine.Engine.begin.Goals as goal

@@ -4,7 +4,7 @@ use Rattle.oe_model.specs.System.{terminal_limit}
 use Rattle.oe_log.specs.Log.{active_at}
 use Rattle.oe_log.proofs.StandsFacts.{totals}
 use Rattle.oe_locks.specs.Held.{HoldsNothing, OthersKeep}
-use Rattle.oe_engine.specs.Linked.{AreLinked}
+use Rattle.oe_journal.specs.Linked.{AreLinked}
 use Rattle.oe_engine.specs.View.{view_of, view_from, IsOpen}
 use Rattle.oe_engine.specs.Kept.{IsKept}
 use Rattle.oe_engine.specs.Calls.{committed}

@@ -1,6 +1,6 @@
 use Rattle.oe_engine.specs.View.{view_of, view_from}
 use Rattle.oe_log.specs.Stands.{undo_of}
-use Rattle.oe_engine.proofs.ExactFacts.{exact_is}
+use Rattle.oe_journal.proofs.ExactFacts.{exact_is}
 use Rattle.oe_engine.proofs.SafeFacts.{all_unwind}
 use Rattle.oe_engine.proofs.engine.Engine.is_safe.Goals as goal
 

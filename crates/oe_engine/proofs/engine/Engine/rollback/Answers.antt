@@ -9,7 +9,7 @@ use Rattle.oe_engine.specs.Calls.{rolled_back}
 use Rattle.oe_engine.specs.Covered.{IsSafe}
 use Rattle.oe_engine.proofs.SafeFacts.{safe_rolled_back, newest_unwind}
 use Rattle.oe_engine.proofs.EndFacts.{counted, taken_kept, dropped_kept, none_is_left, rolled_back_is}
-use Rattle.oe_engine.specs.Linked.{AreLinked}
+use Rattle.oe_journal.specs.Linked.{AreLinked}
 use Rattle.oe_engine.proofs.RenameFacts.{rollback_named}
 use Rattle.oe_engine.proofs.engine.Engine.rollback.Goals as goal
 

@@ -1,9 +1,0 @@
-use Rattle.oe_change.specs.declared.writes.Write.TheVariants as writes
-use Rattle.oe_engine.proofs.UnplacedFacts.{write_unplaced}
-use Rattle.oe_engine.proofs.kinds.updates.DeliveryDateOneWrite.unplaced.Goals as goal
-
-pub returns : goal.returns
-returns c =
-    write_unplaced (writes.DeliveryDate c.args.self.now.line c.args.self.now.stamp) c.args._tables.now (λ k x e.
-    cc) (λ k e. cc) (λ k x e. cc) (λ k x e. cc)
-    c.requires.there c.requires.unplaced

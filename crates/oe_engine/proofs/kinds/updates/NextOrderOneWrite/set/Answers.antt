@@ -1,7 +1,0 @@
-use Rattle.oe_engine.proofs.SetFacts.{district_made}
-use Rattle.oe_engine.proofs.kinds.updates.NextOrderOneWrite.set.Goals as goal
-
-pub returns-clause-made : goal.returns-clause-made
-returns-clause-made c =
-    district_made c.args.tables.now c.set_next_order.new.self c.set_next_order.ensures.places c.args.self.now.district
-    (λ x. record x { next_order = c.args.self.now.order }) c.requires c.set_next_order.ensures.rows

@@ -1,8 +1,0 @@
-use Rattle.std.proofs.Common.{refl, Some}
-use Rattle.oe_engine.proofs.SetFacts.{order_made}
-use Rattle.oe_engine.proofs.kinds.updates.OrderCarrierOneWrite.set.Goals as goal
-
-pub returns-clause-made : goal.returns-clause-made
-returns-clause-made c =
-    order_made c.args.tables.now c.set_carrier.new.self c.set_carrier.ensures.places c.args.self.now.order
-    (λ x. record x { carrier = Some c.args.self.now.carrier }) (λ x. refl) c.requires c.set_carrier.ensures.rows

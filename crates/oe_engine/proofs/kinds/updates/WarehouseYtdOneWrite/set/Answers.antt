@@ -1,8 +1,0 @@
-use Rattle.oe_engine.proofs.SetFacts.{warehouse_made}
-use Rattle.oe_engine.proofs.kinds.updates.WarehouseYtdOneWrite.set.Goals as goal
-
-pub returns-clause-made : goal.returns-clause-made
-returns-clause-made c =
-    warehouse_made c.args.tables.now c.set_warehouse_ytd.new.self c.set_warehouse_ytd.ensures.places
-    c.args.self.now.warehouse
-    (λ x. record x { ytd = c.args.self.now.ytd }) c.requires c.set_warehouse_ytd.ensures.rows

@@ -1,0 +1,4 @@
+mod SetFacts
+mod UnplacedFacts
+pub mod RecordFacts
+pub mod OfLayoutFacts

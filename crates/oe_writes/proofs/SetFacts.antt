@@ -1,0 +1,127 @@
+-- A row of which columns were set in its place.
+use Rattle.std.proofs.Common.{◌≡◌, refl, sym, ap, subst, inl, inr, Option, None, Some}
+use Rattle.std.specs.Prelude.{IsSome, is_some, option_map}
+use Rattle.std.specs.Option.{IsSomeAnd}
+use Rattle.std.specs.FinMap.{get}
+use Rattle.oe_rows.specs.declared.keys.WarehouseKey.{WarehouseKey}
+use Rattle.oe_rows.specs.declared.keys.DistrictKey.{DistrictKey}
+use Rattle.oe_rows.specs.declared.keys.CustomerKey.{CustomerKey}
+use Rattle.oe_rows.specs.declared.keys.OrderKey.{OrderKey}
+use Rattle.oe_rows.specs.declared.keys.OrderLineKey.{OrderLineKey}
+use Rattle.oe_rows.specs.declared.keys.StockKey.{StockKey}
+use Rattle.oe_rows.specs.declared.keys.Key.{Key}
+use Rattle.oe_rows.specs.declared.warehouses.Warehouse.{Warehouse}
+use Rattle.oe_rows.specs.declared.districts.District.{District}
+use Rattle.oe_rows.specs.declared.customers.Customer.{Customer}
+use Rattle.oe_rows.specs.declared.orders.Order.{Order}
+use Rattle.oe_rows.specs.declared.orders.OrderLine.{OrderLine}
+use Rattle.oe_rows.specs.declared.items.Stock.{Stock}
+use Rattle.oe_rows.proofs.KeyFacts.{warehouse_total, exact_warehouse, district_total, exact_district, customer_total}
+use Rattle.oe_rows.proofs.KeyFacts.{exact_customer, order_total, exact_order, order_line_total, exact_order_line}
+use Rattle.oe_rows.proofs.KeyFacts.{stock_total, exact_stock}
+use Rattle.oe_model.specs.Keys.{supply_of_line}
+use Rattle.oe_model.specs.Meets.{Accepts, Meets}
+use Rattle.oe_model.specs.Changes.{Change, changed, key_of, UpdateWarehouse, UpdateDistrict, UpdateCustomer}
+use Rattle.oe_model.specs.Changes.{UpdateOrder, UpdateOrderLine, UpdateStock}
+use Rattle.oe_store.specs.Places.{Places, rows, HasPlace, SamePlaces, AddsPlace}
+use Rattle.oe_store.proofs.PlaceFacts.{place_of_row}
+use Rattle.oe_writes.specs.Made.{IsApplied}
+
+-- a row is there where a change of it is
+pub row_there : {A B : Type 0} (f : A → B) (o : Option A) → IsSome (option_map f o) → IsSome o
+row_there f None h = h
+row_there f (Some x) h = refl
+
+-- a change of a row that is there gives no key a new place
+adds_own : (old new : Places) (k : Key) → SamePlaces old new → HasPlace old k → AddsPlace old new k
+adds_own old new k same had q = (
+  λ h. inl ((same q).0 h),
+  λ h. elim h
+      [ inl g ↦ (same q).1 g | inr e ↦ (same q).1 (subst (λ (j : Key). HasPlace old j) (sym e) had) ],
+)
+
+-- a row that is there is changed to what is made of it
+module _ (old new : Places) (same : SamePlaces old new) where
+  made : {A : Type 0} (f : A → Change) (o : Option A) → IsSome (option_map f o)
+      → ((x : A) → o ≡ Some x → Accepts (f x) (rows old) × (rows new ≡ changed (f x) (rows old))
+      × HasPlace old (key_of (f x)))
+      → IsSomeAnd (option_map f o) (λ c. IsApplied c old new)
+  made f None some h = absurd (no some)
+    where
+      no : IsSome (option_map f None) → ⊥
+      no e = cc
+  made f (Some x) some h =
+      let y = h x refl in
+      λ l. record {
+        accepted = y.0;
+        changes = y.1;
+        before = refl;
+        places = adds_own old new (key_of (f x)) same y.2;
+      }
+
+  pub warehouse_made : (k : WarehouseKey) (f : Warehouse → Warehouse)
+      → IsSome (option_map (λ x. UpdateWarehouse k (f x)) (get (rows old).warehouses k))
+      → ((x : Warehouse) → get (rows old).warehouses k ≡ Some x
+      → rows new ≡ changed (UpdateWarehouse k (f x)) (rows old))
+      → IsSomeAnd (option_map (λ x. UpdateWarehouse k (f x)) (get (rows old).warehouses k))
+      (λ c. IsApplied c old new)
+  warehouse_made k f some set =
+      made (λ x. UpdateWarehouse k (f x)) (get (rows old).warehouses k) some
+      (λ x is. (ap is_some is, set x is, place_of_row warehouse_total exact_warehouse old.warehouses k (ap is_some is)))
+
+  pub district_made : (k : DistrictKey) (f : District → District)
+      → IsSome (option_map (λ x. UpdateDistrict k (f x)) (get (rows old).districts k))
+      → ((x : District) → get (rows old).districts k ≡ Some x → rows new ≡ changed (UpdateDistrict k (f x)) (rows old))
+      → IsSomeAnd (option_map (λ x. UpdateDistrict k (f x)) (get (rows old).districts k))
+      (λ c. IsApplied c old new)
+  district_made k f some set =
+      made (λ x. UpdateDistrict k (f x)) (get (rows old).districts k) some
+      (λ x is. (ap is_some is, set x is, place_of_row district_total exact_district old.districts k (ap is_some is)))
+
+  pub customer_made : (k : CustomerKey) (f : Customer → Customer)
+      → IsSome (option_map (λ x. UpdateCustomer k (f x)) (get (rows old).customers k))
+      → ((x : Customer) → get (rows old).customers k ≡ Some x → rows new ≡ changed (UpdateCustomer k (f x)) (rows old))
+      → IsSomeAnd (option_map (λ x. UpdateCustomer k (f x)) (get (rows old).customers k))
+      (λ c. IsApplied c old new)
+  customer_made k f some set =
+      made (λ x. UpdateCustomer k (f x)) (get (rows old).customers k) some
+      (λ x is. (ap is_some is, set x is, place_of_row customer_total exact_customer old.customers k (ap is_some is)))
+
+  -- its customer stays
+  pub order_made : (k : OrderKey) (f : Order → Order) → ((x : Order) → (f x).customer ≡ x.customer)
+      → IsSome (option_map (λ x. UpdateOrder k (f x)) (get (rows old).orders k))
+      → ((x : Order) → get (rows old).orders k ≡ Some x → rows new ≡ changed (UpdateOrder k (f x)) (rows old))
+      → IsSomeAnd (option_map (λ x. UpdateOrder k (f x)) (get (rows old).orders k))
+      (λ c. IsApplied c old new)
+  order_made k f customer some set =
+      made (λ x. UpdateOrder k (f x)) (get (rows old).orders k) some
+      (λ x is. ((x, is, customer x), set x is, place_of_row order_total exact_order old.orders k (ap is_some is)))
+
+  -- its stock stays
+  pub order_line_made : (k : OrderLineKey) (f : OrderLine → OrderLine)
+      → ((x : OrderLine) → supply_of_line (f x) ≡ supply_of_line x) → Meets (rows old)
+      → IsSome (option_map (λ x. UpdateOrderLine k (f x)) (get (rows old).order_lines k))
+      → ((x : OrderLine) → get (rows old).order_lines k ≡ Some x
+      → rows new ≡ changed (UpdateOrderLine k (f x)) (rows old))
+      → IsSomeAnd (option_map (λ x. UpdateOrderLine k (f x)) (get (rows old).order_lines k))
+      (λ c. IsApplied c old new)
+  order_line_made k f supply schema some set =
+      made (λ x. UpdateOrderLine k (f x)) (get (rows old).order_lines k) some
+      (λ x is. (
+        (
+          ap is_some is,
+          subst (λ (j : StockKey). IsSome (get (rows old).stocks j)) (sym (supply x))
+              (schema.order_lines k x is).1,
+        ),
+        set x is,
+        place_of_row order_line_total exact_order_line old.order_lines k (ap is_some is),
+      ))
+
+  pub stock_made : (k : StockKey) (f : Stock → Stock)
+      → IsSome (option_map (λ x. UpdateStock k (f x)) (get (rows old).stocks k))
+      → ((x : Stock) → get (rows old).stocks k ≡ Some x → rows new ≡ changed (UpdateStock k (f x)) (rows old))
+      → IsSomeAnd (option_map (λ x. UpdateStock k (f x)) (get (rows old).stocks k))
+      (λ c. IsApplied c old new)
+  stock_made k f some set =
+      made (λ x. UpdateStock k (f x)) (get (rows old).stocks k) some
+      (λ x is. (ap is_some is, set x is, place_of_row stock_total exact_stock old.stocks k (ap is_some is)))
