@@ -1,47 +1,19 @@
 -- The first names of a list, and of all that were counted.
-use Rattle.std.proofs.Common.{◌≡◌, ℕ, zero, suc, ◌+◌, ◌-◌, ◌≤◌, ◌<◌, Bool, true, false, cond, List, [], ◌∷◌, ◌++◌}
+use Rattle.std.proofs.Common.{◌≡◌, ℕ, suc, ◌+◌, ◌-◌, ◌≤◌, ◌<◌, Bool, true, false, cond, List, [], ◌∷◌, ◌++◌}
 use Rattle.std.proofs.Common.{length, take, get_or, Option, None, Some, refl, sym, ap, ◌∙◌, subst, inl, inr, arith}
 use Rattle.std.proofs.Common.{append_assoc}
-use Rattle.std.specs.Prelude.{◌⊎◌, ◌||◌}
+use Rattle.std.specs.Prelude.{◌⊎◌}
 use Rattle.std.specs.Option.{MatchOption}
 use Rattle.std.specs.List.{flat_map}
-use Rattle.std.proofs.lemmas.Bool.{cases_Bool, or_cases, true≢false}
+use Rattle.std.proofs.lemmas.Bool.{cases_Bool, true≢false}
 use Rattle.std.proofs.lemmas.List.{append-nil, flat_map_more, take_more, take_all}
 use Rattle.oe_rows.specs.declared.locks.Name.{Name}
 use Rattle.oe_locks.specs.Listed.{stands}
-use Rattle.oe_locks.specs.Held.{is_name}
-use Rattle.oe_locks.proofs.NameFacts.{name_true, name_refl}
+use Rattle.oe_waits.proofs.HeldFacts.{stands_one_more}
 use Rattle.oe_busy.specs.Firsts.{is_left, name_line, precedes, sooner, AreMostBusy, IsFirst}
 use Rattle.oe_busy.proofs.OrderFacts.{not_back, not_before, not_itself}
 
 -- THE FIRST OF A LIST
-
-by_rest : (a b : Bool) → b ≡ true → (a || b) ≡ true
-by_rest true b e = refl
-by_rest false b e = e
-
--- what lies at a place of a list stands on it
-stands_at : (xs : List Name) (i : ℕ) (x : Name) → x ≡ get_or xs i x → i < length xs → stands xs x ≡ true
-stands_at [] i x is within = absurd (omega (arith, within))
-stands_at (y ∷ ys) zero x is within = ap (λ b. b || stands ys x) (ap (is_name x) (sym is) ∙ name_refl x)
-stands_at (y ∷ ys) (suc i) x is within =
-    by_rest (is_name x y) (stands ys x) (stands_at ys i x is (omega (arith, within)))
-
-stands_one_more : (xs : List Name) (x q : Name) → stands (xs ++ x ∷ []) q ≡ true → (stands xs q ≡ true) ⊎ (q ≡ x)
-stands_one_more [] x q e = elim (or_cases (is_name q x) false e) [
-  | inl h ↦ inr (name_true q x h)
-  | inr h ↦ absurd (true≢false (sym h))
-]
-stands_one_more (y ∷ ys) x q e = go (or_cases (is_name q y) (stands (ys ++ x ∷ []) q) e) (λ h. stands_one_more ys x q h)
-  where
-    go : (is_name q y ≡ true) ⊎ (stands (ys ++ x ∷ []) q ≡ true)
-        → (stands (ys ++ x ∷ []) q ≡ true → (stands ys q ≡ true) ⊎ (q ≡ x))
-        → (stands (y ∷ ys) q ≡ true) ⊎ (q ≡ x)
-    go (inl h) k = inl (ap (λ b. b || stands ys q) h)
-    go (inr h) k = elim (k h) [
-      | inl l ↦ inl (by_rest (is_name q y) (stands ys q) l)
-      | inr r ↦ inr r
-    ]
 
 -- the first name of a list that counts, or that none does
 abbrev pub IsBest : (Name → ℕ) → (Name → Bool) → List Name → Option Name → Type 0

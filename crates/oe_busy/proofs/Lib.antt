@@ -1,4 +1,5 @@
 pub mod CountFacts
+pub mod BehindFacts
 pub mod MetFacts
 pub mod OrderFacts
 pub mod FirstFacts

@@ -1,33 +1,26 @@
 -- One happening more, and the table.
-use Rattle.std.proofs.Common.{◌≡◌, ℕ, List, [], ◌∷◌, ◌++◌, append_assoc, refl, sym, ap, subst, ◌∙◌}
+use Rattle.std.proofs.Common.{◌≡◌, ℕ, List, ◌∷◌, ◌++◌, append_assoc, refl, ap, subst, ◌∙◌}
 use Rattle.std.specs.Prelude.{None}
 use Rattle.std.specs.List.{flat_map}
-use Rattle.oe_rows.specs.declared.locks.Name.{Name}
 use Rattle.oe_busy.specs.declared.happenings.Happening.{Happening}
 use Rattle.oe_busy.specs.declared.tables.Busyness.{Busyness}
-use Rattle.oe_busy.specs.declared.waits.Waits.{Waits}
-use Rattle.oe_busy.specs.Happenings.{busy_count, cell, count_in, counted, counts, counts_in, longest, met_more, named}
+use Rattle.oe_busy.specs.Happenings.{busy_count, count_in, counted, counts, longest, met_more, named}
 use Rattle.oe_busy.specs.Happenings.{AreWaits}
 use Rattle.oe_busy.specs.Firsts.{name_line, AreMostBusy}
 use Rattle.oe_busy.specs.Tables.{kind_lines, wait_line, AreCounted, IsTable}
 use Rattle.oe_busy.proofs.FirstFacts.{AreShown}
 
--- three texts behind another
-pub three : (old a b c x y z : List ℕ) → x ≡ old ++ a → y ≡ x ++ b → z ≡ y ++ c → z ≡ old ++ (a ++ b ++ c)
-three old a b c x y z e f g =
-    g ∙ (ap (λ u. u ++ c) (f ∙ (ap (λ u. u ++ b) e ∙ append_assoc old a b)) ∙ append_assoc old (a ++ b) c)
-
 pub counted_more : (b b' : Busyness) (x : Happening) (hs : List Happening) → AreCounted b hs
-    → counts_in b'.counts ≡ counted (cell x) (counts_in b.counts) → AreWaits b'.waits (x ∷ hs)
+    → b'.counts ≡ counted x b.counts → AreWaits b'.waits (x ∷ hs)
     → count_in b'.names ≡ met_more (named x) (count_in b.names) → AreCounted b' (x ∷ hs)
 counted_more b b' x hs h counts_are waits_are names_are = record {
-  counts_are = counts_are ∙ ap (counted (cell x)) h.counts_are;
+  counts_are = counts_are ∙ ap (counted x) h.counts_are;
   names_are = names_are ∙ ap (met_more (named x)) h.names_are;
   waits_are = waits_are;
 }
 
 pub tabled : (b : Busyness) (hs : List Happening) (old kinds names new : List ℕ) → AreCounted b hs
-    → kinds ≡ old ++ kind_lines (counts_in b.counts) → AreShown (count_in b.names) 10 kinds names
+    → kinds ≡ old ++ kind_lines b.counts → AreShown (count_in b.names) 10 kinds names
     → new ≡ names ++ wait_line b.waits.longest
     → (text : List ℕ) × IsTable hs text × (new ≡ old ++ text)
 tabled b hs old kinds names new h kinds_are (ns, first, names_are) new_is = (

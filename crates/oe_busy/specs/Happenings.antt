@@ -1,53 +1,86 @@
 -- What is counted of the happenings at a load's lines, which stand in lists with the newest first.
-use Rattle.std.specs.Prelude.{◌≡◌, ℕ, suc, ◌+◌, ◌-◌, ◌*◌, ◌==◌, nat_lt, if◌then◌else◌, Option, None, Some, List, []}
+use Rattle.std.specs.Prelude.{◌≡◌, ℕ, suc, ◌-◌, ◌==◌, nat_lt, if◌then◌else◌, Option, None, Some, List, []}
 use Rattle.std.specs.Prelude.{◌∷◌, length, get_or, unwrap_or}
 use Rattle.std.specs.Map.{lookup}
-use Rattle.oe_theory.specs.World.{bump, set}
+use Rattle.oe_theory.specs.World.{set}
 use Rattle.oe_rows.specs.declared.locks.Name.{Name}
 use Rattle.oe_rows.specs.declared.locks.Name.TheVariants as name
-use Rattle.oe_rows.specs.declared.locks.Mode.{Mode}
 use Rattle.oe_rows.specs.declared.locks.Mode.TheVariants as mode
 use Rattle.oe_rows.specs.contracts.locks.NamePartialEq.TheImpl.{ghosts}
+use Rattle.oe_busy.specs.declared.counts.Counts.{Counts}
+use Rattle.oe_busy.specs.declared.counts.KindCounts.{KindCounts}
 use Rattle.oe_busy.specs.declared.happenings.Happening.{Happening}
 use Rattle.oe_busy.specs.declared.happenings.Happening.TheVariants as happening
 use Rattle.oe_busy.specs.declared.waits.Waits.{Waits}
 
 -- BY KIND
 
--- the kinds of names, in the order of the table
-abbrev pub kind : Name → ℕ
-kind (name.Warehouse k) = 0
-kind (name.District k) = 1
-kind (name.Customer k) = 2
-kind (name.Order k) = 3
-kind (name.Queue k) = 4
-kind (name.Stock k) = 5
-kind (name.Names k last) = 6
+-- the name of whose kind it is counted: of a lock that was taken, that was in the way, or that a transaction waited
+-- for in a cycle
+abbrev pub lock_of : Happening → Option Name
+lock_of happening.Begun = None
+lock_of happening.Done = None
+lock_of (happening.Went t) = None
+lock_of (happening.Took t n m) = Some n
+lock_of (happening.Waits t n u) = Some n
+lock_of (happening.Broke t n) = Some n
+lock_of (happening.GaveWay t) = None
 
--- the count of a mode, S or X, among those of a kind
-abbrev pub column : Mode → ℕ
-column mode.Shared = 0
-column mode.Exclusive = 1
+-- one more of what happened
+abbrev pub with_more : Happening → KindCounts → KindCounts
+with_more happening.Begun c = c
+with_more happening.Done c = c
+with_more (happening.Went t) c = c
+with_more (happening.Took t n mode.Shared) c = record c { shared = suc c.shared }
+with_more (happening.Took t n mode.Exclusive) c = record c { exclusive = suc c.exclusive }
+with_more (happening.Waits t n u) c = record c { busy = suc c.busy }
+with_more (happening.Broke t n) c = record c { cycles = suc c.cycles }
+with_more (happening.GaveWay t) c = c
 
--- Where a happening is counted. Each kind has four counts: how often a lock of it was taken as S, and as X; how often
--- one was answered `Busy`; and how often a transaction was rolled back that waited for one in a cycle.
-abbrev pub cell : Happening → Option ℕ
-cell happening.Begun = None
-cell happening.Done = None
-cell (happening.Went t) = None
-cell (happening.Took t n m) = Some (4 * kind n + column m)
-cell (happening.Waits t n u) = Some (4 * kind n + 2)
-cell (happening.Broke t n) = Some (4 * kind n + 3)
-cell (happening.GaveWay t) = None
+-- what is counted of a name's kind
+abbrev pub kind_counts : Name → Counts → KindCounts
+kind_counts (name.Warehouse k) c = c.warehouses
+kind_counts (name.District k) c = c.districts
+kind_counts (name.Customer k) c = c.customers
+kind_counts (name.Order k) c = c.orders
+kind_counts (name.Queue k) c = c.queues
+kind_counts (name.Stock k) c = c.stocks
+kind_counts (name.Names k last) c = c.names
+
+abbrev pub with_kind : Name → KindCounts → Counts → Counts
+with_kind (name.Warehouse k) of c = record c { warehouses = of }
+with_kind (name.District k) of c = record c { districts = of }
+with_kind (name.Customer k) of c = record c { customers = of }
+with_kind (name.Order k) of c = record c { orders = of }
+with_kind (name.Queue k) of c = record c { queues = of }
+with_kind (name.Stock k) of c = record c { stocks = of }
+with_kind (name.Names k last) of c = record c { names = of }
 
 -- one more there
-abbrev pub counted : Option ℕ → (ℕ → ℕ) → ℕ → ℕ
-counted None f = f
-counted (Some c) f = bump c f
+abbrev pub counted_at : Option Name → Happening → Counts → Counts
+counted_at None h c = c
+counted_at (Some n) h c = with_kind n (with_more h (kind_counts n c)) c
 
-abbrev pub counts : List Happening → ℕ → ℕ
-counts [] = λ c. 0
-counts (h ∷ hs) = counted (cell h) (counts hs)
+abbrev pub counted : Happening → Counts → Counts
+counted h = counted_at (lock_of h) h
+
+abbrev pub none_of : KindCounts
+none_of = record { shared = 0; exclusive = 0; busy = 0; cycles = 0 }
+
+abbrev pub no_counts : Counts
+no_counts = record {
+  warehouses = none_of;
+  districts = none_of;
+  customers = none_of;
+  orders = none_of;
+  queues = none_of;
+  stocks = none_of;
+  names = none_of;
+}
+
+abbrev pub counts : List Happening → Counts
+counts [] = no_counts
+counts (h ∷ hs) = counted h (counts hs)
 
 -- counts in a list with a place for each
 abbrev pub counts_in : List ℕ → ℕ → ℕ

@@ -1,23 +1,25 @@
 -- The table of what was in the way of a load.
-use Rattle.std.specs.Prelude.{◌≡◌, ℕ, ◌+◌, ◌*◌, List, ◌++◌, codes, decimal, None}
+use Rattle.std.specs.Prelude.{◌≡◌, ℕ, List, ◌++◌, codes, decimal, None}
 use Rattle.std.specs.List.{flat_map}
 use Rattle.oe_rows.specs.declared.locks.Name.{Name}
+use Rattle.oe_busy.specs.declared.counts.Counts.{Counts}
+use Rattle.oe_busy.specs.declared.counts.KindCounts.{KindCounts}
 use Rattle.oe_busy.specs.declared.happenings.Happening.{Happening}
 use Rattle.oe_busy.specs.declared.tables.Busyness.{Busyness}
-use Rattle.oe_busy.specs.Happenings.{counts, counts_in, count_in, busy_count, longest, AreWaits}
+use Rattle.oe_busy.specs.Happenings.{counts, count_in, busy_count, longest, AreWaits}
 use Rattle.oe_busy.specs.Firsts.{name_line, AreMostBusy}
 
--- `Warehouse S 43 X 45 Busy 70 cycles 3`, by the four counts of a kind
-abbrev pub kind_line : List ℕ → (ℕ → ℕ) → ℕ → List ℕ
-kind_line word f k =
-    word ++ codes " S " ++ decimal (f (4 * k)) ++ codes " X " ++ decimal (f (4 * k + 1))
-    ++ codes " Busy " ++ decimal (f (4 * k + 2)) ++ codes " cycles " ++ decimal (f (4 * k + 3)) ++ codes "\n"
+-- `Warehouse S 43 X 45 Busy 70 cycles 3`
+abbrev pub kind_line : List ℕ → KindCounts → List ℕ
+kind_line word c =
+    word ++ codes " S " ++ decimal c.shared ++ codes " X " ++ decimal c.exclusive
+    ++ codes " Busy " ++ decimal c.busy ++ codes " cycles " ++ decimal c.cycles ++ codes "\n"
 
-abbrev pub kind_lines : (ℕ → ℕ) → List ℕ
-kind_lines f =
-    kind_line (codes "Warehouse") f 0 ++ kind_line (codes "District") f 1 ++ kind_line (codes "Customer") f 2
-    ++ kind_line (codes "Order") f 3 ++ kind_line (codes "Queue") f 4 ++ kind_line (codes "Stock") f 5
-    ++ kind_line (codes "Names") f 6
+abbrev pub kind_lines : Counts → List ℕ
+kind_lines c =
+    kind_line (codes "Warehouse") c.warehouses ++ kind_line (codes "District") c.districts
+    ++ kind_line (codes "Customer") c.customers ++ kind_line (codes "Order") c.orders
+    ++ kind_line (codes "Queue") c.queues ++ kind_line (codes "Stock") c.stocks ++ kind_line (codes "Names") c.names
 
 -- `longest wait 31`
 abbrev pub wait_line : ℕ → List ℕ
@@ -31,6 +33,6 @@ pub record IsTable (hs : List Happening) (text : List ℕ) : Type 0 where
 
 -- the counts are those of what happened
 pub record AreCounted (b : Busyness) (hs : List Happening) : Type 0 where
-  pub counts_are : counts_in b.counts ≡ counts hs
+  pub counts_are : b.counts ≡ counts hs
   pub names_are : count_in b.names ≡ busy_count hs
   pub waits_are : AreWaits b.waits hs

@@ -1,92 +1,143 @@
-//! How often locks of each kind were taken, in the way, or broken out of: four counts of each kind.
-ghost use Rattle.std.specs.Prelude.{◌≡◌, ◌<◌, IfSome, OnOk};
-ghost use Rattle.oe_theory.specs.World.{set};
-ghost use Rattle.oe_busy.specs.Happenings.{cell, column, counted, counts_in, kind};
+//! How often locks of each kind of name were taken, in the way, or broken out of.
+ghost use Rattle.std.specs.Prelude.{◌≡◌, suc, option_map, IfOk, OnOk};
+ghost use Rattle.oe_busy.specs.Happenings.{counted, kind_counts, lock_of, no_counts, none_of, with_kind, with_more};
 
 use crate::happenings::Happening;
 use crate::tables::Uncounted;
 use oe_rows::{Mode, Name};
 
-/// Four counts of each of seven kinds.
-pub type Counts = [u64; 28];
+/// What is counted of one kind of name.
+#[derive(Clone, Copy)]
+pub struct KindCounts {
+    /// How often such a lock was taken as S.
+    pub shared: u64,
+    /// How often one was taken as X.
+    pub exclusive: u64,
+    /// How often one was answered `Busy`.
+    pub busy: u64,
+    /// How often a transaction was rolled back that waited for one in a cycle.
+    pub cycles: u64,
+}
+
+/// What is counted of each kind.
+#[derive(Clone, Copy)]
+pub struct Counts {
+    pub warehouses: KindCounts,
+    pub districts: KindCounts,
+    pub customers: KindCounts,
+    pub orders: KindCounts,
+    pub queues: KindCounts,
+    pub stocks: KindCounts,
+    pub names: KindCounts,
+}
+
+/// Counts nothing of a kind.
+fn none_of() -> KindCounts
+    ensures { result ≡ none_of }
+{
+    KindCounts {
+        shared: 0,
+        exclusive: 0,
+        busy: 0,
+        cycles: 0,
+    }
+}
 
 /// Counts nothing.
 pub(crate) fn none() -> Counts
-    ensures { counts_in result ≡ (λ c. 0) }
+    ensures { result ≡ no_counts }
 {
-    [0; 28]
-}
-
-/// Gives the number of a name's kind.
-fn kind(name: &Name) -> usize
-    ensures value { result ≡ kind name.now }
-    ensures few { result < 7 }
-{
-    match name {
-        Name::Warehouse(_) => 0,
-        Name::District(_) => 1,
-        Name::Customer(_) => 2,
-        Name::Order(_) => 3,
-        Name::Queue(_) => 4,
-        Name::Stock(_) => 5,
-        Name::Names(_, _) => 6,
+    let none = none_of();
+    Counts {
+        warehouses: none,
+        districts: none,
+        customers: none,
+        orders: none,
+        queues: none,
+        stocks: none,
+        names: none,
     }
 }
 
-/// Gives the place of a mode among a kind's counts.
-fn column(mode: &Mode) -> usize
-    ensures value { result ≡ column mode.now }
-    ensures few { result < 2 }
-{
-    match mode {
-        Mode::Shared => 0,
-        Mode::Exclusive => 1,
-    }
-}
-
-/// Gives the place at which a happening is counted, where it is.
-fn cell(happening: &Happening) -> Option<usize>
-    ensures value { result ≡ cell happening.now }
-    ensures few { IfSome result (λ c. c < 28) }
+/// Gives the lock's name of whose kind a happening is counted, where it is.
+fn lock_of(happening: &Happening) -> Option<&Name>
+    ensures { option_map (λ n. n.now) result ≡ lock_of happening.now }
 {
     match happening {
-        Happening::Took(_, name, mode) => Some(4 * kind(name) + column(mode)),
-        Happening::Waits(_, name, _) => Some(4 * kind(name) + 2),
-        Happening::Broke(_, name) => Some(4 * kind(name) + 3),
+        Happening::Took(_, name, _) | Happening::Waits(_, name, _) | Happening::Broke(_, name) => {
+            Some(name)
+        }
         Happening::Begun | Happening::Done | Happening::Went(_) | Happening::GaveWay(_) => None,
     }
 }
 
-/// Gives the count at a place.
-pub(crate) fn count_at(counts: &Counts, at: usize) -> u64
-    requires { at < 28 }
-    ensures { result ≡ counts_in counts.now at }
+/// Gives what is counted of a name's kind.
+fn kind_counts(counts: &Counts, name: &Name) -> KindCounts
+    ensures { result ≡ kind_counts name.now counts.now }
 {
-    counts[at]
+    match name {
+        Name::Warehouse(_) => counts.warehouses,
+        Name::District(_) => counts.districts,
+        Name::Customer(_) => counts.customers,
+        Name::Order(_) => counts.orders,
+        Name::Queue(_) => counts.queues,
+        Name::Stock(_) => counts.stocks,
+        Name::Names(_, _) => counts.names,
+    }
 }
 
-/// Sets the count at a place.
-#[tactic(auto, using(crate::proofs::CountFacts::put_at))]
-fn put(counts: &mut Counts, at: usize, count: u64)
-    requires { at < 28 }
-    ensures { counts_in counts.new ≡ set at count (counts_in counts.old) }
+/// Sets what is counted of a name's kind.
+fn set_kind(counts: &mut Counts, name: &Name, of: KindCounts)
+    ensures { counts.new ≡ with_kind name.now of counts.old }
 {
-    counts[at] = count;
+    match name {
+        Name::Warehouse(_) => counts.warehouses = of,
+        Name::District(_) => counts.districts = of,
+        Name::Customer(_) => counts.customers = of,
+        Name::Order(_) => counts.orders = of,
+        Name::Queue(_) => counts.queues = of,
+        Name::Stock(_) => counts.stocks = of,
+        Name::Names(_, _) => counts.names = of,
+    }
+}
+
+/// Counts one more.
+fn one_more(count: u64) -> Result<u64, Uncounted>
+    ensures { IfOk result (λ more. more ≡ suc count) }
+{
+    match count.checked_add(1) {
+        Some(more) => Ok(more),
+        None => Err(Uncounted::TooMany),
+    }
+}
+
+/// Counts what happened among what is counted of its kind.
+fn add(of: &mut KindCounts, happening: &Happening) -> Result<(), Uncounted>
+    ensures { OnOk result (of.new ≡ with_more happening.now of.old) }
+{
+    match happening {
+        Happening::Took(_, _, Mode::Shared) => of.shared = one_more(of.shared)?,
+        Happening::Took(_, _, Mode::Exclusive) => of.exclusive = one_more(of.exclusive)?,
+        Happening::Waits(_, _, _) => of.busy = one_more(of.busy)?,
+        Happening::Broke(_, _) => of.cycles = one_more(of.cycles)?,
+        Happening::Begun | Happening::Done | Happening::Went(_) | Happening::GaveWay(_) => {}
+    }
+    Ok(())
 }
 
 /// Counts what happened, where it is counted.
 pub(crate) fn count(counts: &mut Counts, happening: &Happening) -> Result<(), Uncounted>
-    ensures { OnOk result
-        (counts_in counts.new ≡ counted (cell happening.now) (counts_in counts.old)) }
+    ensures { OnOk result (counts.new ≡ counted happening.now counts.old) }
 {
-    let Some(at) = cell(happening) else {
+    let Some(name) = lock_of(happening) else {
         return Ok(());
     };
-    match count_at(counts, at).checked_add(1) {
-        Some(more) => {
-            put(counts, at, more);
+    let mut of = kind_counts(counts, name);
+    match add(&mut of, happening) {
+        Ok(()) => {
+            set_kind(counts, name, of);
             Ok(())
         }
-        None => Err(Uncounted::TooMany),
+        Err(cause) => Err(cause),
     }
 }

@@ -2,10 +2,9 @@
 ghost use Rattle.std.specs.Prelude.{◌≡◌, ◌∷◌, ◌≤◌, ◌<◌, ◌+◌, ◌++◌, ℕ, List, [], length, OnOk};
 ghost use Rattle.arrayvec.specs.ArrayVec.{array_vec_len};
 ghost use Rattle.oe_busy.specs.declared.happenings.Happening.{Happening};
-ghost use Rattle.oe_busy.specs.Happenings.{counts_in};
 ghost use Rattle.oe_busy.specs.Tables.{kind_line, kind_lines, wait_line, AreCounted, IsTable};
 
-use crate::counts::{Counts, count, count_at, none};
+use crate::counts::{Counts, KindCounts, count, none};
 use crate::firsts::first_lines;
 use crate::happenings::Happening;
 use crate::names::NameCounts;
@@ -32,39 +31,37 @@ pub struct Busyness {
 }
 
 /// Appends the line of a kind.
-fn kind_line(out: &mut Pending, counts: &Counts, kind: usize, word: &[u8])
+fn kind_line(out: &mut Pending, word: &[u8], of: &KindCounts)
     requires room { array_vec_len out.old + 110 ≤ SIZE }
-    requires few { kind < 7 }
     requires short { length word.now ≤ 9 }
-    ensures items { out.new.items ≡ out.old.items
-        ++ kind_line word.now (counts_in counts.now) kind }
+    ensures items { out.new.items ≡ out.old.items ++ kind_line word.now of.now }
     ensures len { array_vec_len out.new ≤ array_vec_len out.old + 110 }
 {
     text(out, word);
     text(out, b" S ");
-    number(out, count_at(counts, 4 * kind));
+    number(out, of.shared);
     text(out, b" X ");
-    number(out, count_at(counts, 4 * kind + 1));
+    number(out, of.exclusive);
     text(out, b" Busy ");
-    number(out, count_at(counts, 4 * kind + 2));
+    number(out, of.busy);
     text(out, b" cycles ");
-    number(out, count_at(counts, 4 * kind + 3));
+    number(out, of.cycles);
     text(out, b"\n");
 }
 
 /// Appends the lines of all kinds.
 fn kind_lines(out: &mut Pending, counts: &Counts)
     requires { array_vec_len out.old + 770 ≤ SIZE }
-    ensures items { out.new.items ≡ out.old.items ++ kind_lines (counts_in counts.now) }
+    ensures items { out.new.items ≡ out.old.items ++ kind_lines counts.now }
     ensures len { array_vec_len out.new ≤ array_vec_len out.old + 770 }
 {
-    kind_line(out, counts, 0, b"Warehouse");
-    kind_line(out, counts, 1, b"District");
-    kind_line(out, counts, 2, b"Customer");
-    kind_line(out, counts, 3, b"Order");
-    kind_line(out, counts, 4, b"Queue");
-    kind_line(out, counts, 5, b"Stock");
-    kind_line(out, counts, 6, b"Names");
+    kind_line(out, b"Warehouse", &counts.warehouses);
+    kind_line(out, b"District", &counts.districts);
+    kind_line(out, b"Customer", &counts.customers);
+    kind_line(out, b"Order", &counts.orders);
+    kind_line(out, b"Queue", &counts.queues);
+    kind_line(out, b"Stock", &counts.stocks);
+    kind_line(out, b"Names", &counts.names);
 }
 
 /// Appends the line of the longest wait.

@@ -1,7 +1,9 @@
 -- A session between two bytes of its input, and how a script ends.
 use Rattle.std.specs.Prelude.{◌≡◌, ℕ, ◌+◌, ◌^◌, ◌≤◌, ◌⊎◌, Bool, List, [], ◌++◌, length, ⊤, Option, Some, None}
 use Rattle.std.specs.Prelude.{Result, Ok, Err, MatchResult}
+use Rattle.oe_admission.specs.Programs.{IsLive}
 use Rattle.oe_core.specs.Core.{CoreState, world_of}
+use Rattle.oe_script.specs.declared.session.Session.{Session}
 use Rattle.oe_script.specs.declared.session.ScriptFault.{ScriptFault}
 use Rattle.oe_script.specs.declared.session.ScriptFault.TheVariants.{Read, Write}
 use Rattle.oe_io.specs.Ports.{Source, Sink, Sent, Cut}
@@ -35,6 +37,25 @@ Fed begun hears first last start input now waits state count held over r =
     MatchResult r (λ _. Standing begun hears first last start input now waits state count held over)
     (λ _. Broken begun start input now × HeardFront begun input (λ told. HearsEach hears first told last))
 
+-- A dialogue: what was open when it began, the listener then, and what had been written.
+pub record Dialogue (L : Type 0) : Type 0 where
+  pub begun : State
+  pub live : IsLive begun
+  pub first : L
+  pub start : Option Sink
+
+-- In a dialogue the session stands behind this input, with the listener and what is written as they are now.
+abbrev pub StandsIn : {L : Type 0} → Dialogue L → (L → Heard → L → Type 0) → List ℕ → L → Option Sink → Session → Type 0
+StandsIn d hears input last now s =
+    Standing d.begun hears d.first last d.start input now s.out.items (state_of s.core) s.count s.line.items s.over
+
+-- So it does once a call has ended well. Else a call of the writer failed: what was written is a beginning of an output
+-- of the input, and the listener heard of some first lines.
+abbrev pub FedIn : {L T E : Type 0} → Dialogue L → (L → Heard → L → Type 0) → List ℕ → L → Option Sink → Session
+    → Result T E → Type 0
+FedIn d hears input last now s r =
+    Fed d.begun hears d.first last d.start input now s.out.items (state_of s.core) s.count s.line.items s.over r
+
 -- The input is answered whole, all of it is written, and the listener heard of it.
 abbrev pub Ended : {L T E : Type 0} → State → (L → Heard → L → Type 0) → L → L → Option Sink → List ℕ → Option Sink
     → Result T E → Type 0
@@ -44,6 +65,10 @@ Ended begun hears first last start input now r =
     × (told : List Heard) × HearsAll begun input out o told × HearsEach hears first told last)
     (λ _. (out : List ℕ) × Output begun input out × Cut start [] now out
     × HeardFront begun input (λ told. HearsEach hears first told last))
+
+abbrev pub EndedIn : {L T E : Type 0} → Dialogue L → (L → Heard → L → Type 0) → List ℕ → L → Option Sink
+    → Result T E → Type 0
+EndedIn d hears input last now r = Ended d.begun hears d.first last d.start input now r
 
 -- calls gave these bytes, no more calls than bytes, and none failed
 abbrev pub ReadSoFar : Option Source → Option Source → List ℕ → ℕ → Type 0

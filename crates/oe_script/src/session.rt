@@ -1,9 +1,9 @@
 //! One script's run: what is open, the line that is read, and the output that waits.
 ghost use Rattle.std.specs.Prelude.{◌≡◌, ◌<◌, ◌≤◌, ◌+◌, ◌++◌, ◌∷◌, ◌^◌, ◌⊎◌, ℕ, List, [], length, Option, None, Some, true, false, OnOk};
-ghost use Rattle.oe_io.specs.Ports.{Sink, Streams};
+ghost use Rattle.oe_io.specs.Ports.{Streams};
 ghost use Rattle.oe_script.specs.Hearing.{place_of, Attends, HearsEach};
-ghost use Rattle.oe_script.specs.Script.{State, Holds, last_text};
-ghost use Rattle.oe_script.specs.Session.{state_of, Fed, Standing, Ended, ScriptHeard};
+ghost use Rattle.oe_script.specs.Script.{Holds, last_text};
+ghost use Rattle.oe_script.specs.Session.{state_of, Dialogue, StandsIn, FedIn, EndedIn, ScriptHeard};
 ghost use Rattle.oe_admission.specs.Programs.{IsLive};
 ghost use Rattle.oe_script.specs.Outcome.{Replies};
 
@@ -158,13 +158,9 @@ impl Session {
     ) -> Result<(), Failed>
         requires count { self.old.count + length piece.now < 2 ^ 128 }
         requires live { IsLive (state_of self.old.core) }
-        ensures fed { (begun : State) → IsLive begun →
-            (first : H) (start : Option Sink) (input : List ℕ) →
-            Standing begun H.hears first listener.old start input (W.sink to.old) self.old.out.items
-            (state_of self.old.core) self.old.count self.old.line.items self.old.over →
-            Fed begun H.hears first listener.new start (input ++ piece.now) (W.sink to.new)
-            self.new.out.items (state_of self.new.core) self.new.count self.new.line.items
-            self.new.over result }
+        ensures fed { (d : Dialogue H) (input : List ℕ)
+            → StandsIn d H.hears input listener.old (W.sink to.old) self.old
+            → FedIn d H.hears (input ++ piece.now) listener.new (W.sink to.new) self.new result }
         ensures written { OnOk result (self.new.out.items ≡ []) }
         ensures count { self.new.count ≤ self.old.count + length piece.now }
         ensures live { IsLive (state_of self.new.core) }
@@ -185,13 +181,9 @@ impl Session {
     ) -> Result<(), Failed>
         requires count { self.old.count + length piece.now < 2 ^ 128 }
         requires live { IsLive (state_of self.old.core) }
-        ensures fed { (begun : State) → IsLive begun →
-            (first : H) (start : Option Sink) (input : List ℕ) →
-            Standing begun H.hears first listener.old start input (W.sink to.old) self.old.out.items
-            (state_of self.old.core) self.old.count self.old.line.items self.old.over →
-            Fed begun H.hears first listener.new start (input ++ piece.now) (W.sink to.new)
-            self.new.out.items (state_of self.new.core) self.new.count self.new.line.items
-            self.new.over result }
+        ensures fed { (d : Dialogue H) (input : List ℕ)
+            → StandsIn d H.hears input listener.old (W.sink to.old) self.old
+            → FedIn d H.hears (input ++ piece.now) listener.new (W.sink to.new) self.new result }
         ensures count { self.new.count ≤ self.old.count + length piece.now }
         ensures live { IsLive (state_of self.new.core) }
     {
@@ -210,11 +202,9 @@ impl Session {
     /// of a last line that has no end.
     fn finish<W: Outlet, H: Listener>(&mut self, to: &mut W, listener: &mut H) -> Result<(), Failed>
         requires { self.old.count + 1 < 2 ^ 128 }
-        ensures { (begun : State) → IsLive begun →
-            (first : H) (start : Option Sink) (input : List ℕ) →
-            Standing begun H.hears first listener.old start input (W.sink to.old) self.old.out.items
-            (state_of self.old.core) self.old.count self.old.line.items self.old.over →
-            Ended begun H.hears first listener.new start input (W.sink to.new) result }
+        ensures { (d : Dialogue H) (input : List ℕ)
+            → StandsIn d H.hears input listener.old (W.sink to.old) self.old
+            → EndedIn d H.hears input listener.new (W.sink to.new) result }
     {
         let is_begun = self.is_begun();
         let number = self.count + 1;

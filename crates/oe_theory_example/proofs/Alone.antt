@@ -11,7 +11,7 @@ use Rattle.oe_theory_example.specs.declared.Name.{Name}
 use Rattle.oe_theory_example.specs.declared.Name.TheVariants.{OfAccount}
 use Rattle.oe_theory_example.specs.Programs.{Payment, Request, Pay, Serve, Rename, Visit, Refusal, NoAccount}
 use Rattle.oe_theory_example.specs.Programs.{Overflow, Present}
-use Rattle.oe_theory_example.specs.Programs.{At_account, At_queue, To_read, To_find, Program, Paying, Serving}
+use Rattle.oe_theory_example.specs.Programs.{AtAccount, AtQueue, ToRead, ToFind, Program, Paying, Serving}
 use Rattle.oe_theory_example.specs.Programs.{Renaming, Visiting}
 use Rattle.oe_theory_example.specs.Programs.{program_of, MayRefuse, Action, given, if_absent, if_within, take_least}
 use Rattle.oe_theory_example.specs.Programs.{rejection}
@@ -57,7 +57,7 @@ module _ (Only : Refusal → Type 0) (x : Tx Request) where
         (subst (λ (b : Ask Name Refusal). IsAsked bank (all_held bank) b) (sym i) tt) e
 
   pay_ends : (q : Payment) (r : Tables) → Only NoAccount → Only Overflow → Only Present
-      → get r.journal (x.terminal, x.number) ≡ None → Ended (Paying q At_account) r (pay_whole x q r)
+      → get r.journal (x.terminal, x.number) ≡ None → Ended (Paying q AtAccount) r (pay_whole x q r)
   pay_ends q r no_account overflow present unused =
       ends_account _ _ q.account (get r.accounts q.account) _ _ refl refl (λ _. no_account) (λ a a_at i e.
       ends_within _ _ (nat_le q.amount a.balance) _ _ i e overflow (λ _ e.
@@ -68,7 +68,7 @@ module _ (Only : Refusal → Type 0) (x : Tx Request) where
       ends_here _ _ _ tt refl))))))
 
   serve_ends : (d : ℕ) (r : Tables) → Only NoAccount → (o : Option ((ℕ × ℕ) × Entry)) → least d r ≡ o
-      → Ended (Serving d At_queue) r (serve_whole d r o)
+      → Ended (Serving d AtQueue) r (serve_whole d r o)
   serve_ends d r no_account None none = goes_here _ _ _ _ _ tt (ap (take_least d) none) tt (ends_here _ _ _ tt refl)
   serve_ends d r no_account (Some t) first =
       goes_here _ _ _ _ _ tt (ap (take_least d) first) (there _ t.1 (least_found d r t.0 t.1 first)) (
@@ -77,7 +77,7 @@ module _ (Only : Refusal → Type 0) (x : Tx Request) where
       ends_here _ _ _ tt refl)))
 
   rename_ends : (k n : ℕ) (r : Tables) → (get r.accounts k ≡ None → ⊥)
-      → Ended (Renaming k n To_read) r (rename_whole k n r)
+      → Ended (Renaming k n ToRead) r (rename_whole k n r)
   rename_ends k n r known =
       ends_account _ _ k (get r.accounts k) _ _ refl refl (λ none. absurd (known none)) (λ a a_at i e.
       goes_here _ _ _ _ _ i e tt (
@@ -85,7 +85,7 @@ module _ (Only : Refusal → Type 0) (x : Tx Request) where
       goes_here _ _ _ _ _ tt (given_same _ _ (Some a) _ a_at) (there _ a a_at) (
       ends_here _ _ _ tt refl))))
 
-  visit_ends : (n : ℕ) (r : Tables) → Only NoAccount → Ended (Visiting n To_find) r (visit_whole n r)
+  visit_ends : (n : ℕ) (r : Tables) → Only NoAccount → Ended (Visiting n ToFind) r (visit_whole n r)
   visit_ends n r no_account =
       ends_given _ _ _ (first_owned n r) _ _ tt refl no_account (λ k _ e.
       goes_here _ _ _ _ _ tt e tt (

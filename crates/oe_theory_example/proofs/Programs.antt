@@ -18,12 +18,12 @@ use Rattle.oe_theory_example.specs.Rows.{least, first_owned}
 use Rattle.oe_theory_example.specs.declared.Name.{Name}
 use Rattle.oe_theory_example.specs.declared.Name.TheVariants.{OfAccount, OfQueue, OfOwner}
 use Rattle.oe_theory_example.specs.Programs.{Payment, Request, Pay, Serve, Rename, Visit, Refusal, NoAccount}
-use Rattle.oe_theory_example.specs.Programs.{Pay_position}
-use Rattle.oe_theory_example.specs.Programs.{Serve_position, Rename_position, Visit_position, At_account, At_entry}
-use Rattle.oe_theory_example.specs.Programs.{At_slip, At_end}
-use Rattle.oe_theory_example.specs.Programs.{At_queue, At_target, At_served, At_skip, To_read, To_leave, To_set}
-use Rattle.oe_theory_example.specs.Programs.{To_close, To_find}
-use Rattle.oe_theory_example.specs.Programs.{To_visit, To_end, Program, Paying, Serving, Renaming, Visiting}
+use Rattle.oe_theory_example.specs.Programs.{PayPosition}
+use Rattle.oe_theory_example.specs.Programs.{ServePosition, RenamePosition, VisitPosition, AtAccount, AtEntry}
+use Rattle.oe_theory_example.specs.Programs.{AtSlip, AtEnd}
+use Rattle.oe_theory_example.specs.Programs.{AtQueue, AtTarget, AtServed, AtSkip, ToRead, ToLeave, ToSet}
+use Rattle.oe_theory_example.specs.Programs.{ToClose, ToFind}
+use Rattle.oe_theory_example.specs.Programs.{ToVisit, ToEnd, Program, Paying, Serving, Renaming, Visiting}
 use Rattle.oe_theory_example.specs.Programs.{program_of, Action}
 use Rattle.oe_theory_example.specs.Programs.{given, if_absent, if_within, alone, renamed, take_least, ask, act, taken}
 use Rattle.oe_theory_example.specs.Bank.{bank}
@@ -53,13 +53,13 @@ take_if k b = cond b (Take (OfAccount k) Exclusive) (Stop NoAccount)
 
 pub ask_same : (x : Tx Request) (p : Program) (r s : Tables) → Alike bank (Holds bank (taken x p)) x r s
     → ask x p r ≡ ask x p s
-ask_same x (Paying q At_account) r s h = ap (take_if q.account) (h.parts (IsThere q.account) tt)
+ask_same x (Paying q AtAccount) r s h = ap (take_if q.account) (h.parts (IsThere q.account) tt)
 ask_same x (Paying q _) r s h = refl
-ask_same x (Serving d At_queue) r s h = refl
+ask_same x (Serving d AtQueue) r s h = refl
 ask_same x (Serving d _) r s h = refl
-ask_same x (Renaming k n To_read) r s h = ap (take_if k) (h.parts (IsThere k) tt)
+ask_same x (Renaming k n ToRead) r s h = ap (take_if k) (h.parts (IsThere k) tt)
 ask_same x (Renaming k n _) r s h = refl
-ask_same x (Visiting n To_find) r s h = refl
+ask_same x (Visiting n ToFind) r s h = refl
 ask_same x (Visiting n _) r s h = refl
 
 -- the lock is asked for where a program goes on, and the names are held that are held then
@@ -83,18 +83,18 @@ absent_same v w d h = ap (λ o. if_absent o d) h
 
 pub act_same : (x : Tx Request) (p : Program) (r s : Tables) → AskedAt x p r → Alike bank (HeldAt x p r) x r s
     → act x p r ≡ act x p s
-act_same x (Paying q At_account) r s i h =
+act_same x (Paying q AtAccount) r s i h =
     given_same _ _ _ _ (account_same _ x r s h q.account (takes_account _ _ _ Shared i (inl (refl, tt))))
-act_same x (Paying q (At_entry b)) r s i h = absent_same _ _ _ (entry_same _ x r s h q.entry (inl (refl, tt)))
-act_same x (Paying q (At_slip b)) r s i h = absent_same _ _ _ (slip_same _ x r s h)
-act_same x (Serving d At_queue) r s i h = ap (take_least d) (least_same _ x r s h d (inl (refl, tt)))
-act_same x (Serving d (At_target k e)) r s i h = given_same _ _ _ _ (account_same _ x r s h e.account (inl (refl, tt)))
-act_same x (Renaming k n To_read) r s i h =
+act_same x (Paying q (AtEntry b)) r s i h = absent_same _ _ _ (entry_same _ x r s h q.entry (inl (refl, tt)))
+act_same x (Paying q (AtSlip b)) r s i h = absent_same _ _ _ (slip_same _ x r s h)
+act_same x (Serving d AtQueue) r s i h = ap (take_least d) (least_same _ x r s h d (inl (refl, tt)))
+act_same x (Serving d (AtTarget k e)) r s i h = given_same _ _ _ _ (account_same _ x r s h e.account (inl (refl, tt)))
+act_same x (Renaming k n ToRead) r s i h =
     given_same _ _ _ _ (account_same _ x r s h k (takes_account _ _ _ Shared i (inl (refl, tt))))
-act_same x (Renaming k n (To_set old)) r s i h = given_same _ _ _ _
+act_same x (Renaming k n (ToSet old)) r s i h = given_same _ _ _ _
     (account_same _ x r s h k (inr (inr (inl (refl, tt)))))
-act_same x (Visiting n To_find) r s i h = given_same _ _ _ _ (first_same _ x r s h n (inl (refl, tt)))
-act_same x (Visiting n (To_visit k)) r s i h = given_same _ _ _ _ (account_same _ x r s h k (inl (refl, tt)))
+act_same x (Visiting n ToFind) r s i h = given_same _ _ _ _ (first_same _ x r s h n (inl (refl, tt)))
+act_same x (Visiting n (ToVisit k)) r s i h = given_same _ _ _ _ (account_same _ x r s h k (inl (refl, tt)))
 act_same x _ r s i h = refl
 
 -- what a renaming has read of its account still stands
@@ -102,8 +102,8 @@ abbrev HasOwner : ℕ → ℕ → Tables → Type 0
 HasOwner k old r = (a : Account) × (get r.accounts k ≡ Some a) × (a.owner ≡ old)
 
 abbrev Knows : Program → Tables → Type 0
-Knows (Renaming k n (To_leave old)) r = HasOwner k old r
-Knows (Renaming k n (To_set old)) r = HasOwner k old r
+Knows (Renaming k n (ToLeave old)) r = HasOwner k old r
+Knows (Renaming k n (ToSet old)) r = HasOwner k old r
 Knows _ r = Unit {0}
 
 -- a change writes a row that may be written, and facets of it that stay or may be written
@@ -178,35 +178,35 @@ within_goes : (b : Bool) (d : Action) (c : Option Change) (z : Program) → if_w
 within_goes true d c z h = h
 within_goes false d c z h = let no : ⊥ = cc in absurd no
 
-pay_lawful : (x : Tx Request) (q : Payment) (p : Pay_position) (r : Tables) (c : Option Change) (z : Program)
+pay_lawful : (x : Tx Request) (q : Payment) (p : PayPosition) (r : Tables) (c : Option Change) (z : Program)
     → AskedAt x (Paying q p) r → act x (Paying q p) r ≡ Go c z → IsLawful x (Paying q p) r c z
-pay_lawful x q At_account r c z i e =
+pay_lawful x q AtAccount r c z i e =
     let (a, here, e1) = given_goes _ (get r.accounts q.account) _ c z e in
     lawful _ _ _ _ _ _ _ (within_goes (nat_le q.amount a.balance) _ c z e1) (λ n m h. takes_account _ _ n m i h)
     (λ t. tt)
     (writes_account _ _ _ _ a _ (takes_account _ _ _ Exclusive i (inl (refl, tt))) here refl)
-pay_lawful x q (At_entry b) r c z i e = lawful _ _ _ _ _ _ _ (absent_goes (get r.queues q.entry) _ c z e) (λ n m h. h)
+pay_lawful x q (AtEntry b) r c z i e = lawful _ _ _ _ _ _ _ (absent_goes (get r.queues q.entry) _ c z e) (λ n m h. h)
     (λ t. tt) (writes_entry _ _ _ _ _ (inl (refl, tt)))
-pay_lawful x q (At_slip b) r c z i e = lawful _ _ _ _ _ _ _ (absent_goes (get r.journal (x.terminal, x.number)) _ c z e)
+pay_lawful x q (AtSlip b) r c z i e = lawful _ _ _ _ _ _ _ (absent_goes (get r.journal (x.terminal, x.number)) _ c z e)
     (λ n m h. h) (λ t. tt) (writes_slip _ _ _ _)
-pay_lawful x q (At_end b) r c z i e = let no : ⊥ = cc in absurd no
+pay_lawful x q (AtEnd b) r c z i e = let no : ⊥ = cc in absurd no
 
-serve_lawful : (x : Tx Request) (d : ℕ) (p : Serve_position) (r : Tables) (c : Option Change) (z : Program)
+serve_lawful : (x : Tx Request) (d : ℕ) (p : ServePosition) (r : Tables) (c : Option Change) (z : Program)
     → act x (Serving d p) r ≡ Go c z → IsLawful x (Serving d p) r c z
-serve_lawful x d At_queue r c z e = by_least (least d r) e
+serve_lawful x d AtQueue r c z e = by_least (least d r) e
   where
-    by_least : (o : Option ((ℕ × ℕ) × Entry)) → take_least d o ≡ Go c z → IsLawful x (Serving d At_queue) r c z
+    by_least : (o : Option ((ℕ × ℕ) × Entry)) → take_least d o ≡ Go c z → IsLawful x (Serving d AtQueue) r c z
     by_least None g = lawful _ _ _ _ _ _ _ g (λ n m h. absurd h) (λ t. tt) (writes_none _ _ _)
     by_least (Some y) g = lawful _ _ _ _ _ _ _ g (λ n m h. h) (λ t. tt) (writes_entry _ _ _ _ _ (inl (refl, tt)))
-serve_lawful x d (At_target k y) r c z e =
+serve_lawful x d (AtTarget k y) r c z e =
     let (a, here, e1) = given_goes _ (get r.accounts y.account) _ c z e in
     lawful _ _ _ _ _ _ _ e1 (λ n m h. absurd h) (λ t. tt) (writes_account _ _ _ _ a _ (inl (refl, tt)) here refl)
-serve_lawful x d (At_served k) r c z e = let no : ⊥ = cc in absurd no
-serve_lawful x d At_skip r c z e = let no : ⊥ = cc in absurd no
+serve_lawful x d (AtServed k) r c z e = let no : ⊥ = cc in absurd no
+serve_lawful x d AtSkip r c z e = let no : ⊥ = cc in absurd no
 
 -- a new owner: each facet stands but for the old and the new owner's, which may be written
 writes_owner : (x : Tx Request) (k n old : ℕ) (r : Tables) (a : Account) → get r.accounts k ≡ Some a → (e : Change)
-    → Some (SetAccount k (Some (renamed n a))) ≡ Some e → Writes x (Renaming k n (To_set old)) r e
+    → Some (SetAccount k (Some (renamed n a))) ≡ Some e → Writes x (Renaming k n (ToSet old)) r e
 writes_owner x k n old r a here e q = writes_one _ _ _ _ e q
     (record { row = inr (inr (inl (refl, tt))); parts = λ t f _. by_facet (was t) f })
   where
@@ -216,39 +216,39 @@ writes_owner x k n old r a here e q = writes_one _ _ _ _ e q
 
     by_facet : a.owner ≡ old → (f : Facet)
         → (part f (Some (AccountRow (renamed n a))) ≡ part f (row_at r (AccountKey k)))
-        ⊎ MayWrite bank (HeldAt x (Renaming k n (To_set old)) r) x (governs_part f)
+        ⊎ MayWrite bank (HeldAt x (Renaming k n (ToSet old)) r) x (governs_part f)
     by_facet o (IsThere j) = inl (ap (λ v. is_there (account_in (under AccountRow v))) (sym here))
     by_facet o (IsOwned j m) = by_owner (cases_eq n m) (cases_eq old m)
       where
         by_owner : (n ≡ m) ⊎ (n ≢ m) → (old ≡ m) ⊎ (old ≢ m) → ((n == m) ≡ part (IsOwned j m) (row_at r (AccountKey k)))
-            ⊎ HeldAt x (Renaming k n (To_set old)) r (OfOwner m) Exclusive
+            ⊎ HeldAt x (Renaming k n (ToSet old)) r (OfOwner m) Exclusive
         by_owner (inl i) h = inr (inl (ap OfOwner i, tt))
         by_owner (inr i) (inl h) = inr (inr (inl (ap OfOwner h, tt)))
         by_owner (inr i) (inr h) =
             inl (ne_eqb n m i ∙ sym (ne_eqb old m h) ∙ ap (λ z. z == m) (sym o)
             ∙ ap (λ v. is_owned m (account_in (under AccountRow v))) (sym here))
 
-rename_lawful : (x : Tx Request) (k n : ℕ) (p : Rename_position) (r : Tables) (c : Option Change) (z : Program)
+rename_lawful : (x : Tx Request) (k n : ℕ) (p : RenamePosition) (r : Tables) (c : Option Change) (z : Program)
     → AskedAt x (Renaming k n p) r → act x (Renaming k n p) r ≡ Go c z
     → IsLawful x (Renaming k n p) r c z
-rename_lawful x k n To_read r c z i e =
+rename_lawful x k n ToRead r c z i e =
     let (a, here, e1) = given_goes _ (get r.accounts k) _ c z e in
     lawful _ _ _ _ _ _ _ e1 (λ o m h. takes_account _ _ o m i h) (λ t. (a, here, refl)) (writes_none _ _ _)
-rename_lawful x k n (To_leave old) r c z i e = lawful _ _ _ _ _ _ _ e (λ o m h. h) (λ t. t) (writes_none _ _ _)
-rename_lawful x k n (To_set old) r c z i e =
+rename_lawful x k n (ToLeave old) r c z i e = lawful _ _ _ _ _ _ _ e (λ o m h. h) (λ t. t) (writes_none _ _ _)
+rename_lawful x k n (ToSet old) r c z i e =
     let (a, here, e1) = given_goes _ (get r.accounts k) _ c z e in
     lawful _ _ _ _ _ _ _ e1 (λ o m h. absurd h) (λ t. tt) (writes_owner _ _ _ _ _ a here)
-rename_lawful x k n To_close r c z i e = let no : ⊥ = cc in absurd no
+rename_lawful x k n ToClose r c z i e = let no : ⊥ = cc in absurd no
 
-visit_lawful : (x : Tx Request) (n : ℕ) (p : Visit_position) (r : Tables) (c : Option Change) (z : Program)
+visit_lawful : (x : Tx Request) (n : ℕ) (p : VisitPosition) (r : Tables) (c : Option Change) (z : Program)
     → act x (Visiting n p) r ≡ Go c z → IsLawful x (Visiting n p) r c z
-visit_lawful x n To_find r c z e =
+visit_lawful x n ToFind r c z e =
     let (k, here, e1) = given_goes _ (first_owned n r) _ c z e in
     lawful _ _ _ _ _ _ _ e1 (λ o m h. h) (λ t. tt) (writes_none _ _ _)
-visit_lawful x n (To_visit k) r c z e =
+visit_lawful x n (ToVisit k) r c z e =
     let (a, here, e1) = given_goes _ (get r.accounts k) _ c z e in
     lawful _ _ _ _ _ _ _ e1 (λ o m h. absurd h) (λ t. tt) (writes_account _ _ _ _ a _ (inl (refl, tt)) here refl)
-visit_lawful x n (To_end k) r c z e = let no : ⊥ = cc in absurd no
+visit_lawful x n (ToEnd k) r c z e = let no : ⊥ = cc in absurd no
 
 pub is_lawful : (x : Tx Request) (p : Program) (r : Tables) (c : Option Change) (z : Program) → AskedAt x p r
     → act x p r ≡ Go c z → IsLawful x p r c z

@@ -38,45 +38,45 @@ pub data Refusal : Type 0 where
   Present : Refusal
 
 -- positions of a payment, with the balance that is left
-pub data Pay_position : Type 0 where
-  At_account : Pay_position
-  At_entry : ℕ → Pay_position
-  At_slip : ℕ → Pay_position
-  At_end : ℕ → Pay_position
+pub data PayPosition : Type 0 where
+  AtAccount : PayPosition
+  AtEntry : ℕ → PayPosition
+  AtSlip : ℕ → PayPosition
+  AtEnd : ℕ → PayPosition
 
 -- positions of serving, with the entry that was taken
-pub data Serve_position : Type 0 where
-  At_queue : Serve_position
-  At_target : ℕ × ℕ → Entry → Serve_position
-  At_served : ℕ × ℕ → Serve_position
-  At_skip : Serve_position
+pub data ServePosition : Type 0 where
+  AtQueue : ServePosition
+  AtTarget : ℕ × ℕ → Entry → ServePosition
+  AtServed : ℕ × ℕ → ServePosition
+  AtSkip : ServePosition
 
 -- positions of a renaming, with the old owner
-pub data Rename_position : Type 0 where
-  To_read : Rename_position
-  To_leave : ℕ → Rename_position
-  To_set : ℕ → Rename_position
-  To_close : Rename_position
+pub data RenamePosition : Type 0 where
+  ToRead : RenamePosition
+  ToLeave : ℕ → RenamePosition
+  ToSet : ℕ → RenamePosition
+  ToClose : RenamePosition
 
 -- positions of a visit, with the account that was found
-pub data Visit_position : Type 0 where
-  To_find : Visit_position
-  To_visit : ℕ → Visit_position
-  To_end : ℕ → Visit_position
+pub data VisitPosition : Type 0 where
+  ToFind : VisitPosition
+  ToVisit : ℕ → VisitPosition
+  ToEnd : ℕ → VisitPosition
 
 -- a program with its request and its position
 pub data Program : Type 0 where
-  Paying : Payment → Pay_position → Program
-  Serving : ℕ → Serve_position → Program
-  Renaming : ℕ → ℕ → Rename_position → Program
-  Visiting : ℕ → Visit_position → Program
+  Paying : Payment → PayPosition → Program
+  Serving : ℕ → ServePosition → Program
+  Renaming : ℕ → ℕ → RenamePosition → Program
+  Visiting : ℕ → VisitPosition → Program
 
 -- where a request begins
 abbrev pub program_of : Request → Program
-program_of (Pay q) = Paying q At_account
-program_of (Serve d) = Serving d At_queue
-program_of (Rename k n) = Renaming k n To_read
-program_of (Visit n) = Visiting n To_find
+program_of (Pay q) = Paying q AtAccount
+program_of (Serve d) = Serving d AtQueue
+program_of (Rename k n) = Renaming k n ToRead
+program_of (Visit n) = Visiting n ToFind
 
 -- a payment is of 10,000 at most; all other requests are within their ranges
 abbrev pub IsRequest : Request → Type 0
@@ -128,61 +128,61 @@ abbrev pub entry_of : Payment → Entry
 entry_of q = record { account = q.target; amount = q.amount }
 
 -- the locks that a payment asks for, position by position
-abbrev pub pay_ask : Payment → Pay_position → Tables → Ask Name Refusal
-pay_ask q At_account r = take_account q.account r
-pay_ask q (At_entry b) r = Take (OfQueue q.entry.0) Exclusive
-pay_ask q (At_slip b) r = Plain
-pay_ask q (At_end b) r = Plain
+abbrev pub pay_ask : Payment → PayPosition → Tables → Ask Name Refusal
+pay_ask q AtAccount r = take_account q.account r
+pay_ask q (AtEntry b) r = Take (OfQueue q.entry.0) Exclusive
+pay_ask q (AtSlip b) r = Plain
+pay_ask q (AtEnd b) r = Plain
 
 -- what it does: the balance falls, the entry is put into its queue, and a slip of the transaction into the journal
-abbrev pub pay_act : Tx Request → Payment → Pay_position → Tables → Action
-pay_act x q At_account r =
+abbrev pub pay_act : Tx Request → Payment → PayPosition → Tables → Action
+pay_act x q AtAccount r =
     given NoAccount (get r.accounts q.account) (λ a.
     if_within (nat_le q.amount a.balance)
-    (Go (Some (SetAccount q.account (Some (debited q a)))) (Paying q (At_entry (a.balance - q.amount)))))
-pay_act x q (At_entry b) r = if_absent (get r.queues q.entry)
-    (Go (Some (SetEntry q.entry (Some (entry_of q)))) (Paying q (At_slip b)))
-pay_act x q (At_slip b) r = if_absent (get r.journal (x.terminal, x.number))
-    (Go (Some (SetSlip (x.terminal, x.number) (Some q.amount))) (Paying q (At_end b)))
-pay_act x q (At_end b) r = Ready (Paid b)
+    (Go (Some (SetAccount q.account (Some (debited q a)))) (Paying q (AtEntry (a.balance - q.amount)))))
+pay_act x q (AtEntry b) r = if_absent (get r.queues q.entry)
+    (Go (Some (SetEntry q.entry (Some (entry_of q)))) (Paying q (AtSlip b)))
+pay_act x q (AtSlip b) r = if_absent (get r.journal (x.terminal, x.number))
+    (Go (Some (SetSlip (x.terminal, x.number) (Some q.amount))) (Paying q (AtEnd b)))
+pay_act x q (AtEnd b) r = Ready (Paid b)
 
 -- the locks that were taken on the way
-abbrev pub pay_taken : Payment → Pay_position → List (Hold Name)
-pay_taken q At_account = []
-pay_taken q (At_entry b) = alone (OfAccount q.account) ∷ []
-pay_taken q (At_slip b) = alone (OfQueue q.entry.0) ∷ alone (OfAccount q.account) ∷ []
-pay_taken q (At_end b) = alone (OfQueue q.entry.0) ∷ alone (OfAccount q.account) ∷ []
+abbrev pub pay_taken : Payment → PayPosition → List (Hold Name)
+pay_taken q AtAccount = []
+pay_taken q (AtEntry b) = alone (OfAccount q.account) ∷ []
+pay_taken q (AtSlip b) = alone (OfQueue q.entry.0) ∷ alone (OfAccount q.account) ∷ []
+pay_taken q (AtEnd b) = alone (OfQueue q.entry.0) ∷ alone (OfAccount q.account) ∷ []
 
 -- an account after an entry for it was served
 abbrev pub credited : Entry → Account → Account
 credited e a = record a { balance = a.balance + e.amount }
 
 -- the locks that serving asks for, position by position
-abbrev pub serve_ask : ℕ → Serve_position → Tables → Ask Name Refusal
-serve_ask d At_queue r = Take (OfQueue d) Exclusive
-serve_ask d (At_target k e) r = Take (OfAccount e.account) Exclusive
-serve_ask d (At_served k) r = Plain
-serve_ask d At_skip r = Plain
+abbrev pub serve_ask : ℕ → ServePosition → Tables → Ask Name Refusal
+serve_ask d AtQueue r = Take (OfQueue d) Exclusive
+serve_ask d (AtTarget k e) r = Take (OfAccount e.account) Exclusive
+serve_ask d (AtServed k) r = Plain
+serve_ask d AtSkip r = Plain
 
 -- the least entry is removed, if there is one
 abbrev pub take_least : ℕ → Option ((ℕ × ℕ) × Entry) → Action
-take_least d None = Go None (Serving d At_skip)
-take_least d (Some p) = Go (Some (SetEntry (d, p.0.1) None)) (Serving d (At_target (d, p.0.1) p.1))
+take_least d None = Go None (Serving d AtSkip)
+take_least d (Some p) = Go (Some (SetEntry (d, p.0.1) None)) (Serving d (AtTarget (d, p.0.1) p.1))
 
 -- what it does: the least entry is removed, and the balance of its account rises
-abbrev pub serve_act : ℕ → Serve_position → Tables → Action
-serve_act d At_queue r = take_least d (least d r)
-serve_act d (At_target k e) r = given NoAccount (get r.accounts e.account)
-    (λ a. Go (Some (SetAccount e.account (Some (credited e a)))) (Serving d (At_served k)))
-serve_act d (At_served k) r = Ready (Served k.1)
-serve_act d At_skip r = Ready Skipped
+abbrev pub serve_act : ℕ → ServePosition → Tables → Action
+serve_act d AtQueue r = take_least d (least d r)
+serve_act d (AtTarget k e) r = given NoAccount (get r.accounts e.account)
+    (λ a. Go (Some (SetAccount e.account (Some (credited e a)))) (Serving d (AtServed k)))
+serve_act d (AtServed k) r = Ready (Served k.1)
+serve_act d AtSkip r = Ready Skipped
 
 -- the locks that were taken on the way, as far as later positions need them
-abbrev pub serve_taken : ℕ → Serve_position → List (Hold Name)
-serve_taken d At_queue = []
-serve_taken d (At_target k e) = alone (OfQueue d) ∷ []
-serve_taken d (At_served k) = []
-serve_taken d At_skip = []
+abbrev pub serve_taken : ℕ → ServePosition → List (Hold Name)
+serve_taken d AtQueue = []
+serve_taken d (AtTarget k e) = alone (OfQueue d) ∷ []
+serve_taken d (AtServed k) = []
+serve_taken d AtSkip = []
 
 -- an account with another owner
 abbrev pub renamed : ℕ → Account → Account
@@ -190,49 +190,49 @@ renamed n a = record a { owner = n }
 
 -- the locks that a renaming asks for, position by position: the old and the new owner's names are held when the owner
 -- changes
-abbrev pub rename_ask : ℕ → ℕ → Rename_position → Tables → Ask Name Refusal
-rename_ask k n To_read r = take_account k r
-rename_ask k n (To_leave old) r = Take (OfOwner old) Exclusive
-rename_ask k n (To_set old) r = Take (OfOwner n) Exclusive
-rename_ask k n To_close r = Plain
+abbrev pub rename_ask : ℕ → ℕ → RenamePosition → Tables → Ask Name Refusal
+rename_ask k n ToRead r = take_account k r
+rename_ask k n (ToLeave old) r = Take (OfOwner old) Exclusive
+rename_ask k n (ToSet old) r = Take (OfOwner n) Exclusive
+rename_ask k n ToClose r = Plain
 
 -- what it does: the old owner is read, and then the owner is changed
-abbrev pub rename_act : ℕ → ℕ → Rename_position → Tables → Action
-rename_act k n To_read r = given NoAccount (get r.accounts k) (λ a. Go None (Renaming k n (To_leave a.owner)))
-rename_act k n (To_leave old) r = Go None (Renaming k n (To_set old))
-rename_act k n (To_set old) r = given NoAccount (get r.accounts k)
-    (λ a. Go (Some (SetAccount k (Some (renamed n a)))) (Renaming k n To_close))
-rename_act k n To_close r = Ready (Renamed n)
+abbrev pub rename_act : ℕ → ℕ → RenamePosition → Tables → Action
+rename_act k n ToRead r = given NoAccount (get r.accounts k) (λ a. Go None (Renaming k n (ToLeave a.owner)))
+rename_act k n (ToLeave old) r = Go None (Renaming k n (ToSet old))
+rename_act k n (ToSet old) r = given NoAccount (get r.accounts k)
+    (λ a. Go (Some (SetAccount k (Some (renamed n a)))) (Renaming k n ToClose))
+rename_act k n ToClose r = Ready (Renamed n)
 
 -- the locks that were taken on the way, as far as later positions need them
-abbrev pub rename_taken : ℕ → Rename_position → List (Hold Name)
-rename_taken k To_read = []
-rename_taken k (To_leave old) = alone (OfAccount k) ∷ []
-rename_taken k (To_set old) = alone (OfOwner old) ∷ alone (OfAccount k) ∷ []
-rename_taken k To_close = []
+abbrev pub rename_taken : ℕ → RenamePosition → List (Hold Name)
+rename_taken k ToRead = []
+rename_taken k (ToLeave old) = alone (OfAccount k) ∷ []
+rename_taken k (ToSet old) = alone (OfOwner old) ∷ alone (OfAccount k) ∷ []
+rename_taken k ToClose = []
 
 -- an account with one more visit
 abbrev pub visited : Account → Account
 visited a = record a { visits = suc a.visits }
 
 -- the locks that a visit asks for, position by position: the owner's name is held when its accounts are looked up
-abbrev pub visit_ask : ℕ → Visit_position → Tables → Ask Name Refusal
-visit_ask n To_find r = Take (OfOwner n) Shared
-visit_ask n (To_visit k) r = Take (OfAccount k) Exclusive
-visit_ask n (To_end k) r = Plain
+abbrev pub visit_ask : ℕ → VisitPosition → Tables → Ask Name Refusal
+visit_ask n ToFind r = Take (OfOwner n) Shared
+visit_ask n (ToVisit k) r = Take (OfAccount k) Exclusive
+visit_ask n (ToEnd k) r = Plain
 
 -- what it does: the owner's first account is found, and its visits are one more
-abbrev pub visit_act : ℕ → Visit_position → Tables → Action
-visit_act n To_find r = given NoAccount (first_owned n r) (λ k. Go None (Visiting n (To_visit k)))
-visit_act n (To_visit k) r = given NoAccount (get r.accounts k)
-    (λ a. Go (Some (SetAccount k (Some (visited a)))) (Visiting n (To_end k)))
-visit_act n (To_end k) r = Ready (Visited k)
+abbrev pub visit_act : ℕ → VisitPosition → Tables → Action
+visit_act n ToFind r = given NoAccount (first_owned n r) (λ k. Go None (Visiting n (ToVisit k)))
+visit_act n (ToVisit k) r = given NoAccount (get r.accounts k)
+    (λ a. Go (Some (SetAccount k (Some (visited a)))) (Visiting n (ToEnd k)))
+visit_act n (ToEnd k) r = Ready (Visited k)
 
 -- the locks that were taken on the way, as far as later positions need them
-abbrev pub visit_taken : ℕ → Visit_position → List (Hold Name)
-visit_taken n To_find = []
-visit_taken n (To_visit k) = record { name = OfOwner n; mode = Shared } ∷ []
-visit_taken n (To_end k) = []
+abbrev pub visit_taken : ℕ → VisitPosition → List (Hold Name)
+visit_taken n ToFind = []
+visit_taken n (ToVisit k) = record { name = OfOwner n; mode = Shared } ∷ []
+visit_taken n (ToEnd k) = []
 
 -- the lock that a program asks for at its position
 abbrev pub ask : Tx Request → Program → Tables → Ask Name Refusal
@@ -257,19 +257,19 @@ taken x (Visiting n p) = visit_taken n p
 
 -- a payment's mark moves to its last change
 abbrev pub marks : Program → Bool
-marks (Paying q (At_slip b)) = true
+marks (Paying q (AtSlip b)) = true
 marks _ = false
 
 -- what inserts a row needs memory
 abbrev pub may_allocate : Tx Request → Program → Bool
-may_allocate x (Paying q (At_entry b)) = true
-may_allocate x (Paying q (At_slip b)) = true
+may_allocate x (Paying q (AtEntry b)) = true
+may_allocate x (Paying q (AtSlip b)) = true
 may_allocate x _ = false
 
 -- a want of memory may stand in the place of an overflow, and of a look-up by owner that finds no account
 abbrev pub yields : Tx Request → Program → Refusal → Bool
 yields x p Overflow = true
-yields x (Visiting n To_find) NoAccount = true
+yields x (Visiting n ToFind) NoAccount = true
 yields x p e = false
 
 -- a renaming of an account that isn't there is turned away

@@ -1,5 +1,5 @@
 use Rattle.std.proofs.Common.{[], ◌∷◌, codes, decimal}
-use Rattle.oe_busy.proofs.TableFacts.{three}
+use Rattle.oe_busy.proofs.BehindFacts.{three}
 use Rattle.oe_busy.proofs.tables.wait_line.Goals as goal
 
 pub returns-clause-items : goal.returns-clause-items

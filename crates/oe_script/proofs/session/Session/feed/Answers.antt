@@ -10,7 +10,7 @@ use Rattle.oe_script.proofs.Splitting.{no_end, before_end, at_end}
 use Rattle.oe_script.proofs.session.Session.feed.Goals as goal
 
 pub returns-in-Err-clause-fed : goal.returns-in-Err-clause-fed
-returns-in-Err-clause-fed g c = λ begun live first start input s.
+returns-in-Err-clause-fed g c = λ d input s.
     let l = c.loop-n in
     let t = l.invariant.taken in
     let n = c.in-Some.n in
@@ -20,18 +20,18 @@ returns-in-Err-clause-fed g c = λ begun live first start input s.
     let new = c.end_line.new.self in
     let sink = g.W.Outlet.sink c.end_line.new.to in
     let found = c.in-Some.ensures in
-    let broken = stand_line begun live g.H.Listener.hears first {T = Unit {0}} {E = Failed} l.listener
+    let broken = stand_line d.begun d.live g.H.Listener.hears d.first {T = Unit {0}} {E = Failed} l.listener
     c.end_line.new.listener
-    start (g.W.Outlet.sink l.to) sink (input ++ t.0) was.out.items
+    d.start (g.W.Outlet.sink l.to) sink (input ++ t.0) was.out.items
     new.out.items (state_of was.core) (state_of new.core) was.count was.line.items was.over
     last (Err c.in-Err.e) (before_end l.rest.now n found) c.in-Err.ensures.answer c.in-Err.ensures.heard
-    (t.3 begun live first start input s) in
-    broken_as begun live start sink _ (input ++ c.args.piece.now)
-    (λ told. HearsEach g.H.Listener.hears first told c.end_line.new.listener)
+    (t.3 d input s) in
+    broken_as d.begun d.live d.start sink _ (input ++ c.args.piece.now)
+    (λ told. HearsEach g.H.Listener.hears d.first told c.end_line.new.listener)
     (ap (λ z. z ++ more) (to_end input t.0 last) ∙ append_assoc input ((t.0 ++ last) ++ 10 ∷ []) more
     ∙ ap (λ z. input ++ z) (past_end t.0 last more l.rest.now (at_end l.rest.now n found) ∙ t.1))
-    (broken_more begun live start sink (((input ++ t.0) ++ last) ++ 10 ∷ []) more
-    (λ told. HearsEach g.H.Listener.hears first told c.end_line.new.listener) broken)
+    (broken_more d.begun d.live d.start sink (((input ++ t.0) ++ last) ++ 10 ∷ []) more
+    (λ told. HearsEach g.H.Listener.hears d.first told c.end_line.new.listener) broken)
 
 pub loop-n-preserved : goal.loop-n-preserved
 loop-n-preserved g c =
@@ -51,45 +51,42 @@ loop-n-preserved g c =
         ap (λ z. front ++ z) (take_rest l.rest.now (n + 1)) ∙ past_end t.0 last more l.rest.now
             (at_end l.rest.now n found) ∙ t.1,
         omega (arith, t.2, e.count, length-append (t.0 ++ last) (10 ∷ []), length-append t.0 last),
-        λ begun live first start input s.
-            standing_as begun live g.H.Listener.hears first c.end_line.new.listener start (g.W.Outlet.sink
+        λ d input s.
+            standing_as d.begun d.live g.H.Listener.hears d.first c.end_line.new.listener d.start (g.W.Outlet.sink
             c.end_line.new.to) _ _
             new.out.items (state_of new.core) new.count new.line.items new.over (to_end input t.0 last)
-            (standing_same begun live g.H.Listener.hears first c.end_line.new.listener start
+            (standing_same d.begun d.live g.H.Listener.hears d.first c.end_line.new.listener d.start
             (g.W.Outlet.sink c.end_line.new.to) (((input ++ t.0) ++ last) ++ 10 ∷ []) new.out.items new.out.items
             (state_of new.core) (state_of new.core) (was.count + 1) new.count [] new.line.items false new.over
             refl refl (sym e.count) (sym e.line) (sym e.over)
-            (stand_line begun live g.H.Listener.hears first {T = Unit {0}} {E = Failed} l.listener
-            c.end_line.new.listener start
+            (stand_line d.begun d.live g.H.Listener.hears d.first {T = Unit {0}} {E = Failed} l.listener
+            c.end_line.new.listener d.start
             (g.W.Outlet.sink l.to) (g.W.Outlet.sink c.end_line.new.to)
             (input ++ t.0) was.out.items new.out.items (state_of was.core) (state_of new.core) was.count
             was.line.items
-            was.over last (Ok tt) (before_end l.rest.now n found) e.answer e.heard (t.3 begun live first start input
-            s))),
+            was.over last (Ok tt) (before_end l.rest.now n found) e.answer e.heard (t.3 d input s))),
       );
       live = e.live;
     }
 
 pub returns-clause-fed : goal.returns-clause-fed
-returns-clause-fed g c = λ begun live first start input s.
+returns-clause-fed g c = λ d input s.
     let l = c.loop-n in
     let t = l.invariant.taken in
     let was = l.self in
     let new = c.keep.new.self in
     let e = c.keep.ensures in
     let sink = g.W.Outlet.sink l.to in
-    standing_as begun live g.H.Listener.hears first l.listener start sink _ _ new.out.items (state_of new.core)
+    standing_as d.begun d.live g.H.Listener.hears d.first l.listener d.start sink _ _ new.out.items (state_of new.core)
     new.count
     new.line.items new.over (append_assoc input t.0 l.rest.now ∙ ap (λ z. input ++ z) t.1)
-    (standing_same begun live g.H.Listener.hears first l.listener start sink ((input ++ t.0) ++ l.rest.now)
+    (standing_same d.begun d.live g.H.Listener.hears d.first l.listener d.start sink ((input ++ t.0) ++ l.rest.now)
     was.out.items
     new.out.items (state_of was.core) (state_of new.core) was.count new.count new.line.items new.line.items new.over
     new.over (ap (λ z. z.items) (sym e.out)) (ap state_of (sym e.core)) (sym e.count) refl refl
-    (stand_bytes begun live g.H.Listener.hears first l.listener start sink (input ++ t.0) was.out.items (state_of
-    was.core)
-    was.count was.line.items new.line.items
-    was.over new.over l.rest.now
-    (no_end l.rest.now c.in_default.ensures) e.line (t.3 begun live first start input s)))
+    (stand_bytes d.begun d.live g.H.Listener.hears d.first l.listener d.start sink (input ++ t.0) was.out.items
+    (state_of was.core) was.count was.line.items new.line.items was.over new.over l.rest.now
+    (no_end l.rest.now c.in_default.ensures) e.line (t.3 d input s)))
 
 pub loop-n-init : goal.loop-n-init
 loop-n-init g c =
@@ -99,9 +96,9 @@ loop-n-init g c =
         [],
         refl,
         omega arith,
-        λ begun live first start input s.
-            standing_as begun live g.H.Listener.hears first c.args.listener.now start (g.W.Outlet.sink c.args.to.now)
-            input
+        λ d input s.
+            standing_as d.begun d.live g.H.Listener.hears d.first c.args.listener.now d.start
+            (g.W.Outlet.sink c.args.to.now) input
             (input ++ []) was.out.items (state_of was.core) was.count was.line.items was.over
             (sym (append-nil input)) s,
       );

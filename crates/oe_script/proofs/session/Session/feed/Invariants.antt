@@ -1,7 +1,5 @@
-use Rattle.std.proofs.Common.{◌≡◌, ℕ, ◌+◌, ◌≤◌, List, ◌++◌, length, Option}
-use Rattle.oe_io.specs.Ports.{Sink}
-use Rattle.oe_script.specs.Script.{State}
-use Rattle.oe_script.specs.Session.{state_of, Standing}
+use Rattle.std.proofs.Common.{◌≡◌, ℕ, ◌+◌, ◌≤◌, List, ◌++◌, length}
+use Rattle.oe_script.specs.Session.{state_of, Dialogue, StandsIn}
 use Rattle.oe_admission.specs.Programs.{IsLive}
 use Rattle.oe_script.proofs.session.Session.feed.Given as goal
 
@@ -9,12 +7,9 @@ use Rattle.oe_script.proofs.session.Session.feed.Given as goal
 abbrev pub invariant-loop-n : goal.invariant-loop-n
 invariant-loop-n g l = record {
   taken : (front : List ℕ) × (front ++ l.rest ≡ l.piece) × (l.self.count ≤ l.initial.self.count + length front)
-      × ((begun : State) → IsLive begun → (first : g.row.H.Denot) (start : Option Sink) (input : List ℕ) →
-      Standing begun g.H.Listener.hears first l.initial.listener start input (g.W.Outlet.sink l.initial.to)
-      l.initial.self.out.items (state_of l.initial.self.core)
-      l.initial.self.count l.initial.self.line.items l.initial.self.over →
-      Standing begun g.H.Listener.hears first l.listener start (input ++ front) (g.W.Outlet.sink l.to) l.self.out.items
-      (state_of l.self.core) l.self.count l.self.line.items l.self.over);
+      × ((d : Dialogue g.row.H.Denot) (input : List ℕ)
+      → StandsIn d g.H.Listener.hears input l.initial.listener (g.W.Outlet.sink l.initial.to) l.initial.self
+      → StandsIn d g.H.Listener.hears (input ++ front) l.listener (g.W.Outlet.sink l.to) l.self);
   live : IsLive (state_of l.self.core);
 }
 

@@ -5,24 +5,24 @@ use Rattle.oe_script.proofs.Reaching.{end_cut, end_flush, end_sent}
 use Rattle.oe_script.proofs.session.Session.finish.Goals as goal
 
 pub returns-in-Err : goal.returns-in-Err
-returns-in-Err g c = λ begun live first start input s.
+returns-in-Err g c = λ d input s.
     let was = c.args.self.now in
-    end_cut begun live g.H.Listener.hears first c.args.listener.now start (g.W.Outlet.sink c.args.to.now)
+    end_cut d.begun d.live g.H.Listener.hears d.first c.args.listener.now d.start (g.W.Outlet.sink c.args.to.now)
     (g.W.Outlet.sink c.end_last.new.to) input was.out.items
     (state_of was.core) was.count was.line.items was.over c.in-Err.ensures s
 
 pub returns-in-Err-flush : goal.returns-in-Err-flush
-returns-in-Err-flush g c = λ begun live first start input s.
+returns-in-Err-flush g c = λ d input s.
     let was = c.args.self.now in
-    end_flush begun live g.H.Listener.hears first c.args.listener.now start (g.W.Outlet.sink c.args.to.now)
+    end_flush d.begun d.live g.H.Listener.hears d.first c.args.listener.now d.start (g.W.Outlet.sink c.args.to.now)
     (g.W.Outlet.sink c.end_last.new.to) (g.W.Outlet.sink c.flush.new.to)
     input was.out.items c.end_last.new.self.out.items (state_of was.core) was.count was.line.items was.over
     c.in_default.ensures c.in-Err-flush.ensures.stream s
 
 pub returns-then-is_begun : goal.returns-then-is_begun
-returns-then-is_begun g c = λ begun live first start input s.
+returns-then-is_begun g c = λ d input s.
     let was = c.args.self.now in
-    end_sent begun live g.H.Listener.hears first c.args.listener.now c.hear.new.self start (g.W.Outlet.sink
+    end_sent d.begun d.live g.H.Listener.hears d.first c.args.listener.now c.hear.new.self d.start (g.W.Outlet.sink
     c.args.to.now)
     (g.W.Outlet.sink c.end_last.new.to) (g.W.Outlet.sink c.flush.new.to)
     input was.out.items c.end_last.new.self.out.items
@@ -32,10 +32,10 @@ returns-then-is_begun g c = λ begun live first start input s.
     c.hear.new.self (c.is_begun-is_begun.ensures.begun c.if-is_begun.true) holds c.hear.ensures) s
 
 pub returns-else-is_begun : goal.returns-else-is_begun
-returns-else-is_begun g c = λ begun live first start input s.
+returns-else-is_begun g c = λ d input s.
     let was = c.args.self.now in
     let fresh = c.is_begun-is_begun.ensures.fresh c.if-is_begun.false in
-    end_sent begun live g.H.Listener.hears first c.args.listener.now c.args.listener.now start (g.W.Outlet.sink
+    end_sent d.begun d.live g.H.Listener.hears d.first c.args.listener.now c.args.listener.now d.start (g.W.Outlet.sink
     c.args.to.now)
     (g.W.Outlet.sink c.end_last.new.to) (g.W.Outlet.sink c.flush.new.to)
     input was.out.items c.end_last.new.self.out.items

@@ -45,8 +45,12 @@ returns-in-Ok-finish g c =
     (g.R.Intake.source c.read.new.self) (g.W.Outlet.sink c.args.writer.now) (g.W.Outlet.sink c.finish.new.to)
     i.0 c.read.new.buf c.loop.counter i.1 (rw c.in-Ok-eq0.field-0-test at c.in-Ok-eq0.ensures.bytes)
     (omega (arith, c.read.auto.buf, c.loop.invariant.room))
-    (c.in-Ok-finish.ensures (state_of c.args.self.now.core) c.requires.live c.args.listener.now (g.W.Outlet.sink
-    c.args.writer.now) i.0 i.2)
+    (c.in-Ok-finish.ensures (record {
+      begun = state_of c.args.self.now.core;
+      live = c.requires.live;
+      first = c.args.listener.now;
+      start = g.W.Outlet.sink c.args.writer.now;
+    }) i.0 i.2)
 
 pub returns-in-Err-finish : goal.returns-in-Err-finish
 returns-in-Err-finish g c =
@@ -59,8 +63,12 @@ returns-in-Err-finish g c =
     (read_end (g.R.Intake.source c.args.reader.now) (g.R.Intake.source c.loop.reader)
     (g.R.Intake.source c.read.new.self) i.0 c.read.new.buf c.loop.counter i.1
     (rw c.in-Ok-eq0.field-0-test at c.in-Ok-eq0.ensures.bytes))
-    (c.in-Err-finish.ensures (state_of c.args.self.now.core) c.requires.live c.args.listener.now (g.W.Outlet.sink
-    c.args.writer.now) i.0 i.2)
+    (c.in-Err-finish.ensures (record {
+      begun = state_of c.args.self.now.core;
+      live = c.requires.live;
+      first = c.args.listener.now;
+      start = g.W.Outlet.sink c.args.writer.now;
+    }) i.0 i.2)
 
 pub returns-in-Err-answer : goal.returns-in-Err-answer
 returns-in-Err-answer g c =
@@ -77,8 +85,12 @@ returns-in-Err-answer g c =
     c.args.listener.now told c.answer.new.listener)
     (g.W.Outlet.sink c.args.writer.now) (g.W.Outlet.sink c.answer.new.to)
     (i.0 ++ take c.in-Ok.n c.read.new.buf)
-    (c.in-Err-answer.ensures.fed (state_of c.args.self.now.core) c.requires.live c.args.listener.now (g.W.Outlet.sink
-    c.args.writer.now) i.0 i.2))
+    (c.in-Err-answer.ensures.fed (record {
+      begun = state_of c.args.self.now.core;
+      live = c.requires.live;
+      first = c.args.listener.now;
+      start = g.W.Outlet.sink c.args.writer.now;
+    }) i.0 i.2))
 
 pub loop-preserved : goal.loop-preserved
 loop-preserved g c =
@@ -101,8 +113,12 @@ loop-preserved g c =
         read_more (g.R.Intake.source c.args.reader.now) (g.R.Intake.source c.loop.reader)
             (g.R.Intake.source c.read.new.self) i.0 c.read.new.buf c.loop.counter c.in-Ok.n i.1
             c.in-Ok.ensures.bytes c.in-Ok.ensures.bound (omega (arith, c.in-Ok.n-test)),
-        c.in_default.ensures.fed (state_of c.args.self.now.core) c.requires.live c.args.listener.now (g.W.Outlet.sink
-            c.args.writer.now) i.0 i.2,
+        c.in_default.ensures.fed (record {
+          begun = state_of c.args.self.now.core;
+          live = c.requires.live;
+          first = c.args.listener.now;
+          start = g.W.Outlet.sink c.args.writer.now;
+        }) i.0 i.2,
       );
     }
 
