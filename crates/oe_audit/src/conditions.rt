@@ -1,10 +1,9 @@
 //! The verdicts of the consistency conditions (clauses 3.3.2.1 to 3.3.2.10 and 3.3.2.12), of the
 //! rows as they stand or stood at a moment.
-ghost use Rattle.std.specs.Prelude.{◌≡◌, IsTrue, IfOk, IfErr, OnOk};
+ghost use Rattle.std.specs.Prelude.{◌≡◌, IfOk, IfErr, OnOk};
 ghost use Rattle.oe_model.specs.Audits.{First};
 ghost use Rattle.oe_store.specs.Places.{rows};
-ghost use Rattle.oe_log.specs.Log.{open_total};
-ghost use Rattle.oe_log.specs.Moments.{newest, IsKeptMoment, IsUnkept};
+ghost use Rattle.oe_log.specs.Moments.{IsKeptMoment, IsUnkept};
 ghost use Rattle.oe_versions.specs.Versions.{version};
 ghost use Rattle.oe_audit.specs.AsOf.{rows_then, model_condition, passes, ArePassed};
 ghost use Rattle.oe_audit.specs.Verdict.{IsVerdict, IsAudited};
@@ -117,15 +116,6 @@ pub fn condition(number: Condition, tables: &Tables) -> Verdict
     found(number, tables, &AsOf::Now)
 }
 
-/// Tells whether there is nothing to put back: no commit is later than the moment, and no
-/// transaction is open.
-fn is_settled(undo: &Undo, moment: Moment) -> bool
-    ensures commits { IsTrue result → newest undo.now.log ≡ moment }
-    ensures open { IsTrue result → open_total undo.now.log ≡ 0 }
-{
-    undo.segments().newest().get() == moment.get() && undo.segments().open_count() == 0
-}
-
 /// Gives the verdict of a consistency condition at a moment, as `condition` would have given it
 /// when that moment was the newest, whatever has been open or committed since: that it held, or the
 /// first row, in key order, at which it failed. Nothing is asked of the rows but that a walk of
@@ -148,7 +138,7 @@ pub fn condition_at(
 {
     match Version::at(tables, undo, moment) {
         Ok(version) => {
-            if is_settled(undo, moment) {
+            if version.is_settled() {
                 return Ok(condition(number, tables));
             }
             Ok(found(number, tables, &AsOf::Moment(version)))

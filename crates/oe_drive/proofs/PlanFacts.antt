@@ -1,5 +1,6 @@
 -- One more errand of a terminal, and one more terminal.
-use Rattle.std.proofs.Common.{◌≡◌, ℕ, suc, ◌+◌, ◌-◌, List, [], ◌∷◌, ◌++◌, map, sym, ap, subst, ◌∙◌, refl, arith}
+use Rattle.std.proofs.Common.{◌≡◌, ℕ, suc, ◌+◌, ◌-◌, List, [], ◌∷◌, ◌++◌, map, sym, ap, subst, ◌∙◌, arith}
+use Rattle.std.proofs.lemmas.List.{map-append}
 use Rattle.rand_pcg.specs.Lcg.{Lcg}
 use Rattle.oe_rows.specs.declared.scales.Scale.{Scale}
 use Rattle.oe_requests.specs.declared.requests.Errand.{Errand}
@@ -19,10 +20,6 @@ errands_more s seed t n m g g1 e before after done at number drawn pushed =
     (pushed ∙ (ap (λ (es : List Errand). es ++ e ∷ []) done ∙ ap (λ (x : Errand). errands_of s seed t n ++ x ∷ [])
     (same ∙ ap (request_of s seed t) as_next)))
 
-map_last : {A B : Type 0} (f : A → B) (xs : List A) (x : A) → map f (xs ++ x ∷ []) ≡ map f xs ++ f x ∷ []
-map_last f [] x = refl
-map_last f (y ∷ ys) x = ap (λ t. f y ∷ t) (map_last f ys x)
-
 pub plans_more : (s : Scale) (seed requests n t : ℕ) (p : Plan) (before after : List Plan)
     → map errands_in before ≡ errands_by s seed requests n → t ≡ n + 1
     → errands_in p ≡ errands_of s seed t requests → after ≡ before ++ p ∷ []
@@ -31,7 +28,7 @@ plans_more s seed requests n t p before after done number drawn pushed =
     let next : suc n ≡ n + 1 = omega arith in
     let as_next : t ≡ suc n = number ∙ sym next in
     subst (λ (k : ℕ). map errands_in after ≡ errands_by s seed requests k) next
-    (ap (map errands_in) pushed ∙ (map_last errands_in before p
+    (ap (map errands_in) pushed ∙ (map-append errands_in before (p ∷ [])
     ∙ (ap (λ (es : List (List Errand)). es ++ errands_in p ∷ []) done
     ∙ ap (λ (x : List Errand). errands_by s seed requests n ++ x ∷ [])
     (drawn ∙ ap (λ (k : ℕ). errands_of s seed k requests) as_next))))

@@ -1,7 +1,7 @@
 -- What is known of desks is known of their stations, and what is known of stations is known of the plans.
 use Rattle.std.proofs.Common.{◌≡◌, ◌⊎◌, ℕ, zero, suc, ◌+◌, List, [], ◌∷◌, ◌++◌, length, map, sym, ap, subst, ◌∙◌, refl}
 use Rattle.std.proofs.Common.{inl, inr, Some, slice_get, sum_by, arith}
-use Rattle.std.proofs.lemmas.List.{length-map}
+use Rattle.std.proofs.lemmas.List.{length-map, map-append}
 use Rattle.std.proofs.lemmas.List.Sums.{sum_by_push}
 use Rattle.oe_requests.specs.declared.requests.Errand.{Errand}
 use Rattle.oe_history.specs.Views.{calls_by}
@@ -17,10 +17,6 @@ use Rattle.oe_drive.specs.Posts.{station_of}
 use Rattle.oe_drive.specs.Stations.{TheStation, IsWhole, KeepsPlan, HasCarriedOut, HaveCarriedOut}
 
 -- LISTS WITH ONE MORE
-
-map_last : {A B : Type 0} (f : A → B) (xs : List A) (x : A) → map f (xs ++ x ∷ []) ≡ map f xs ++ f x ∷ []
-map_last f [] x = refl
-map_last f (y ∷ ys) x = ap (λ t. f y ∷ t) (map_last f ys x)
 
 -- what stands at a place stood there, or is the last
 get_last : {A : Type 0} (xs : List A) (x y : A) (k : ℕ) → slice_get (xs ++ x ∷ []) k ≡ Some y
@@ -104,7 +100,7 @@ pub plan_seated : (log : List Entry) (X : Type 0) (before rest : List Plan) (p :
     → (HaveCarriedOut log ss → ArePlansCarriedOut log (map errands_in before) → X)
     → HaveCarriedOut log after → ArePlansCarriedOut log (map errands_in rest) → X
 plan_seated log X before rest p ss after s popped pushed same number so all others =
-    let last = ap (map errands_in) popped ∙ map_last errands_in rest p in
+    let last = ap (map errands_in) popped ∙ map-append errands_in rest (p ∷ []) in
     let (front, one) = have_front log ss s (subst (HaveCarriedOut log) pushed all) in
     let here : AreCarriedOut (suc (length rest)) (errands_in p) (calls_by (suc (length rest)) log) =
     subst (λ (t : ℕ). AreCarriedOut t (errands_in p) (calls_by t log)) number
@@ -118,7 +114,7 @@ pub station_posted : {J : Type 0} (log : List Entry) (X : Type 0) (before rest :
     → KeepsPlan s (station_of p) → (HaveCarriedOut log (map station_of posts) → HaveCarriedOut log before → X)
     → HaveCarriedOut log (map station_of after) → HaveCarriedOut log rest → X
 station_posted log X before rest s posts after p popped pushed keeps so all others =
-    let last = ap (map station_of) pushed ∙ map_last station_of posts p in
+    let last = ap (map station_of) pushed ∙ map-append station_of posts (p ∷ []) in
     let (front, one) = have_front log (map station_of posts) (station_of p) (subst (HaveCarriedOut log) last all) in
     so front (subst (HaveCarriedOut log) (sym popped)
     (have_last log rest s others (same_plan log s (station_of p) keeps one)))
@@ -130,7 +126,7 @@ pub desk_risen : {J : Type 0} (log : List Entry) (X : Type 0) (before rest : Lis
     → (AreKnown log desks → HaveCarriedOut log (map station_of before) → X)
     → AreKnown log after → HaveCarriedOut log (map station_of rest) → X
 desk_risen log X before rest p desks after r popped pushed keeps whole so known others =
-    let last = ap (map station_of) popped ∙ map_last station_of rest p in
+    let last = ap (map station_of) popped ∙ map-append station_of rest (p ∷ []) in
     let (front, one) = known_front log desks r.desk (subst (AreKnown log) pushed known) in
     so front (subst (HaveCarriedOut log) (sym last)
     (have_last log (map station_of rest) (station_of p) others

@@ -172,8 +172,8 @@ fn drive_all<J: Naming + Send + Sync, H: Threads + Wait + Sync, G: Gate + Sync>(
     }
 }
 
-// Gives what a drive left, where each terminal had a thread and carried out its plan and its commits
-// had memory, and lets it go otherwise.
+// Gives what a drive left, where each terminal had a thread and carried out its plan and its
+// commits had memory, and lets it go otherwise.
 fn left(closed: Closed, deeds: Deeds, is_whole: bool) -> Result<Driven, NoMemory>
     ensures same { IfOk result (λ d. (d.core ≡ closed.core) × (d.counted ≡ closed.counted)
         × (d.history ≡ closed.history)) }
@@ -267,7 +267,8 @@ fn run_all<J: Naming + Send + Sync, H: Threads + Wait + Sync, G: Gate + Sync>(
         move |scope| -> (Vec<Post<J>>, bool)
             requires { (posts.items ≡ []) × (length stations.items ≤ vec_capacity posts) }
             ensures count { length result.0.items ≡ length stations.items }
-            ensures carried { (log : List Entry) → HaveCarriedOut log (map station_of result.0.items)
+            ensures carried { (log : List Entry)
+                → HaveCarriedOut log (map station_of result.0.items)
                 → HaveCarriedOut log stations.items }
         {
             front_crosses::<J>();

@@ -23,11 +23,8 @@ use Rattle.oe_versions.specs.Versions.{version, Stand}
 use Rattle.oe_versions.proofs.ChosenFacts.{rows_at, kept_is}
 use Rattle.oe_versions.proofs.LastingFacts.{rows_last}
 use Rattle.oe_enquiry.specs.Level.{listed, items_sold, AreStanding}
-use Rattle.oe_enquiry.proofs.SoldFacts.{Lists, items_are}
+use Rattle.oe_enquiry.proofs.SoldFacts.{Entry, Lists, items_are}
 use Rattle.oe_enquiry.proofs.FewFacts.{lines_are_recent, recent_rows}
-
-abbrev Entry : Type 0
-Entry = OrderLineKey × OrderLine
 
 -- the numbers of lines that stand are in their range
 in_range : (ts : tables.Places) → AreNumbered (rows ts) → (k : OrderLineKey)

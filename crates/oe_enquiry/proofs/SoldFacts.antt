@@ -4,7 +4,7 @@ use Rattle.std.proofs.Common.{Some, List, [], ◌∷◌, ◌++◌, map, length, 
 use Rattle.std.specs.Prelude.{◌-◌, ◌*◌, not, ◌&&◌, option_map, take}
 use Rattle.std.specs.List.{cons_option}
 use Rattle.std.specs.FinMap.{get}
-use Rattle.std.proofs.lemmas.List.{append_assoc}
+use Rattle.std.proofs.lemmas.List.{append_assoc, map-append}
 use Rattle.std.proofs.Math.Seq.{take-suc}
 use Rattle.oe_rows.specs.declared.keys.OrderLineKey.{OrderLineKey}
 use Rattle.oe_rows.specs.declared.orders.OrderLine.{OrderLine}
@@ -14,7 +14,8 @@ use Rattle.oe_versions.proofs.ChosenFacts.{rows_at}
 use Rattle.oe_enquiry.specs.declared.items.Sold.{Sold}
 use Rattle.oe_enquiry.specs.Level.{listed, is_listed, sold_in, sold_of, AreStanding, HasQuantity, HaveQuantities}
 
-abbrev Entry : Type 0
+-- a line with its key, as a walk gives it
+abbrev pub Entry : Type 0
 Entry = OrderLineKey × OrderLine
 
 abbrev item : Sold → ℕ
@@ -102,10 +103,6 @@ listed_behind p [] items js = refl
 listed_behind p (i ∷ is) items js =
     listed_behind p is (cond (not (is_listed items i) && p i) (items ++ i ∷ []) items) js
 
-map_behind : (xs ys : List Sold) → map item (xs ++ ys) ≡ map item xs ++ map item ys
-map_behind [] ys = refl
-map_behind (x ∷ xs) ys = ap (λ is. x.item ∷ is) (map_behind xs ys)
-
 suc_is : (n : ℕ) → suc n ≡ n + 1
 suc_is n = omega arith
 
@@ -127,7 +124,7 @@ module _ (v : VersionState) (w : ℕ) (p : ℕ → Bool) where
   picks_one old items items' ss n s h lt at is more = record {
     is = is ∙ ap (λ zs. listed p zs (s.item ∷ [])) h.is
         ∙ sym (listed_behind p (map item (take n ss)) old (s.item ∷ []))
-        ∙ ap (listed p old) (sym (map_behind (take n ss) (s ∷ []))
+        ∙ ap (listed p old) (sym (map-append item (take n ss) (s ∷ []))
         ∙ ap (map item) (ap (λ x. take n ss ++ x ∷ []) at ∙ sym (take-suc ss n s lt)
         ∙ ap (λ (k : ℕ). take k ss) (suc_is n)));
     few = (let few : length items ≤ length old + n = h.few in omega (arith, few, more));
@@ -147,7 +144,7 @@ module _ (v : VersionState) (w : ℕ) (p : ℕ → Bool) where
   lists_part all items items' es es' ss n l is standing taken most listed' more = record {
     rest = ap (λ is. listed p is (map item (sold_of v w es'))) listed'
         ∙ sym (listed_behind p (map item ss) items (map item (sold_of v w es')))
-        ∙ ap (listed p items) (sym (map_behind ss (sold_of v w es')) ∙ ap (map item) is) ∙ l.rest;
+        ∙ ap (listed p items) (sym (map-append item ss (sold_of v w es')) ∙ ap (map item) is) ∙ l.rest;
     standing = standing;
     few = (let few : length items + length es ≤ 300 = l.few in omega (arith, few, taken, more));
     left = (let left : length es ≤ 304 - 16 * n = l.left in omega (arith, left, most));

@@ -1,4 +1,4 @@
-//! Drives in which each terminal carries out one request.
+//! Drives in which each terminal carries out one request, or leaves a delivery to the worker.
 ghost use Rattle.std.specs.Prelude.{◌≡◌};
 ghost use Rattle.oe_theory.specs.Theorems.{opened};
 ghost use Rattle.oe_model.specs.Conditions.{IsPopulation};
@@ -9,9 +9,9 @@ ghost use Rattle.oe_hall.specs.Naming.{named};
 use crate::asks::{Ask, request};
 use crate::scripts::PLACES;
 use crate::shows::{extents as extents_of, opened, populated, seats};
-use oe_drive::{Deeds, Driven, Gate, Plan, drive};
+use oe_drive::{Ajar, Deeds, Driven, Gate, Plan, drive};
 use oe_hall::{Counted, Naming, Seats};
-use oe_requests::Errand;
+use oe_requests::{Errand, Request};
 use oe_store::Tables;
 use oe_values::ExtentCount;
 use std::alloc::Global;
@@ -20,11 +20,14 @@ use std::process::Abort;
 use std::sync::Wait;
 use std::thread::Threads;
 
-// Makes a plan of one request.
+// Makes a plan of one request, which is left in the queue where it is the delivery of a warehouse.
 fn plan(rt: &impl Abort, alloc: Global, ask: Ask) -> Plan {
     let mut errands = Vec::new(alloc);
-    let request = request(rt, &PLACES[0], ask);
-    if errands.push(Errand::Begin(request)).is_err() {
+    let errand = match request(rt, &PLACES[0], ask) {
+        Request::Deliveries(deliveries) => Errand::Deliver(deliveries),
+        other => Errand::Begin(other),
+    };
+    if errands.push(errand).is_err() {
         panic!(rt; "no memory");
     }
     Plan { errands }
@@ -87,4 +90,12 @@ pub(crate) fn driven_at<H: Threads + Wait + Abort + Sync, G: Gate + Sync>(
     let seats = seats(rt, alloc, 7, PLACES[0].layout);
     let tables = populated(rt, alloc);
     driven::<Brand, H, G>(rt, alloc, gate, tables, seats, extents, asks)
+}
+
+// Both terminals leave a delivery in the queue, and only the worker begins a transaction.
+#[test]
+fn the_worker_carries_out_what_is_queued(rt: HostRuntime) {
+    let asks = [Ask::Deliveries(3), Ask::Deliveries(7)];
+    let (counted, deeds) = driven_at(&rt, rt.alloc(), &Ajar, 4_096, &asks);
+    assert!(rt; deeds.deliveries == 2 && counted.begun == 2 && counted.committed == 2);
 }

@@ -94,6 +94,15 @@ impl<'a> Version<'a> {
         }
     }
 
+    /// Tells whether there is nothing to put back: no commit is later than the moment, and no
+    /// transaction is open.
+    pub fn is_settled(&self) -> bool
+        ensures commits { IsTrue result → newest self.now.log ≡ self.now.moment }
+        ensures open { IsTrue result → open_total self.now.log ≡ 0 }
+    {
+        self.is_settled
+    }
+
     /// Gives the tables as they stand, which it borrows.
     pub fn tables(&self) -> &'a Tables
         ensures { result.now ≡ self.now.tables }

@@ -10,7 +10,8 @@ pub returns-then-is_settled-clause-verdict : goal.returns-then-is_settled-clause
 returns-then-is_settled-clause-verdict c =
     audited_now c.args.tables.now c.args.undo.now.log c.args.moment (condition_of c.args.number)
     (verdict_of c.condition.result)
-    (c.is_settled.ensures.commits c.if-is_settled.true) (c.is_settled.ensures.open c.if-is_settled.true)
+    (rw c.in-Ok.ensures.version at (c.is_settled.ensures.commits c.if-is_settled.true))
+    (rw c.in-Ok.ensures.version at (c.is_settled.ensures.open c.if-is_settled.true))
     c.condition.ensures
 
 pub found-requires : goal.found-requires
