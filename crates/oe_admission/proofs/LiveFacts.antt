@@ -5,11 +5,12 @@ use Rattle.oe_theory.specs.Machine.{Go}
 use Rattle.oe_theory.specs.World.{World, State, Open, set, tx_of, tables}
 use Rattle.oe_theory.specs.Theorems.{IsReached}
 use Rattle.oe_theory.specs.Next as theory
-use Rattle.oe_theory.specs.Next.{Next, begun, moved, Advance, More, begins, goes_on, commits, saves, goes_back}
+use Rattle.oe_theory.specs.Next.{Next, open_at_begin, open_after, Advance, More, begins, goes_on, commits, saves}
+use Rattle.oe_theory.specs.Next.{goes_back}
 use Rattle.oe_theory.specs.Next.{rolls_back, reads, audits, purges, rewinds, stops, fails, is_busy, is_full}
 use Rattle.oe_theory.specs.Next.{is_rejected, is_open, number_is_rejected, query_is_rejected, misses, not_open, too_old}
 use Rattle.oe_theory.specs.Next.{future, not_quiet, lacks_memory_at_begin, lacks_memory}
-use Rattle.oe_theory.specs.Undo.{with_change, changed}
+use Rattle.oe_theory.specs.Undo.{with_change, tables_with}
 use Rattle.oe_theory.proofs.Sets.{set_same}
 use Rattle.oe_theory.proofs.Theorems.{run_is_reached, world_has_records, tables_follow}
 use Rattle.oe_requests.specs.declared.requests.Request.{Request}
@@ -58,9 +59,9 @@ marked false now mark h k = k
 
 served_stay : (w : World system) (i : theory.Step system) (a : theory.Answer system) (w' : World system)
     → AreServing w → Next system w i a w' → AreServing w'
-served_stay w _ _ _ h (begins t q m) = placed t (Some (begun system w t q)) w.active h (starts q, starts q)
+served_stay w _ _ _ h (begins t q m) = placed t (Some (open_at_begin system w t q)) w.active h (starts q, starts q)
 served_stay w _ _ _ h (goes_on t o c p e g r room) =
-    placed t (Some (moved system w.layout o _ c p (tables system w))) w.active h (
+    placed t (Some (open_after system w.layout o _ c p (tables system w))) w.active h (
       (goes (tx_of system t o) o.now.position (tables system w) c p (here w h t o e).0 r).0,
       marked
           (marks o.now.position) o.now o.mark (here w h t o e).0 (here w h t o e).1,
@@ -108,13 +109,13 @@ tables_on : (w : World system) (t : ℕ) (o : Open system) (c : Option Change) (
 tables_on w t o c p v l e r n =
     let (u, k) = world_has_records system laws w l in
     tables_follow system laws w v u (Advance t) More l k n
-    ∙ (ap (changed system w t) e ∙ ap (λ (d : Doing). with_change system d (tables system w)) r)
+    ∙ (ap (tables_with system w t) e ∙ ap (λ (d : Doing). with_change system d (tables system w)) r)
 
 falls_by : (w : World system) (i : theory.Step system) (a : theory.Answer system) (w' : World system) (t : ℕ)
     → IsLive (Some w) → Next system w i a w' → i ≡ Advance t → a ≡ More → left w' t < left w t
 falls_by w _ _ _ t l (goes_on u o c p e g r room) i a =
     let same : u ≡ t = cc in
-    let next : Open system = moved system w.layout o (ask (tx_of system u o) o.now.position (tables system w)) c p
+    let next : Open system = open_after system w.layout o (ask (tx_of system u o) o.now.position (tables system w)) c p
     (tables system w) in
     let before : Rows = tables system w in
     let after : Rows = with_change system (Go c p) before in

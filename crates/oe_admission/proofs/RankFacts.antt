@@ -35,7 +35,7 @@ use Rattle.oe_model.specs.Rows.{Rows}
 use Rattle.oe_model.specs.Changes.{Change, InsertHistory, InsertNewOrder, InsertOrder, InsertOrderLine, UpdateWarehouse}
 use Rattle.oe_model.specs.Changes.{UpdateDistrict, UpdateCustomer, UpdateOrder, UpdateOrderLine, UpdateStock}
 use Rattle.oe_model.specs.Changes.{DeleteNewOrder}
-use Rattle.oe_model.specs.Choice.{chosen}
+use Rattle.oe_model.specs.Choice.{customer_meant}
 use Rattle.oe_model.specs.Effects.{Doing}
 use Rattle.oe_model.specs.Positions.{Position, InPayment, InNewOrder, InDelivery, InDeliveries, DeliveriesEnd}
 use Rattle.oe_model.specs.Payment.{behind_district}
@@ -47,7 +47,8 @@ use Rattle.oe_model.specs.Positions.{DeliveryPosition, DeliveryQueue, DeliveryNo
 use Rattle.oe_model.specs.Positions.{DeliveryEnd, RenamePosition, RenameCustomer, RenameOld, RenameNew, RenameEnd}
 use Rattle.oe_model.specs.Positions.{InRename}
 use Rattle.oe_model.specs.NewOrder.{item_at, stock_of}
-use Rattle.oe_model.specs.Delivery.{Setting, end_of, alone, undelivered, oldest, lines_of, delivered, district_act}
+use Rattle.oe_model.specs.Delivery.{Setting, end_of, alone, new_orders_of, oldest, lines_of, delivery_of_order}
+use Rattle.oe_model.specs.Delivery.{district_act}
 use Rattle.oe_model.specs.Deliveries.{in_district, at_hand, after_done, among_ten}
 use Rattle.oe_model.specs.System.{system, act}
 use Rattle.oe_model.proofs.MapFacts.{is_same}
@@ -128,7 +129,8 @@ payment_goes x q (PaymentDistrict w) r c z e =
     let (y, here, e1) = given_goes (refusal.NoSuchRow (key.District q.district)) (get r.districts q.district) _ c z e in
     behind_lands r _ c z q q.customer w y.name (within_goes _ _ c z e1)
 payment_goes x q (PaymentNames w d) r c z e =
-    let (b, found, e1) = given_goes refusal.NoCustomer (chosen q.customer_district q.customer r.customers) _ c z e in
+    let (b, found, e1) = given_goes refusal.NoCustomer
+    (customer_meant q.customer_district q.customer r.customers) _ c z e in
     let less : 2 < 3 = omega arith in
     lands r _ c _ z 3 e1 tt less
 payment_goes x q (PaymentCustomer w d b) r c z e =
@@ -245,7 +247,7 @@ district_goes t q (DeliveryLine o k [] sum) r c z e =
     let (y, here, e1) = given_goes (refusal.NoSuchRow (key.Customer (customer_in q.district k)))
     (get r.customers (customer_in q.district k)) _ c z e in
     let less : 0 < 1 = omega arith in
-    moved t q 1 r _ c _ z (within_goes _ _ c z e1) (tt, inr (delivered o k sum, refl, less))
+    moved t q 1 r _ c _ z (within_goes _ _ c z e1) (tt, inr (delivery_of_order o k sum, refl, less))
 district_goes t q (DeliveryLine o k (n ∷ ns) sum) r c z e =
     let (y, here, e1) = given_goes (refusal.NoSuchRow (key.OrderLine (line_in (order_in q.district o) n)))
     (get r.order_lines (line_in (order_in q.district o) n)) _ c z e in
@@ -305,7 +307,7 @@ same_waiting : (h : DistrictKey) (c : Option Change) (z : Position) (r : Rows) (
 same_waiting h None z r q of apart = refl
 same_waiting h (Some (DeleteNewOrder k)) z r q of apart =
     let g : DistrictKey = q.district in
-    let one : undelivered g (remove r.new_orders k) ≡ undelivered g r.new_orders =
+    let one : new_orders_of g (remove r.new_orders k) ≡ new_orders_of g r.new_orders =
     same_kept new_order_total exact_new_order (λ j. eq_by_cmp district_cmp (district_of_new_order j) g)
     (remove r.new_orders k) r.new_orders
     (λ j e. gone_other new_order_total exact_new_order r.new_orders k j (other_new_order g h apart k of j e)) in

@@ -42,8 +42,8 @@ use Rattle.oe_answers.specs.declared.folders.Audited.{Audited}
 use Rattle.oe_answers.specs.declared.folders.Audited.TheVariants as audited
 
 -- nothing is known of what is left to read of files that the system opened
-abbrev pub unknown : Nine
-unknown = record {
+abbrev pub nothing_known : Nine
+nothing_known = record {
   warehouse = None;
   district = None;
   customer = None;
@@ -98,7 +98,7 @@ module _ {E : Type 0} (old new told told' : Option Sink) where
   abbrev pub OpenedAnswered : {I R F : Type 0} → (I → Option Source) → ℕ → Layout → Sources (TableFile R F)
       → Result I Error → Result I Error → Result ℕ E → Type 0
   OpenedAnswered source extents layout from (Ok a) (Ok b) result = IfOpen aim.Answers from
-      (Tells (ScriptFromRan format.Dump unknown unknown extents layout (source a) (source b) old new)
+      (Tells (ScriptFromRan format.Dump nothing_known nothing_known extents layout (source a) (source b) old new)
       script_from_status script_from_note told told' result) result
   OpenedAnswered source extents layout from (Ok a) (Err cause) result = ⊥
   OpenedAnswered source extents layout from (Err cause) after result =
@@ -107,7 +107,8 @@ module _ {E : Type 0} (old new told told' : Option Sink) where
   -- a load on a folder's tables: the nine are open, and it was written; or one is not
   abbrev pub FollowingAnswered : {R F : Type 0} → Sources (TableFile R F) → Following → Form → Result ℕ E → Type 0
   FollowingAnswered from f form result = IfOpen aim.Answers from
-      (Tells (LoadFromRan format.Dump unknown unknown f form old new) following_status following_note told told' result)
+      (Tells (LoadFromRan format.Dump nothing_known nothing_known f form old new) following_status following_note
+      told told' result)
       result
 
   -- FILES OF REPLIES
@@ -117,20 +118,21 @@ module _ {E : Type 0} (old new told told' : Option Sink) where
 
   abbrev pub DecidedFrom : {R F : Type 0} → Format → Sources (TableFile R F) → List ℕ → Result ℕ E → Type 0
   DecidedFrom format from bytes result = IfOpen aim.Judges from
-      (Tells (SerialFromRan format unknown unknown bytes old new) serial_from_status serial_from_note told told' result)
+      (Tells (SerialFromRan format nothing_known nothing_known bytes old new) serial_from_status
+      serial_from_note told told' result)
       result
 
   abbrev pub Compared : {R F : Type 0} → Format → Sources (TableFile R F) → List ℕ → Result ℕ E → Type 0
   Compared format files bytes result = IfOpen aim.Judges files
-      (Tells (ComparisonRan format origin.Population bytes unknown unknown old new) comparison_status comparison_note
-      told told' result) result
+      (Tells (ComparisonRan format origin.Population bytes nothing_known nothing_known old new) comparison_status
+      comparison_note told told' result) result
 
   abbrev pub ComparedFrom : {R F : Type 0} → Format → Sources (TableFile R F) → Sources (TableFile R F) → List ℕ
       → Result ℕ E → Type 0
   ComparedFrom format from files bytes result = IfOpen aim.Judges from
       (IfOpen aim.Judges files
-      (Tells (ComparisonFromRan format unknown unknown bytes unknown unknown old new) comparison_from_status
-      comparison_from_note told told' result) result) result
+      (Tells (ComparisonFromRan format nothing_known nothing_known bytes nothing_known nothing_known old new)
+      comparison_from_status comparison_from_note told told' result) result) result
 
   abbrev pub AnsweredOn : {R F : Type 0} → Format → Option (Sources (TableFile R F)) → Option (Sources (TableFile R F))
       → List ℕ → Result ℕ E → Type 0

@@ -15,7 +15,7 @@ use Rattle.oe_rows.specs.declared.customers.Customer.{Customer}
 use Rattle.oe_model.specs.Keys.{district_of_customer}
 use Rattle.oe_model.specs.Rows.{Rows}
 use Rattle.oe_model.specs.FurtherConditions.{delivered_for, paid_by}
-use Rattle.oe_audit.specs.AsOf.{row_then, stood}
+use Rattle.oe_audit.specs.AsOf.{row_then, entries_then}
 use Rattle.oe_audit.specs.Ledgers.{most, sum_for, agrees, passes_customer, passes_then, IsAccount, IsLedger}
 use Rattle.oe_audit.specs.declared.as_of.AsOf.{AsOf}
 use Rattle.oe_audit.specs.declared.customers.CustomerCondition.{CustomerCondition}
@@ -77,28 +77,32 @@ then_is n r l k (Some x) a h b e is of_it own t range low high =
 -- the first customer who failed, among those who stood or among those who stand
 module _ (n : CustomerCondition) (r : Rows) (w : AsOf) (m : FinMap customer_cmp Customer) where
   pub first_stood : (es : List (CustomerKey × Customer))
-      → option_map (λ e. e.0) (find (λ e. not (passes_customer n r e.0 e.1)) (stood w m es)) ≡ option_map (λ e. e.0)
+      → option_map (λ e. e.0) (find (λ e. not (passes_customer n r e.0 e.1)) (entries_then w m es))
+      ≡ option_map (λ e. e.0)
       (find (λ e. not (passes_then n r e.0 (row_then w m e.0 e.1))) es)
   first_stood [] = refl
   first_stood (e ∷ es) = go (row_then w m e.0 e.1) refl (first_stood es)
     where
       with_first : Option Customer → List (CustomerKey × Customer)
-      with_first v = cons_option (option_map (λ y. (e.0, y)) v) (stood w m es)
+      with_first v = cons_option (option_map (λ y. (e.0, y)) v) (entries_then w m es)
 
       by_test : (b : Bool) (y : Customer)
-          → option_map (λ e. e.0) (find (λ e. not (passes_customer n r e.0 e.1)) (stood w m es)) ≡ option_map (λ e. e.0)
+          → option_map (λ e. e.0) (find (λ e. not (passes_customer n r e.0 e.1)) (entries_then w m es))
+          ≡ option_map (λ e. e.0)
           (find (λ e. not (passes_then n r e.0 (row_then w m e.0 e.1))) es)
           → option_map (λ (e : CustomerKey × Customer). e.0)
-          (cond (not b) (Some (e.0, y)) (find (λ e. not (passes_customer n r e.0 e.1)) (stood w m es)))
+          (cond (not b) (Some (e.0, y)) (find (λ e. not (passes_customer n r e.0 e.1)) (entries_then w m es)))
           ≡ option_map (λ (e : CustomerKey × Customer). e.0)
           (cond (not b) (Some e) (find (λ e. not (passes_then n r e.0 (row_then w m e.0 e.1))) es))
       by_test true y rest = rest
       by_test false y rest = refl
 
       go : (v : Option Customer) → row_then w m e.0 e.1 ≡ v
-          → option_map (λ e. e.0) (find (λ e. not (passes_customer n r e.0 e.1)) (stood w m es)) ≡ option_map (λ e. e.0)
+          → option_map (λ e. e.0) (find (λ e. not (passes_customer n r e.0 e.1)) (entries_then w m es))
+          ≡ option_map (λ e. e.0)
           (find (λ e. not (passes_then n r e.0 (row_then w m e.0 e.1))) es)
-          → option_map (λ e. e.0) (find (λ e. not (passes_customer n r e.0 e.1)) (stood w m (e ∷ es))) ≡ option_map
+          → option_map (λ e. e.0) (find (λ e. not (passes_customer n r e.0 e.1)) (entries_then w m (e ∷ es)))
+          ≡ option_map
           (λ e. e.0) (find (λ e. not (passes_then n r e.0 (row_then w m e.0 e.1))) (e ∷ es))
       go None t rest =
           ap (λ v. option_map (λ (d : CustomerKey × Customer). d.0)

@@ -24,7 +24,7 @@ use Rattle.oe_model.proofs.SumFacts.{sum_same}
 use Rattle.oe_model.proofs.PresenceFacts.{key_cases}
 use Rattle.oe_store.specs.Places.{rows, entries_of}
 use Rattle.oe_store.specs.Places as tables
-use Rattle.oe_audit.specs.AsOf.{rows_then, row_then, stood, ArePassed}
+use Rattle.oe_audit.specs.AsOf.{rows_then, row_then, entries_then, ArePassed}
 use Rattle.oe_audit.specs.Ledgers.{line_adds, line_then_adds}
 use Rattle.oe_audit.specs.declared.as_of.AsOf.{AsOf}
 use Rattle.oe_audit.proofs.StoodFacts.{lines_are}
@@ -74,7 +74,7 @@ module _ (r : Rows) (h : DistrictKey) (c : ℕ) where
 
 -- the rows that stood, or each of the rows that stand as it stood
 sum_stood : (r : Rows) (w : AsOf) (c : ℕ) (es : List (OrderLineKey × OrderLine))
-    → sum_by (λ e. line_adds r e.0 e.1 c) (stood w r.order_lines es) ≡ sum_by
+    → sum_by (λ e. line_adds r e.0 e.1 c) (entries_then w r.order_lines es) ≡ sum_by
     (λ e. line_then_adds r e.0 (row_then w r.order_lines e.0 e.1) c) es
 sum_stood r w c [] = refl
 sum_stood r w c (e ∷ es) = go (row_then w r.order_lines e.0 e.1) refl (sum_stood r w c es)
@@ -86,17 +86,17 @@ sum_stood r w c (e ∷ es) = go (row_then w r.order_lines e.0 e.1) refl (sum_sto
     then d = line_then_adds r d.0 (row_then w r.order_lines d.0 d.1) c
 
     with_first : Option OrderLine → List (OrderLineKey × OrderLine)
-    with_first v = cons_option (option_map (λ y. (e.0, y)) v) (stood w r.order_lines es)
+    with_first v = cons_option (option_map (λ y. (e.0, y)) v) (entries_then w r.order_lines es)
 
     go : (v : Option OrderLine) → row_then w r.order_lines e.0 e.1 ≡ v
-        → sum_by here (stood w r.order_lines es) ≡ sum_by then es
-        → sum_by here (stood w r.order_lines (e ∷ es)) ≡ sum_by then (e ∷ es)
+        → sum_by here (entries_then w r.order_lines es) ≡ sum_by then es
+        → sum_by here (entries_then w r.order_lines (e ∷ es)) ≡ sum_by then (e ∷ es)
     go None t rest =
         ap (λ v. sum_by here (with_first v)) t ∙ rest
         ∙ sym (sum_by-cons then e es ∙ ap (λ v. line_then_adds r e.0 v c + sum_by then es) t
         ∙ zero-add (sum_by then es))
     go (Some y) t rest =
-        ap (λ v. sum_by here (with_first v)) t ∙ sum_by-cons here (e.0, y) (stood w r.order_lines es)
+        ap (λ v. sum_by here (with_first v)) t ∙ sum_by-cons here (e.0, y) (entries_then w r.order_lines es)
         ∙ (λ i. line_adds r e.0 y c + rest i)
         ∙ sym (sum_by-cons then e es ∙ ap (λ v. line_then_adds r e.0 v c + sum_by then es) t)
 

@@ -27,7 +27,7 @@ use Rattle.oe_store.specs.Places.{rows, entries_of}
 use Rattle.oe_store.specs.Places as tables
 use Rattle.oe_versions.specs.Versions.{rows_of}
 use Rattle.oe_versions.proofs.ChosenFacts.{rows_at, kept_is, kept_among, all_is}
-use Rattle.oe_audit.specs.AsOf.{rows_then, stood, ArePassed}
+use Rattle.oe_audit.specs.AsOf.{rows_then, entries_then, ArePassed}
 use Rattle.oe_audit.specs.declared.as_of.AsOf.{AsOf}
 use Rattle.oe_audit.specs.declared.as_of.AsOf.TheVariants as when
 use Rattle.oe_model.proofs.GroupFacts.{sum_of_group}
@@ -58,7 +58,7 @@ chosen : {A : Type 0} (b : Bool) (v : Option A) → IsSome (cond b v None) → b
 chosen true v h = refl
 chosen false v h = h
 
-stood_now : {K X : Type 0} {R : K → K → Ordering} (m : FinMap R X) (es : List (K × X)) → stood when.Now m es ≡ es
+stood_now : {K X : Type 0} {R : K → K → Ordering} (m : FinMap R X) (es : List (K × X)) → entries_then when.Now m es ≡ es
 stood_now m [] = refl
 stood_now m (e ∷ es) = ap (λ xs. (e.0, e.1) ∷ xs) (stood_now m es)
 
@@ -66,13 +66,13 @@ stood_now m (e ∷ es) = ap (λ xs. (e.0, e.1) ∷ xs) (stood_now m es)
 module _ {K X : Type 0} {R : K → K → Ordering} (total : IsTotalOrder R) (exact : IsAntisymmetric R)
     (of : Rows → FinMap R X) (ts : tables.Places) where
   pub all_stood : (w : AsOf) → ((q : K) → IsSome (get (of (rows_then ts w)) q) → IsSome (get (of (rows ts)) q))
-      → entries (of (rows_then ts w)) ≡ stood w (of (rows_then ts w)) (entries (of (rows ts)))
+      → entries (of (rows_then ts w)) ≡ entries_then w (of (rows_then ts w)) (entries (of (rows ts)))
   all_stood when.Now has = sym (stood_now (of (rows ts)) (entries (of (rows ts))))
   all_stood (when.Moment v) has = all_is (of (rows_of v)) total exact (of (rows ts)) has
 
   pub kept_stood : (w : AsOf) (p : K → Bool)
       → ((q : K) → IsSome (get (of (rows_then ts w)) q) → IsSome (get (of (rows ts)) q))
-      → entries (retain_keys (of (rows_then ts w)) p) ≡ stood w (of (rows_then ts w))
+      → entries (retain_keys (of (rows_then ts w)) p) ≡ entries_then w (of (rows_then ts w))
       (entries (retain_keys (of (rows ts)) p))
   kept_stood when.Now p has = sym (stood_now (of (rows ts)) (entries (retain_keys (of (rows ts)) p)))
   kept_stood (when.Moment v) p has = kept_is (of (rows_of v)) total exact (of (rows ts)) p has
@@ -81,46 +81,49 @@ module _ (ts : tables.Places) (w : AsOf) (h : ArePassed (rows_then ts w) (rows t
   abbrev pub past : Rows
   past = rows_then ts w
 
-  pub warehouses_are : entries past.warehouses ≡ stood w past.warehouses (entries (rows ts).warehouses)
+  pub warehouses_are : entries past.warehouses ≡ entries_then w past.warehouses (entries (rows ts).warehouses)
   warehouses_are = all_stood warehouse_total exact_warehouse (λ r. r.warehouses) ts w h.warehouses
 
-  pub districts_are : entries past.districts ≡ stood w past.districts (entries (rows ts).districts)
+  pub districts_are : entries past.districts ≡ entries_then w past.districts (entries (rows ts).districts)
   districts_are = all_stood district_total exact_district (λ r. r.districts) ts w h.districts
 
-  pub customers_are : entries past.customers ≡ stood w past.customers (entries (rows ts).customers)
+  pub customers_are : entries past.customers ≡ entries_then w past.customers (entries (rows ts).customers)
   customers_are = all_stood customer_total exact_customer (λ r. r.customers) ts w h.customers
 
-  pub all_orders_are : entries past.orders ≡ stood w past.orders (entries (rows ts).orders)
+  pub all_orders_are : entries past.orders ≡ entries_then w past.orders (entries (rows ts).orders)
   all_orders_are = all_stood order_total exact_order (λ r. r.orders) ts w h.orders
 
-  pub all_lines_are : entries past.order_lines ≡ stood w past.order_lines (entries (rows ts).order_lines)
+  pub all_lines_are : entries past.order_lines ≡ entries_then w past.order_lines (entries (rows ts).order_lines)
   all_lines_are = all_stood order_line_total exact_order_line (λ r. r.order_lines) ts w h.order_lines
 
-  pub districts_of_are : (g : WarehouseKey) → entries_of warehouse_cmp warehouse_of_district g past.districts ≡ stood w
+  pub districts_of_are : (g : WarehouseKey) → entries_of warehouse_cmp warehouse_of_district g past.districts
+      ≡ entries_then w
       past.districts (entries_of warehouse_cmp warehouse_of_district g (rows ts).districts)
   districts_of_are g = kept_stood district_total exact_district (λ r. r.districts) ts w
       (λ k. eq_by_cmp warehouse_cmp (warehouse_of_district k) g) h.districts
 
-  pub orders_are : (g : DistrictKey) → entries_of district_cmp district_of_order g past.orders ≡ stood w past.orders
+  pub orders_are : (g : DistrictKey) → entries_of district_cmp district_of_order g past.orders
+      ≡ entries_then w past.orders
       (entries_of district_cmp district_of_order g (rows ts).orders)
   orders_are g = kept_stood order_total exact_order (λ r. r.orders) ts w
       (λ k. eq_by_cmp district_cmp (district_of_order k) g) h.orders
 
   pub lines_are : (g : DistrictKey) → entries_of district_cmp (λ k. district_of_order (order_of_line k)) g
-      past.order_lines ≡ stood w past.order_lines
+      past.order_lines ≡ entries_then w past.order_lines
       (entries_of district_cmp (λ k. district_of_order (order_of_line k)) g (rows ts).order_lines)
   lines_are g =
       kept_stood order_line_total exact_order_line (λ r. r.order_lines) ts w
       (λ k. eq_by_cmp district_cmp (district_of_order (order_of_line k)) g) h.order_lines
 
-  pub lines_of_are : (k : OrderKey) → entries_of order_cmp order_of_line k past.order_lines ≡ stood w past.order_lines
+  pub lines_of_are : (k : OrderKey) → entries_of order_cmp order_of_line k past.order_lines
+      ≡ entries_then w past.order_lines
       (entries_of order_cmp order_of_line k (rows ts).order_lines)
   lines_of_are k = kept_stood order_line_total exact_order_line (λ r. r.order_lines) ts w
       (λ l. eq_by_cmp order_cmp (order_of_line l) k) h.order_lines
 
   -- what condition 6 counts
   pub lines_were : (k : OrderKey) → lines_of_order past k ≡ length
-      (stood w past.order_lines (entries_of order_cmp order_of_line k (rows ts).order_lines))
+      (entries_then w past.order_lines (entries_of order_cmp order_of_line k (rows ts).order_lines))
   lines_were k =
       sum_of_group order_line_total exact_order_line past.order_lines (λ l. eq_by_cmp order_cmp (order_of_line l) k)
       (λ l y. 1)
@@ -128,18 +131,18 @@ module _ (ts : tables.Places) (w : AsOf) (h : ArePassed (rows_then ts w) (rows t
 
   -- what conditions 1 and 4 sum up
   pub ytd_was : (g : WarehouseKey) → ytd_of past g ≡ sum_by (λ (e : DistrictKey × District). e.1.ytd)
-      (stood w past.districts (entries_of warehouse_cmp warehouse_of_district g (rows ts).districts))
+      (entries_then w past.districts (entries_of warehouse_cmp warehouse_of_district g (rows ts).districts))
   ytd_was g =
       sum_of_group district_total exact_district past.districts
       (λ k. eq_by_cmp warehouse_cmp (warehouse_of_district k) g) (λ k x. x.ytd)
       ∙ ap (sum_by (λ (e : DistrictKey × District). e.1.ytd)) (districts_of_are g)
 
   pub asked_was : (g : DistrictKey) → lines_asked past g ≡ sum_by (λ (e : OrderKey × Order). e.1.line_count)
-      (stood w past.orders (entries_of district_cmp district_of_order g (rows ts).orders))
+      (entries_then w past.orders (entries_of district_cmp district_of_order g (rows ts).orders))
   asked_was g = asked_is past g ∙ ap (sum_by (λ (e : OrderKey × Order). e.1.line_count)) (orders_are g)
 
   pub there_was : (g : DistrictKey) → lines_there past g ≡ length
-      (stood w past.order_lines
+      (entries_then w past.order_lines
       (entries_of district_cmp (λ k. district_of_order (order_of_line k)) g (rows ts).order_lines))
   there_was g = there_is past g ∙ ap length (lines_are g)
 

@@ -42,9 +42,9 @@ has_row_then when.Now m k = true
 has_row_then (when.Moment v) m k = is_some (get m k)
 
 -- what the keys of these rows have then
-abbrev pub stood : {K X : Type 0} {R : K → K → Ordering}
+abbrev pub entries_then : {K X : Type 0} {R : K → K → Ordering}
     → AsOf → FinMap R X → List (K × X) → List (K × X)
-stood w m es = filter_map (λ e. option_map (λ x. (e.0, x)) (row_then w m e.0 e.1)) es
+entries_then w m es = filter_map (λ e. option_map (λ x. (e.0, x)) (row_then w m e.0 e.1)) es
 
 -- the rows that a table has at the keys of these
 abbrev pub stood_among : {K X Y : Type 0} {R : K → K → Ordering}
@@ -53,7 +53,7 @@ stood_among m es = filter_map (λ e. option_map (λ x. (e.0, x)) (get m e.0)) es
 
 -- how many of these ORDER-LINE rows stood then
 abbrev pub lines_stood : tables.Places → AsOf → List (OrderLineKey × OrderLine) → ℕ
-lines_stood ts w es = length (stood w (rows_then ts w).order_lines es)
+lines_stood ts w es = length (entries_then w (rows_then ts w).order_lines es)
 
 -- the key has a row
 abbrev pub Has : {K X : Type 0} {R : K → K → Ordering} → FinMap R X → K → Type 0

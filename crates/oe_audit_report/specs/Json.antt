@@ -7,12 +7,12 @@ use Rattle.oe_books.specs.declared.findings.PartFound.{PartFound}
 use Rattle.oe_books.specs.declared.findings.TableRows.{TableRows}
 use Rattle.oe_audit_report.specs.declared.report.Counts.{Counts}
 use Rattle.oe_audit_report.specs.Labels.{Names, name_of, label_of}
-use Rattle.oe_audit_report.specs.Report.{shown, fails, counts_of}
-use Rattle.oe_audit_report.specs.Texts.{figure_text, string_text, joined}
+use Rattle.oe_audit_report.specs.Report.{findings_shown, fails, counts_of}
+use Rattle.oe_audit_report.specs.Texts.{figure_text, string_text, comma_list}
 
 -- items with a comma between two of them, and a text before and behind
 abbrev pub listing : {X : Type 0} → (X → List ℕ) → List ℕ → List X → List ℕ → List ℕ
-listing text before items behind = before ++ joined text items ++ behind
+listing text before items behind = before ++ comma_list text items ++ behind
 
 -- "<table>":<rows>
 abbrev pub rows_member : TableRows → List ℕ
@@ -26,7 +26,7 @@ figures_json money f =
 
 -- {"key":[<number>,..],"first":<figure>,"second":<figure>}
 abbrev pub finding_json : (money : Bool) → Finding → List ℕ
-finding_json money f = codes "{\"key\":[" ++ joined decimal f.key ++ figures_json money f
+finding_json money f = codes "{\"key\":[" ++ comma_list decimal f.key ++ figures_json money f
 
 -- {"row":"<row>","first":"<name>","second":"<name>","failing":<count>
 abbrev pub part_head : Names → ℕ → List ℕ
@@ -39,7 +39,7 @@ abbrev pub part_json : Option ℕ → PartFound → List ℕ
 part_json first p =
     let label = label_of p.part in
     part_head label (length p.found.items)
-    ++ listing (finding_json label.3) (codes ",\"rows\":[") (shown first p.found.items) (codes "]}")
+    ++ listing (finding_json label.3) (codes ",\"rows\":[") (findings_shown first p.found.items) (codes "]}")
 
 -- at how many rows parts fail
 abbrev pub rows_failing : List PartFound → ℕ

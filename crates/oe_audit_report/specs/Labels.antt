@@ -52,8 +52,8 @@ name_of check.ColumnsBefore = codes "columns before"
 abbrev pub Names : Type 0
 Names = List ℕ × List ℕ × List ℕ × Bool
 
-abbrev pub named : Label → Names
-named l = (l.row.now, l.first.now, l.second.now, l.is_money)
+abbrev pub names_in : Label → Names
+names_in l = (l.row.now, l.first.now, l.second.now, l.is_money)
 
 abbrev pub once_label : Once → Names
 once_label once.Warehouses = (codes "warehouse", codes "rows", codes "allowed", false)

@@ -40,9 +40,9 @@ row_line check label f =
     ++ named_figure label.2 label.3 f.apart.second ++ codes "\n"
 
 -- the first rows, or all
-abbrev pub shown : Option ℕ → List Finding → List Finding
-shown None found = found
-shown (Some first) found = take first found
+abbrev pub findings_shown : Option ℕ → List Finding → List Finding
+findings_shown None found = found
+findings_shown (Some first) found = take first found
 
 -- <check> fails at <count> more, where there are more
 abbrev pub more_line : Check → Names → ℕ → List ℕ
@@ -52,8 +52,8 @@ more_line check label n =
 -- the rows of a part that are shown, and how many more there are
 abbrev pub part_text : Option ℕ → Check → PartFound → List ℕ
 part_text first check p =
-    flat_map (row_line check (label_of p.part)) (shown first p.found.items)
-    ++ more_line check (label_of p.part) (length p.found.items - length (shown first p.found.items))
+    flat_map (row_line check (label_of p.part)) (findings_shown first p.found.items)
+    ++ more_line check (label_of p.part) (length p.found.items - length (findings_shown first p.found.items))
 
 -- a part finds something
 abbrev pub finds : PartFound → Bool

@@ -19,20 +19,20 @@ abbrev pub number_text : (before : ℕ) → ℕ → List ℕ
 number_text before n = before ∷ decimal n
 
 -- the texts of items, with a comma between two of them
-abbrev pub joined : {X : Type 0} → (X → List ℕ) → List X → List ℕ
-joined f [] = []
-joined f (x ∷ xs) = f x ++ flat_map (λ y. codes "," ++ f y) xs
+abbrev pub comma_list : {X : Type 0} → (X → List ℕ) → List X → List ℕ
+comma_list f [] = []
+comma_list f (x ∷ xs) = f x ++ flat_map (λ y. codes "," ++ f y) xs
 
 abbrev pub hex_digit : ℕ → ℕ
 hex_digit n = if nat_lt n 10 then 48 + n else 87 + n
 
 -- a byte of a JSON string (RFC 8259): control characters, quotes and backslashes are escaped
-abbrev pub escaped : ℕ → List ℕ
-escaped b =
+abbrev pub json_bytes : ℕ → List ℕ
+json_bytes b =
     if nat_lt b 32 then codes "\\u00" ++ hex_digit (b / 16) ∷ hex_digit (b % 16) ∷ []
     else if b == 34 || b == 92 then 92 ∷ b ∷ []
     else b ∷ []
 
 -- a JSON string
 abbrev pub string_text : List ℕ → List ℕ
-string_text bytes = codes "\"" ++ flat_map escaped bytes ++ codes "\""
+string_text bytes = codes "\"" ++ flat_map json_bytes bytes ++ codes "\""

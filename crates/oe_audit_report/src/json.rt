@@ -3,7 +3,7 @@
 ghost use Rattle.std.specs.Prelude.{◌≡◌, ◌≤◌, ◌-◌, ◌+◌, ◌++◌, length};
 ghost use Rattle.arrayvec.specs.ArrayVec.{array_vec_len};
 ghost use Rattle.oe_io.specs.Ports.{Streams};
-ghost use Rattle.oe_audit_report.specs.Labels.{named};
+ghost use Rattle.oe_audit_report.specs.Labels.{names_in};
 ghost use Rattle.oe_audit_report.specs.Report.{fails};
 ghost use Rattle.oe_audit_report.specs.Json.{listing, rows_member, figures_json, finding_json, part_head, part_json, rows_failing, truth_text, check_head, check_json, counts_tail, report_json};
 
@@ -89,7 +89,7 @@ struct PartHeads<'a> {
 }
 
 impl LineOf<u64> for PartHeads<'_> {
-    ghost line = { λ h count. part_head (named h.label.now) count };
+    ghost line = { λ h count. part_head (names_in h.label.now) count };
 
     fn append(&self, count: &u64, out: &mut Pending) {
         text(out, b"{\"row\":");

@@ -1,6 +1,6 @@
 //! The names of checks, and of the two figures that each part of a check compares.
 ghost use Rattle.std.specs.Prelude.{◌≡◌, ◌≤◌, [], true, false, length};
-ghost use Rattle.oe_audit_report.specs.Labels.{name_of, once_label, reference_label, extent_label, condition_label, movement_label, lasting_name, before_label, label_of, named};
+ghost use Rattle.oe_audit_report.specs.Labels.{name_of, once_label, reference_label, extent_label, condition_label, movement_label, lasting_name, before_label, label_of, names_in};
 
 use crate::figures::Label;
 use oe_books::{Before, Check, Condition, Extent, Lasting, Movement, Once, Part, Reference};
@@ -45,7 +45,7 @@ fn counts(row: &'static str, first: &'static str, second: &'static str) -> Label
     requires row { length row.now ≤ 10 }
     requires first { length first.now ≤ 30 }
     requires second { length second.now ≤ 30 }
-    ensures { named result ≡ (row.now, first.now, second.now, false) }
+    ensures { names_in result ≡ (row.now, first.now, second.now, false) }
 {
     Label {
         row,
@@ -59,7 +59,7 @@ fn counts(row: &'static str, first: &'static str, second: &'static str) -> Label
 fn amounts(first: &'static str, second: &'static str) -> Label
     requires first { length first.now ≤ 30 }
     requires second { length second.now ≤ 30 }
-    ensures { named result ≡ ([], first.now, second.now, true) }
+    ensures { names_in result ≡ ([], first.now, second.now, true) }
 {
     Label {
         row: "",
@@ -71,7 +71,7 @@ fn amounts(first: &'static str, second: &'static str) -> Label
 
 // Gives the label of a part.
 fn once(part: Once) -> Label
-    ensures { named result ≡ once_label part }
+    ensures { names_in result ≡ once_label part }
 {
     match part {
         Once::Warehouses => counts("warehouse", "rows", "allowed"),
@@ -87,7 +87,7 @@ fn once(part: Once) -> Label
 
 // Gives the label of a part.
 fn reference(part: Reference) -> Label
-    ensures { named result ≡ reference_label part }
+    ensures { names_in result ≡ reference_label part }
 {
     match part {
         Reference::DistrictWarehouse => counts("warehouse", "DISTRICT rows", "WAREHOUSE rows"),
@@ -105,7 +105,7 @@ fn reference(part: Reference) -> Label
 
 // Gives the label of a part.
 fn extent(part: Extent) -> Label
-    ensures { named result ≡ extent_label part }
+    ensures { names_in result ≡ extent_label part }
 {
     match part {
         Extent::Districts => counts("", "wanted", "DISTRICT rows"),
@@ -117,7 +117,7 @@ fn extent(part: Extent) -> Label
 
 // Gives the label of a part.
 fn condition(part: Condition) -> Label
-    ensures { named result ≡ condition_label part }
+    ensures { names_in result ≡ condition_label part }
 {
     match part {
         Condition::First => amounts("W_YTD", "sum of D_YTD"),
@@ -137,7 +137,7 @@ fn condition(part: Condition) -> Label
 
 // Gives the label of a part.
 fn movement(part: Movement) -> Label
-    ensures { named result ≡ movement_label part }
+    ensures { names_in result ≡ movement_label part }
 {
     match part {
         Movement::StockYtd => counts("", "S_YTD", "sum of OL_QUANTITY"),
@@ -166,7 +166,7 @@ fn lasting_name(table: Lasting) -> &'static str
 
 // Gives the label of a part.
 fn before(part: Before) -> Label
-    ensures { named result ≡ before_label part }
+    ensures { names_in result ≡ before_label part }
 {
     match part {
         Before::Gone(table) => counts(lasting_name(table), "rows before", "rows now"),
@@ -177,7 +177,7 @@ fn before(part: Before) -> Label
 
 /// Gives the label of a part of a check.
 pub fn label_of(part: Part) -> Label
-    ensures { named result ≡ label_of part }
+    ensures { names_in result ≡ label_of part }
 {
     match part {
         Part::Once(part) => once(part),

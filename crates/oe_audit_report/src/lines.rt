@@ -5,7 +5,7 @@ ghost use Rattle.std.specs.Prelude.{◌≡◌, ◌≤◌, ◌+◌, ◌++◌, ℕ
 ghost use Rattle.arrayvec.specs.ArrayVec.{array_vec_len};
 ghost use Rattle.std.specs.List.{flat_map};
 ghost use Rattle.oe_io.specs.Ports.{Streams};
-ghost use Rattle.oe_audit_report.specs.Texts.{joined};
+ghost use Rattle.oe_audit_report.specs.Texts.{comma_list};
 
 use oe_io::output::make_room;
 use oe_io::ports::{Failed, Outlet};
@@ -107,7 +107,7 @@ pub(crate) fn put_joined<X, T: TextOf<X>, W: Outlet>(
     to: &mut W,
 ) -> Result<(), Failed>
     ensures { Streams (W.sink to.old) out.old.items (W.sink to.new) out.new.items
-        (joined (T.text by.now) items.now) result }
+        (comma_list (T.text by.now) items.now) result }
 {
     let Some((first, others)) = items.split_first() else {
         return Ok(());

@@ -7,8 +7,8 @@ ghost use Rattle.std.specs.Prelude.{if◌then◌else◌, ◌≡◌, ◌≤◌, �
 ghost use Rattle.std.specs.List.{flat_map};
 ghost use Rattle.arrayvec.specs.ArrayVec.{array_vec_len};
 ghost use Rattle.oe_io.specs.Ports.{Streams};
-ghost use Rattle.oe_audit_report.specs.Labels.{named, label_of, name_of};
-ghost use Rattle.oe_audit_report.specs.Report.{rows_text, read_line, failure_text, named_figure, row_line, shown, more_line, part_text, finds, fails, failing, holds_line, check_text, before_name, names_text, count_line, counts_of, last_line, report_text};
+ghost use Rattle.oe_audit_report.specs.Labels.{names_in, label_of, name_of};
+ghost use Rattle.oe_audit_report.specs.Report.{rows_text, read_line, failure_text, named_figure, row_line, findings_shown, more_line, part_text, finds, fails, failing, holds_line, check_text, before_name, names_text, count_line, counts_of, last_line, report_text};
 
 use crate::figures::Label;
 use crate::labels::{check_name, label_of};
@@ -51,7 +51,7 @@ fn put_rows<W: Outlet>(rows: &[TableRows; 9], out: &mut Pending, to: &mut W) -> 
 /// Appends that a check fails, and what the key is of.
 fn failure(out: &mut Pending, check: Check, label: &Label)
     requires { array_vec_len out.old + 40 ≤ SIZE }
-    ensures items { out.new.items ≡ out.old.items ++ failure_text check (named label.now) }
+    ensures items { out.new.items ≡ out.old.items ++ failure_text check (names_in label.now) }
     ensures len { array_vec_len out.new ≤ array_vec_len out.old + 40 }
 {
     text(out, check_name(check).as_bytes());
@@ -83,7 +83,7 @@ struct RowLines {
 }
 
 impl LineOf<Finding> for RowLines {
-    ghost line = { λ l finding. row_line l.check (named l.label) finding };
+    ghost line = { λ l finding. row_line l.check (names_in l.label) finding };
 
     fn append(&self, finding: &Finding, out: &mut Pending) {
         let is_money = self.label.is_money;
@@ -99,7 +99,7 @@ impl LineOf<Finding> for RowLines {
 
 /// Makes the line that tells how many rows more there are, where there are more.
 impl LineOf<u64> for RowLines {
-    ghost line = { λ l count. more_line l.check (named l.label) count };
+    ghost line = { λ l count. more_line l.check (names_in l.label) count };
 
     fn append(&self, count: &u64, out: &mut Pending) {
         if *count > 0 {
@@ -113,7 +113,7 @@ impl LineOf<u64> for RowLines {
 
 /// Gives the first findings, or all.
 pub(crate) fn shown(first: Option<u32>, found: &[Finding]) -> &[Finding]
-    ensures value { result.now ≡ shown first found.now }
+    ensures value { result.now ≡ findings_shown first found.now }
     ensures most { length result.now ≤ length found.now }
 {
     match first {

@@ -3,7 +3,7 @@ ghost use Rattle.std.specs.Prelude.{◌≡◌, ◌≤◌, ◌<◌, ◌+◌, ◌*
 ghost use Rattle.std.specs.List.{flat_map};
 ghost use Rattle.arrayvec.specs.ArrayVec.{array_vec_len};
 ghost use Rattle.oe_rows.specs.Credit.{money_text};
-ghost use Rattle.oe_audit_report.specs.Texts.{figure_text, size_text, number_text, joined, hex_digit, escaped, string_text};
+ghost use Rattle.oe_audit_report.specs.Texts.{figure_text, size_text, number_text, comma_list, hex_digit, json_bytes, string_text};
 
 use itoa::Buffer;
 use oe_texts::columns::number;
@@ -73,7 +73,7 @@ pub(crate) fn numbers(out: &mut Pending, before: u8, key: &[u32])
 pub(crate) fn listed(out: &mut Pending, key: &[u32])
     requires most { length key.now ≤ 4 }
     requires room { array_vec_len out.old + 104 ≤ SIZE }
-    ensures items { out.new.items ≡ out.old.items ++ joined decimal key.now }
+    ensures items { out.new.items ≡ out.old.items ++ comma_list decimal key.now }
     ensures len { array_vec_len out.new ≤ array_vec_len out.old + 104 }
 {
     if let Some((first, others)) = key.split_first() {
@@ -93,7 +93,7 @@ fn hex_digit(n: u8) -> u8
 /// Appends a byte of a JSON string.
 fn escaped(out: &mut Pending, byte: u8)
     requires { array_vec_len out.old + 6 ≤ SIZE }
-    ensures items { out.new.items ≡ out.old.items ++ escaped byte }
+    ensures items { out.new.items ≡ out.old.items ++ json_bytes byte }
     ensures len { array_vec_len out.new ≤ array_vec_len out.old + 6 }
 {
     if byte < 32 {

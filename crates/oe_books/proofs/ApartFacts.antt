@@ -8,7 +8,7 @@ use Rattle.oe_facts.specs.declared.tables.Fact.{Fact}
 use Rattle.oe_facts.specs.declared.tables.Fact.TheVariants as fact
 use Rattle.oe_books.specs.declared.books.Initial.{Initial}
 use Rattle.oe_books.specs.declared.books.Initial.TheVariants as initial
-use Rattle.oe_books.specs.Facts.{Facts, no_facts, with_fact, parted, stands_apart, with_apart}
+use Rattle.oe_books.specs.Facts.{Facts, no_facts, with_fact, facts_by_table, stands_apart, with_apart}
 use Rattle.oe_books.specs.Keeping.{IsInitial}
 
 -- what is known of the number of first orders stays
@@ -64,8 +64,8 @@ all_apart t u (f ∷ fs) h =
     ap (λ v. fold with_fact v fs) (one_apart t u f h.0) ∙ all_apart t (with_fact u f) fs h.1
 
 pub parted_apart : (facts more : List Fact) → StandApart more
-    → parted (facts ++ more) ≡ with_apart (parted facts) (parted more)
+    → facts_by_table (facts ++ more) ≡ with_apart (facts_by_table facts) (facts_by_table more)
 parted_apart facts more h =
     fold-append with_fact no_facts facts more
-    ∙ ap (λ v. fold with_fact v more) (none_apart (parted facts))
-    ∙ all_apart (parted facts) no_facts more h
+    ∙ ap (λ v. fold with_fact v more) (none_apart (facts_by_table facts))
+    ∙ all_apart (facts_by_table facts) no_facts more h

@@ -10,13 +10,13 @@ use Rattle.oe_books.specs.declared.books.Books.{Books}
 use Rattle.oe_books.specs.declared.closing.Lack.{Lack}
 use Rattle.oe_books.specs.declared.closing.Lack.TheVariants as lack
 use Rattle.oe_books.specs.Facts.{Facts, rows_of}
-use Rattle.oe_books.specs.Keeping.{KeepsRows, capped}
+use Rattle.oe_books.specs.Keeping.{KeepsRows, in_64_bits}
 use Rattle.oe_books.specs.Closing.{count_of, lack_at, first_lack, without_rows, tables, IsLacking, AreFewEach}
 
 some_same : {A : Type 0} (x y : A) → Some x ≡ Some y → x ≡ y
 some_same x y e = cc
 
-counted : (t : Facts) (b : Books) → KeepsRows t b → (name : Table) → count_of b name ≡ capped (rows_of t name)
+counted : (t : Facts) (b : Books) → KeepsRows t b → (name : Table) → count_of b name ≡ in_64_bits (rows_of t name)
 counted t b h table.Warehouse = h.warehouses.counted
 counted t b h table.District = h.districts.counted
 counted t b h table.Customer = h.customers.counted
@@ -41,14 +41,15 @@ no_rows g t table.OrderLine l h e = subst (IsLacking g t) (some_same (lack.Rows 
 no_rows g t table.Item l h e = subst (IsLacking g t) (some_same (lack.Rows table.Item) l e) (h, refl)
 no_rows g t table.Stock l h e = subst (IsLacking g t) (some_same (lack.Rows table.Stock) l e) (h, refl)
 
-none_there : (g : Option ℕ) (t : Facts) (name : Table) (n : ℕ) (l : Lack) (some : Bool) → ltb 0 n ≡ some → n ≡ capped
+none_there : (g : Option ℕ) (t : Facts) (name : Table) (n : ℕ) (l : Lack) (some : Bool) → ltb 0 n ≡ some → n
+    ≡ in_64_bits
     (rows_of t name)
     → cond some None (without_rows name) ≡ Some l → IsLacking g t l
 none_there g t name n l true e c h = absurd (cc)
 none_there g t name n l false e c h = no_rows g t name l (omega (arith, ltb-false 0 n e, c)) h
 
 lacks : (g : Option ℕ) (t : Facts) (name : Table) (n : ℕ) (l : Lack) (many : Bool) → ltb (2 ^ 32 - 1) n ≡ many
-    → n ≡ capped (rows_of t name)
+    → n ≡ in_64_bits (rows_of t name)
     → cond many (Some (lack.Room name)) (cond (ltb 0 n) None (without_rows name)) ≡ Some l → IsLacking g t l
 lacks g t name n l true e c h =
     subst (IsLacking g t) (some_same (lack.Room name) l h) (omega (arith, ltb-true (2 ^ 32 - 1) n e, c))
@@ -74,7 +75,7 @@ lack_is g t b l e h =
 
 -- ---- nothing is lacking
 
-few : (t : Facts) (name : Table) (n : ℕ) (many : Bool) → ltb (2 ^ 32 - 1) n ≡ many → n ≡ capped (rows_of t name)
+few : (t : Facts) (name : Table) (n : ℕ) (many : Bool) → ltb (2 ^ 32 - 1) n ≡ many → n ≡ in_64_bits (rows_of t name)
     → cond many (Some (lack.Room name)) (cond (ltb 0 n) None (without_rows name)) ≡ None → rows_of t name < 2 ^ 32
 few t name n true e c h = absurd (cc)
 few t name n false e c h = omega (arith, ltb-false (2 ^ 32 - 1) n e, c)

@@ -16,7 +16,7 @@ use Rattle.oe_ledgers.specs.Keeping.{Takes, KeepsDistricts, KeepsHistories, Keep
 use Rattle.oe_line_numbers.specs.Blocks.{KeepsLineNumbers}
 use Rattle.oe_books.specs.declared.rows.Rows.{Rows}
 use Rattle.oe_books.specs.declared.rows.Lines.{Lines}
-use Rattle.oe_books.specs.Keeping.{capped, IsOf, BookDistricts, BookHistories, BookOrders, BookLines}
+use Rattle.oe_books.specs.Keeping.{in_64_bits, IsOf, BookDistricts, BookHistories, BookOrders, BookLines}
 
 pub on_ok : {T E P Q : Type 0} (r : Result T E) → (P → Q) → OnOk r P → OnOk r Q
 on_ok (Ok x) f p = f p
@@ -25,20 +25,20 @@ on_ok (Err e) f p = tt
 pub all_none : {A : Type 0} (P : A → Type 0) → All P []
 all_none P k d h = absurd (omega (arith, h))
 
-capped_more : (n : ℕ) → capped (capped n + 1) ≡ capped (n + 1)
+capped_more : (n : ℕ) → in_64_bits (in_64_bits n + 1) ≡ in_64_bits (n + 1)
 capped_more n = omega arith
 
 -- a ledger took a row, and it is counted
 pub one_more : {F L : Type 0} (IsKept : List F → L → Type 0) (old new : Rows L) (f : F)
-    → new.count ≡ capped (old.count + 1) → Takes IsKept old.kept new.kept f → Takes (IsOf IsKept) old new f
+    → new.count ≡ in_64_bits (old.count + 1) → Takes IsKept old.kept new.kept f → Takes (IsOf IsKept) old new f
 one_more IsKept old new f e takes facts h = record {
   kept = takes facts h.kept;
-  counted = e ∙ ap (λ n. capped (n + 1)) h.counted ∙ capped_more (length facts)
-      ∙ ap capped (sym (length-append facts (f ∷ [])));
+  counted = e ∙ ap (λ n. in_64_bits (n + 1)) h.counted ∙ capped_more (length facts)
+      ∙ ap in_64_bits (sym (length-append facts (f ∷ [])));
 }
 
 -- a ledger that counts none is of no fact
-none_counted : {F : Type 0} (facts : List F) → 0 ≡ capped (length facts) → facts ≡ []
+none_counted : {F : Type 0} (facts : List F) → 0 ≡ in_64_bits (length facts) → facts ≡ []
 none_counted [] e = refl
 none_counted (f ∷ facts) e = absurd (omega (arith, e))
 

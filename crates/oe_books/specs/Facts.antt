@@ -58,8 +58,8 @@ with_fact t (fact.Item f) = record t { items = t.items ++ f ∷ [] }
 with_fact t (fact.Stock f) = record t { stocks = t.stocks ++ f ∷ [] }
 
 -- these facts by their tables
-abbrev pub parted : List Fact → Facts
-parted facts = fold with_fact no_facts facts
+abbrev pub facts_by_table : List Fact → Facts
+facts_by_table facts = fold with_fact no_facts facts
 
 -- Rows of these tables are taken in alike, wherever they come. Those of the other three are not: the CUSTOMER rows
 -- before the first ORDER or ORDER-LINE row tell how many orders the population had.

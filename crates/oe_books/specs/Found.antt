@@ -21,7 +21,7 @@ use Rattle.oe_checks.specs.References.{histories_refer_to_districts, new_orders_
 use Rattle.oe_checks.specs.References.{lines_refer_to_orders, lines_refer_to_stocks, stocks_refer_to_warehouses}
 use Rattle.oe_checks.specs.References.{stocks_refer_to_items}
 use Rattle.oe_checks.specs.Schema.{ten_districts, orders_without_gap}
-use Rattle.oe_checks.specs.Sizes.{stocked, customers_each}
+use Rattle.oe_checks.specs.Sizes.{stock_apart, customers_each}
 use Rattle.oe_checks.specs.Conditions.{condition_1, condition_2_of_orders, condition_2_of_new_orders, condition_3}
 use Rattle.oe_checks.specs.Conditions.{condition_4, condition_5, condition_6, condition_7, condition_8, condition_9}
 use Rattle.oe_checks.specs.Accounts.{condition_10, condition_12}
@@ -51,7 +51,7 @@ use Rattle.oe_books.specs.declared.parts.Lasting.TheVariants as lasting
 use Rattle.oe_books.specs.declared.parts.Before.{Before}
 use Rattle.oe_books.specs.declared.parts.Before.TheVariants as before
 use Rattle.oe_books.specs.Parts.{parts_of}
-use Rattle.oe_earlier.specs.Changes.{gone, changed, moved}
+use Rattle.oe_earlier.specs.Changes.{loss_apart, change_apart, residue_apart}
 use Rattle.oe_earlier.specs.Traces.{Traced}
 use Rattle.oe_books.specs.Facts.{Facts, rows_of}
 use Rattle.oe_books.specs.Closing.{tables}
@@ -98,23 +98,23 @@ rows_each t = map (λ name. record { table = name; rows = rows_of t name }) tabl
 -- Of what earlier rows brought to their keys, and of what rows bring now.
 module _ (b n : Traced) where
   abbrev pub AreGone : Lasting → List Finding → Type 0
-  AreGone lasting.Warehouses = OfNumbers (gone nat_eq b.warehouses n.warehouses)
-  AreGone lasting.Districts = OfDistricts (gone same_district b.districts n.districts)
-  AreGone lasting.Customers = OfCustomers (gone same_customer b.customers n.customers)
-  AreGone lasting.Items = OfNumbers (gone nat_eq b.items n.items)
-  AreGone lasting.Stocks = OfStocks (gone same_stock b.stocks n.stocks)
+  AreGone lasting.Warehouses = OfNumbers (loss_apart nat_eq b.warehouses n.warehouses)
+  AreGone lasting.Districts = OfDistricts (loss_apart same_district b.districts n.districts)
+  AreGone lasting.Customers = OfCustomers (loss_apart same_customer b.customers n.customers)
+  AreGone lasting.Items = OfNumbers (loss_apart nat_eq b.items n.items)
+  AreGone lasting.Stocks = OfStocks (loss_apart same_stock b.stocks n.stocks)
 
   abbrev pub AreChanged : Lasting → List Finding → Type 0
-  AreChanged lasting.Warehouses = OfNumbers (changed nat_eq b.warehouses n.warehouses)
-  AreChanged lasting.Districts = OfDistricts (changed same_district b.districts n.districts)
-  AreChanged lasting.Customers = OfCustomers (changed same_customer b.customers n.customers)
-  AreChanged lasting.Items = OfNumbers (changed nat_eq b.items n.items)
-  AreChanged lasting.Stocks = OfStocks (changed same_stock b.stocks n.stocks)
+  AreChanged lasting.Warehouses = OfNumbers (change_apart nat_eq b.warehouses n.warehouses)
+  AreChanged lasting.Districts = OfDistricts (change_apart same_district b.districts n.districts)
+  AreChanged lasting.Customers = OfCustomers (change_apart same_customer b.customers n.customers)
+  AreChanged lasting.Items = OfNumbers (change_apart nat_eq b.items n.items)
+  AreChanged lasting.Stocks = OfStocks (change_apart same_stock b.stocks n.stocks)
 
   abbrev pub IsCompared : Before → List Finding → Type 0
   IsCompared (before.Gone table) = AreGone table
   IsCompared (before.Changed table) = AreChanged table
-  IsCompared before.Moved = OfStocks (moved b.residues n.residues)
+  IsCompared before.Moved = OfStocks (residue_apart b.residues n.residues)
 
 -- Of these facts, where the population had `initial` orders in each district, and a district has `each` customers.
 module _ (initial each : ℕ) (t : Facts) where
@@ -142,7 +142,7 @@ module _ (initial each : ℕ) (t : Facts) where
 
   abbrev pub Extends : Extent → List Finding → Type 0
   Extends extent.Districts = OfNumbers (ten_districts t.warehouses t.districts)
-  Extends extent.Stocks = OfStocks (stocked t.warehouses t.items t.stocks)
+  Extends extent.Stocks = OfStocks (stock_apart t.warehouses t.items t.stocks)
   Extends extent.Customers = OfDistricts (customers_each each t.districts t.customers)
   Extends extent.Orders = OfDistricts (orders_without_gap t.orders)
 

@@ -22,13 +22,13 @@ use Rattle.oe_books.specs.declared.books.Initial.TheVariants as initial
 use Rattle.oe_books.specs.Facts.{Facts}
 
 -- a number, as 64 bits hold it
-abbrev pub capped : ℕ → ℕ
-capped n = min n (2 ^ 64 - 1)
+abbrev pub in_64_bits : ℕ → ℕ
+in_64_bits n = min n (2 ^ 64 - 1)
 
 -- a table's ledger is of these facts, and counts them
 pub record IsOf {F L : Type 0} (IsKept : List F → L → Type 0) (facts : List F) (rows : Rows L) : Type 0 where
   pub kept : IsKept facts rows.kept
-  pub counted : rows.count ≡ capped (length facts)
+  pub counted : rows.count ≡ in_64_bits (length facts)
 
 -- what is kept of DISTRICT rows, whose D_YTD 64 bits hold, and the like of other tables
 pub record BookDistricts (facts : List DistrictFact) (kept : Districts) : Type 0 where

@@ -2,7 +2,7 @@
 ghost use Rattle.std.specs.Prelude.{◌≡◌, ◌⊎◌, ◌<◌, ◌≤◌, ◌+◌, ◌^◌, [], OnOk, OnSome};
 ghost use Rattle.std.specs.Int.RustNames.{unsigned_abs};
 ghost use Rattle.oe_ledgers.specs.Keeping.{KeepsWarehouses, KeepsCustomers, KeepsNewOrders, KeepsItems, KeepsStocks, Takes};
-ghost use Rattle.oe_books.specs.Keeping.{capped, IsOf, BookDistricts, BookHistories, BookOrders, BookLines};
+ghost use Rattle.oe_books.specs.Keeping.{in_64_bits, IsOf, BookDistricts, BookHistories, BookOrders, BookLines};
 
 use oe_facts::facts::{
     CustomerFact, DistrictFact, HistoryFact, ItemFact, NewOrderFact, OrderFact, OrderLineFact,
@@ -94,7 +94,7 @@ fn below(number: u32)
 
 // Counts one row more.
 fn count(rows: &mut u64)
-    ensures { rows.new ≡ capped (rows.old + 1) }
+    ensures { rows.new ≡ in_64_bits (rows.old + 1) }
 {
     *rows = rows.saturating_add(1);
 }

@@ -4,18 +4,18 @@ use Rattle.std.specs.Prelude.{None}
 use Rattle.std.specs.List.{flat_map}
 use Rattle.oe_busy.specs.declared.happenings.Happening.{Happening}
 use Rattle.oe_busy.specs.declared.tables.Busyness.{Busyness}
-use Rattle.oe_busy.specs.Happenings.{busy_count, count_in, counted, counts, longest, met_more, named}
+use Rattle.oe_busy.specs.Happenings.{busy_count, count_in, counts_with, counts, longest, met_more, name_in_way}
 use Rattle.oe_busy.specs.Happenings.{AreWaits}
 use Rattle.oe_busy.specs.Firsts.{name_line, AreMostBusy}
 use Rattle.oe_busy.specs.Tables.{kind_lines, wait_line, AreCounted, IsTable}
 use Rattle.oe_busy.proofs.FirstFacts.{AreShown}
 
 pub counted_more : (b b' : Busyness) (x : Happening) (hs : List Happening) → AreCounted b hs
-    → b'.counts ≡ counted x b.counts → AreWaits b'.waits (x ∷ hs)
-    → count_in b'.names ≡ met_more (named x) (count_in b.names) → AreCounted b' (x ∷ hs)
+    → b'.counts ≡ counts_with x b.counts → AreWaits b'.waits (x ∷ hs)
+    → count_in b'.names ≡ met_more (name_in_way x) (count_in b.names) → AreCounted b' (x ∷ hs)
 counted_more b b' x hs h counts_are waits_are names_are = record {
-  counts_are = counts_are ∙ ap (counted x) h.counts_are;
-  names_are = names_are ∙ ap (met_more (named x)) h.names_are;
+  counts_are = counts_are ∙ ap (counts_with x) h.counts_are;
+  names_are = names_are ∙ ap (met_more (name_in_way x)) h.names_are;
   waits_are = waits_are;
 }
 

@@ -61,8 +61,8 @@ abbrev pub counted_at : Option Name → Happening → Counts → Counts
 counted_at None h c = c
 counted_at (Some n) h c = with_kind n (with_more h (kind_counts n c)) c
 
-abbrev pub counted : Happening → Counts → Counts
-counted h = counted_at (lock_of h) h
+abbrev pub counts_with : Happening → Counts → Counts
+counts_with h = counted_at (lock_of h) h
 
 abbrev pub none_of : KindCounts
 none_of = record { shared = 0; exclusive = 0; busy = 0; cycles = 0 }
@@ -80,7 +80,7 @@ no_counts = record {
 
 abbrev pub counts : List Happening → Counts
 counts [] = no_counts
-counts (h ∷ hs) = counted h (counts hs)
+counts (h ∷ hs) = counts_with h (counts hs)
 
 -- counts in a list with a place for each
 abbrev pub counts_in : List ℕ → ℕ → ℕ
@@ -89,14 +89,14 @@ counts_in list c = get_or list c 0
 -- BY NAME
 
 -- the name that was in the way
-abbrev pub named : Happening → Option Name
-named happening.Begun = None
-named happening.Done = None
-named (happening.Went t) = None
-named (happening.Took t n m) = None
-named (happening.Waits t n u) = Some n
-named (happening.Broke t n) = None
-named (happening.GaveWay t) = None
+abbrev pub name_in_way : Happening → Option Name
+name_in_way happening.Begun = None
+name_in_way happening.Done = None
+name_in_way (happening.Went t) = None
+name_in_way (happening.Took t n m) = None
+name_in_way (happening.Waits t n u) = Some n
+name_in_way (happening.Broke t n) = None
+name_in_way (happening.GaveWay t) = None
 
 -- one more of it
 abbrev pub met_more : Option Name → (Name → ℕ) → Name → ℕ
@@ -106,7 +106,7 @@ met_more (Some n) f = λ q. if ghosts.eq n q then suc (f q) else f q
 -- how often each name was answered `Busy`
 abbrev pub busy_count : List Happening → Name → ℕ
 busy_count [] = λ q. 0
-busy_count (h ∷ hs) = met_more (named h) (busy_count hs)
+busy_count (h ∷ hs) = met_more (name_in_way h) (busy_count hs)
 
 -- the same in a list of names with their counts
 abbrev pub count_in : List (Name × ℕ) → Name → ℕ
@@ -135,23 +135,23 @@ meets (happening.Broke t n) = None
 meets (happening.GaveWay t) = None
 
 -- a terminal that goes on waits no longer; one that is answered `Busy` waits from this line on, unless it did already
-abbrev pub gone : Option ℕ → (ℕ → ℕ) → ℕ → ℕ
-gone None f = f
-gone (Some t) f = set t 0 f
+abbrev pub without_wait : Option ℕ → (ℕ → ℕ) → ℕ → ℕ
+without_wait None f = f
+without_wait (Some t) f = set t 0 f
 
-abbrev pub begun : Option ℕ → ℕ → (ℕ → ℕ) → ℕ → ℕ
-begun None line f = f
-begun (Some t) line f = if f t == 0 then set t line f else f
+abbrev pub wait_starts : Option ℕ → ℕ → (ℕ → ℕ) → ℕ → ℕ
+wait_starts None line f = f
+wait_starts (Some t) line f = if f t == 0 then set t line f else f
 
 -- The number of the line, from 1 on, at which a terminal's wait began; 0 where it does not wait.
 abbrev pub since : List Happening → ℕ → ℕ
 since [] = λ t. 0
-since (h ∷ hs) = begun (meets h) (suc (length hs)) (gone (ends h) (since hs))
+since (h ∷ hs) = wait_starts (meets h) (suc (length hs)) (without_wait (ends h) (since hs))
 
 -- how many lines were between the first `Busy` of a terminal and the line behind these, at which it goes on
-abbrev pub waited : Option ℕ → ℕ → (ℕ → ℕ) → ℕ
-waited None lines f = 0
-waited (Some t) lines f = if f t == 0 then 0 else lines - f t
+abbrev pub wait_length : Option ℕ → ℕ → (ℕ → ℕ) → ℕ
+wait_length None lines f = 0
+wait_length (Some t) lines f = if f t == 0 then 0 else lines - f t
 
 abbrev pub greater : ℕ → ℕ → ℕ
 greater a b = if nat_lt a b then b else a
@@ -160,7 +160,7 @@ greater a b = if nat_lt a b then b else a
 -- or was rolled back
 abbrev pub longest : List Happening → ℕ
 longest [] = 0
-longest (h ∷ hs) = greater (longest hs) (waited (ends h) (length hs) (since hs))
+longest (h ∷ hs) = greater (longest hs) (wait_length (ends h) (length hs) (since hs))
 
 -- they are the waits of these happenings
 pub record AreWaits (w : Waits) (hs : List Happening) : Type 0 where

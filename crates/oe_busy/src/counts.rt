@@ -1,6 +1,6 @@
 //! How often locks of each kind of name were taken, in the way, or broken out of.
 ghost use Rattle.std.specs.Prelude.{◌≡◌, suc, option_map, IfOk, OnOk};
-ghost use Rattle.oe_busy.specs.Happenings.{counted, kind_counts, lock_of, no_counts, none_of, with_kind, with_more};
+ghost use Rattle.oe_busy.specs.Happenings.{counts_with, kind_counts, lock_of, no_counts, none_of, with_kind, with_more};
 
 use crate::happenings::Happening;
 use crate::tables::Uncounted;
@@ -127,7 +127,7 @@ fn add(of: &mut KindCounts, happening: &Happening) -> Result<(), Uncounted>
 
 /// Counts what happened, where it is counted.
 pub(crate) fn count(counts: &mut Counts, happening: &Happening) -> Result<(), Uncounted>
-    ensures { OnOk result (counts.new ≡ counted happening.now counts.old) }
+    ensures { OnOk result (counts.new ≡ counts_with happening.now counts.old) }
 {
     let Some(name) = lock_of(happening) else {
         return Ok(());

@@ -3,7 +3,7 @@ ghost use Rattle.std.specs.Prelude.{◌≡◌, [], Some, cond, OnOk};
 ghost use Rattle.std.specs.Map.{keys_of, lookup};
 ghost use Rattle.oe_rows.specs.declared.locks.Name.{Name};
 ghost use Rattle.oe_rows.specs.contracts.locks.NamePartialEq.TheImpl.{ghosts};
-ghost use Rattle.oe_busy.specs.Happenings.{count_in, named, met_more};
+ghost use Rattle.oe_busy.specs.Happenings.{count_in, name_in_way, met_more};
 
 use crate::happenings::Happening;
 use crate::tables::Uncounted;
@@ -78,7 +78,7 @@ impl NameCounts {
     /// Counts the name that was in the way, where one was.
     pub(crate) fn note(&mut self, happening: &Happening) -> Result<(), Uncounted>
         ensures { OnOk result
-            (count_in self.new ≡ met_more (named happening.now) (count_in self.old)) }
+            (count_in self.new ≡ met_more (name_in_way happening.now) (count_in self.old)) }
     {
         match happening {
             Happening::Waits(_, name, _) => self.add(name),

@@ -2,7 +2,7 @@
 ghost use Rattle.std.specs.Prelude.{◌≡◌, ◌∷◌, List, [], OnOk};
 ghost use Rattle.oe_busy.specs.declared.happenings.Happening.{Happening};
 ghost use Rattle.oe_theory.specs.World.{set};
-ghost use Rattle.oe_busy.specs.Happenings.{begun, counts_in, ends, gone, greater, meets, waited};
+ghost use Rattle.oe_busy.specs.Happenings.{wait_starts, counts_in, ends, without_wait, greater, meets, wait_length};
 ghost use Rattle.oe_busy.specs.Happenings.{AreWaits};
 
 use crate::happenings::Happening;
@@ -62,7 +62,7 @@ fn put(since: &mut Since, terminal: Terminal, line: u64)
 /// Counts the lines between a terminal's first `Busy` and the line behind the last one, at which
 /// this happens.
 fn waited(since: &Since, happening: &Happening, lines: u64) -> u64
-    ensures { result ≡ waited (ends happening.now) lines (counts_in since.now) }
+    ensures { result ≡ wait_length (ends happening.now) lines (counts_in since.now) }
 {
     let Some(terminal) = ended(happening) else {
         return 0;
@@ -76,7 +76,7 @@ fn waited(since: &Since, happening: &Happening, lines: u64) -> u64
 
 /// Ends the wait of a terminal that has gone on.
 fn end(since: &mut Since, happening: &Happening)
-    ensures { counts_in since.new ≡ gone (ends happening.now) (counts_in since.old) }
+    ensures { counts_in since.new ≡ without_wait (ends happening.now) (counts_in since.old) }
 {
     match ended(happening) {
         Some(terminal) => put(since, terminal, 0),
@@ -86,7 +86,7 @@ fn end(since: &mut Since, happening: &Happening)
 
 /// Begins the wait of a terminal that was answered `Busy`, unless it waits already.
 fn begin(since: &mut Since, happening: &Happening, line: u64)
-    ensures { counts_in since.new ≡ begun (meets happening.now) line (counts_in since.old) }
+    ensures { counts_in since.new ≡ wait_starts (meets happening.now) line (counts_in since.old) }
 {
     let Some(terminal) = met(happening) else {
         return;

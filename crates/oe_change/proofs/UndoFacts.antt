@@ -9,7 +9,7 @@ use Rattle.oe_rows.specs.declared.layouts.Layout.TheVariants.{WholeRows, Changed
 use Rattle.oe_model.specs.Rows.{Rows, is_key, row_at}
 use Rattle.oe_model.specs.Changes.{Change, InsertHistory, InsertNewOrder, InsertOrder, InsertOrderLine, UpdateWarehouse}
 use Rattle.oe_model.specs.Changes.{UpdateDistrict, UpdateCustomer, UpdateOrder, UpdateOrderLine, UpdateStock}
-use Rattle.oe_model.specs.Changes.{DeleteNewOrder, key_of, row_of, changed, Record, record_of, changed_of, record_in}
+use Rattle.oe_model.specs.Changes.{DeleteNewOrder, key_of, row_of, rows_after, Record, record_of, changed_of, record_in}
 use Rattle.oe_model.specs.Changes.{record_key, restore, put_back}
 use Rattle.oe_model.specs.Meets.{Meets}
 use Rattle.oe_model.proofs.RowFacts.{key_true, key_refl, at_changed, at_put_back, in_layout_key, in_layout_before}
@@ -109,7 +109,7 @@ can_later l c v s left place schema = record {
   schema = schema;
 }
 
-left_at : (c : Change) (r : Rows) → row_at (changed c r) (key_of c) ≡ row_of c
+left_at : (c : Change) (r : Rows) → row_at (rows_after c r) (key_of c) ≡ row_of c
 left_at c r = at_changed c r (key_of c) ∙ ap (λ b. cond b (row_of c) (row_at r (key_of c))) (key_refl (key_of c))
 
 -- so it can at once

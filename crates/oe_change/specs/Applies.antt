@@ -6,8 +6,8 @@ use Rattle.oe_rows.specs.declared.layouts.Layout.{Layout}
 use Rattle.oe_requests.specs.declared.refusals.Refusal.{Refusal}
 use Rattle.oe_requests.specs.declared.refusals.Refusal.TheVariants.{Reference, NoMemory}
 use Rattle.oe_model.specs.Rows.{Rows, row_at}
-use Rattle.oe_model.specs.Changes.{Change, UpdateCustomer, key_of, changed, Record, record_in}
-use Rattle.oe_model.specs.Meets.{Accepts, Cause, is_insert, referred}
+use Rattle.oe_model.specs.Changes.{Change, UpdateCustomer, key_of, rows_after, Record, record_in}
+use Rattle.oe_model.specs.Meets.{Accepts, Cause, is_insert, new_references}
 use Rattle.oe_index.specs.Listed.{HasOtherName}
 use Rattle.oe_layout.specs.declared.records.OwnRecord.{OwnRecord}
 use Rattle.oe_layout.specs.Records.{record_of_own}
@@ -16,7 +16,7 @@ use Rattle.oe_store.specs.Places.{Places, rows, HasPlace, AddsPlace}
 -- the tables accept the change, and it is made; `b` is its undo record in the layout
 pub record Applies (l : Layout) (c : Change) (old new : Places) (b : Record) : Type 0 where
   pub accepted : Accepts c (rows old)
-  pub changes : rows new ≡ changed c (rows old)
+  pub changes : rows new ≡ rows_after c (rows old)
   pub before : b ≡ record_in l c (row_at (rows old) (key_of c))
   -- each key that had a place has one, and the change's key
   pub places : AddsPlace old new (key_of c)
@@ -43,5 +43,5 @@ Refuses c s e = Cause c (rows s) e
 abbrev pub IsFirst : Change → Rows → Refusal → Type 0
 IsFirst c r (Reference k) =
     (is_some (row_at r (key_of c)) ≡ not (is_insert c))
-    × (find (λ j. is_none (row_at r j)) (referred c) ≡ Some k)
+    × (find (λ j. is_none (row_at r j)) (new_references c) ≡ Some k)
 IsFirst c r _ = Unit {0}

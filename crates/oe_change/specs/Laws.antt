@@ -5,7 +5,7 @@ use Rattle.oe_rows.specs.declared.rows.Row.{Row}
 use Rattle.oe_rows.specs.declared.layouts.Layout.{Layout}
 use Rattle.oe_rows.specs.declared.layouts.Layout.TheVariants.{WholeRows, ChangedColumns}
 use Rattle.oe_model.specs.Rows.{Rows, is_key, row_at}
-use Rattle.oe_model.specs.Changes.{Change, key_of, row_of, changed, Record, record_in, put_back}
+use Rattle.oe_model.specs.Changes.{Change, key_of, row_of, rows_after, Record, record_in, put_back}
 use Rattle.oe_model.specs.Meets.{Meets}
 use Rattle.oe_store.specs.Places.{Places, rows, HasPlace}
 use Rattle.oe_layout.specs.declared.records.OwnRecord.{OwnRecord}
@@ -24,7 +24,7 @@ IsAsLeft ChangedColumns c s = row_at s (key_of c) ≡ row_of c
 -- a change and its undo leave all nine tables as they were, whatever they were
 pub record Apply_then_undo_is_identity : Type 0 where
   pub at_once : (l : Layout) (c : Change) (r : Rows)
-      → put_back (record_in l c (row_at r (key_of c))) (changed c r) ≡ r
+      → put_back (record_in l c (row_at r (key_of c))) (rows_after c r) ≡ r
   -- where other rows changed in between, they stay so, and the row is the one before
   pub in_between : (l : Layout) (c : Change) (r s : Rows) (k : Key) → IsAsLeft l c s
       → row_at (put_back (record_in l c (row_at r (key_of c))) s) k

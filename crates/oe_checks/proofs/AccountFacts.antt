@@ -22,7 +22,7 @@ use Rattle.oe_ledgers.specs.Columns.{of_key}
 use Rattle.oe_ledgers.specs.Keys.{same_customer, customer_cmp}
 use Rattle.oe_ledgers.specs.Figures.{AreFew, AreAmounts, paid_by_customer}
 use Rattle.oe_ledgers.proofs.SumFacts.{abs_at_most}
-use Rattle.oe_checks.specs.Deliveries.{same_known, customer_of, delivered, delivered_to}
+use Rattle.oe_checks.specs.Deliveries.{same_known, customer_of, delivered_amount, delivered_to}
 use Rattle.oe_checks.specs.Accounts.{less, net, wrapped_less}
 
 pub customers_total : IsTotalOrder customer_cmp
@@ -80,14 +80,14 @@ module _ {F K : Type 0} (same : K → K → Bool) (key : F → K) (column : F �
       wider (of_key same key (λ p q. p +ℤ q) column facts k) (length facts) few (bounded-by facts k h)
 
 within-amounts : (ls : List OrderLineFact) → AllByRecursion (λ (f : OrderLineFact). unsigned_abs f.amount ≤ 2 ^ 63) ls
-    → AllByRecursion (λ f. unsigned_abs (delivered f) ≤ 2 ^ 63) ls
+    → AllByRecursion (λ f. unsigned_abs (delivered_amount f) ≤ 2 ^ 63) ls
 within-amounts [] h = tt
 within-amounts (f ∷ ls) h = (omega (arith, abs_at_most f.is_delivered f.amount, h.0), within-amounts ls h.1)
 
 pub delivered-bounded : (os : List OrderFact) (ls : List OrderLineFact) (c : CustomerId) → AreFew ls
     → AreAmounts (λ (f : OrderLineFact). f.amount) ls → IsBounded (delivered_to os ls c)
 delivered-bounded os ls c few amounts =
-    bounded same_known (λ (f : OrderLineFact). customer_of os f.order) delivered ls (Some c) few
+    bounded same_known (λ (f : OrderLineFact). customer_of os f.order) delivered_amount ls (Some c) few
     (within-amounts ls (recursion_from_All (λ (f : OrderLineFact). unsigned_abs f.amount ≤ 2 ^ 63) ls amounts))
 
 pub paid-bounded : (hs : List HistoryFact) (c : CustomerId) → AreFew hs → AreAmounts (λ (f : HistoryFact). f.amount) hs

@@ -25,7 +25,7 @@ use Rattle.oe_ledgers.specs.declared.orders.OrderSums.{OrderSums}
 use Rattle.oe_ledgers.specs.declared.orders.Orders.{Orders}
 use Rattle.oe_ledgers.specs.declared.order_lines.LineSums.{LineSums}
 use Rattle.oe_ledgers.specs.declared.order_lines.OrderLines.{OrderLines}
-use Rattle.oe_ledgers.specs.Columns.{of_key, wrapped}
+use Rattle.oe_ledgers.specs.Columns.{of_key, sum_in_128_bits}
 use Rattle.oe_ledgers.specs.ColumnLaws.{wrapped_associative, wrapped_commutative}
 use Rattle.oe_ledgers.specs.Keys.{same_customer, same_order, order_cmp}
 use Rattle.oe_ledgers.specs.Sums.{orders_joined, lines_joined, takings_joined}
@@ -33,7 +33,7 @@ use Rattle.oe_ledgers.specs.Keeping.{Keeps, KeepsOrders, KeepsOrderLines, order_
 use Rattle.oe_ledgers.specs.Figures.{AreFew, AreAmounts}
 use Rattle.oe_ledgers.proofs.SumFacts.{projected, summed, abs_at_most}
 use Rattle.oe_checks.specs.declared.deliveries.Delivery.{Delivery}
-use Rattle.oe_checks.specs.Deliveries.{customer_at, customer_of, same_known, delivered, delivered_to, delivery}
+use Rattle.oe_checks.specs.Deliveries.{customer_at, customer_of, same_known, delivered_amount, delivered_to, delivery}
 use Rattle.oe_checks.specs.Deliveries.{delivery_entry, HasDeliveries}
 use Rattle.oe_checks.proofs.RegroupFacts.{total-found, regroup, all-found}
 
@@ -93,24 +93,27 @@ itself-mapped None = refl
 itself-mapped (Some z) = refl
 
 within-amounts : (ls : List OrderLineFact) → AllByRecursion (λ (f : OrderLineFact). unsigned_abs f.amount ≤ 2 ^ 63) ls
-    → AllByRecursion (λ f. unsigned_abs (delivered f) ≤ 2 ^ 63) ls
+    → AllByRecursion (λ f. unsigned_abs (delivered_amount f) ≤ 2 ^ 63) ls
 within-amounts [] h = tt
 within-amounts (f ∷ ls) h = (omega (arith, abs_at_most f.is_delivered f.amount, h.0), within-amounts ls h.1)
 
-adds-wrapped : (a b : ℤ) → unsigned_abs (a +ℤ b) ≤ 2 ^ 127 - 1 → wrapped a b ≡ a +ℤ b
+adds-wrapped : (a b : ℤ) → unsigned_abs (a +ℤ b) ≤ 2 ^ 127 - 1 → sum_in_128_bits a b ≡ a +ℤ b
 adds-wrapped a b h = int_wrap_fits w128 (a +ℤ b) (fits_signed_from_abs w128 (a +ℤ b) (omega arith))
 
 -- sums by a customer that stands with each entry, and by the order's
 keyed : (os : List OrderFact) (found : List (OrderId × Delivery)) (c : CustomerId)
     → AllByRecursion (λ (q : OrderId × Delivery). customer_of os q.0 ≡ Some (customer_at q.0 q.1.customer)) found
-    → total same_customer wrapped (map (λ (q : OrderId × Delivery). (customer_at q.0 q.1.customer, q.1.amount)) found) c
-    ≡ total same_known wrapped (map (λ (q : OrderId × Delivery). (customer_of os q.0, q.1.amount)) found) (Some c)
+    → total same_customer sum_in_128_bits
+    (map (λ (q : OrderId × Delivery). (customer_at q.0 q.1.customer, q.1.amount)) found) c
+    ≡ total same_known sum_in_128_bits (map (λ (q : OrderId × Delivery). (customer_of os q.0, q.1.amount)) found)
+    (Some c)
 keyed os [] c h = refl
 keyed os (q ∷ found) c h =
-    ap (together wrapped (cond (same_customer (customer_at q.0 q.1.customer) c) (Some q.1.amount) None))
+    ap (together sum_in_128_bits (cond (same_customer (customer_at q.0 q.1.customer) c) (Some q.1.amount) None))
     (keyed os found c h.1)
-    ∙ ap (λ j. together wrapped (cond (same_known j (Some c)) (Some q.1.amount) None)
-    (total same_known wrapped (map (λ (q : OrderId × Delivery). (customer_of os q.0, q.1.amount)) found) (Some c)))
+    ∙ ap (λ j. together sum_in_128_bits (cond (same_known j (Some c)) (Some q.1.amount) None)
+    (total same_known sum_in_128_bits (map (λ (q : OrderId × Delivery). (customer_of os q.0, q.1.amount)) found)
+    (Some c)))
     (sym h.0)
 
 module _ (os : List OrderFact) (ls : List OrderLineFact) (kept_orders : Orders) (kept_lines : OrderLines)
@@ -126,10 +129,10 @@ module _ (os : List OrderFact) (ls : List OrderLineFact) (kept_orders : Orders) 
 
   amount-is : (k : OrderId)
       → option_map (λ (s : LineSums). s.amount) (total same_order lines_joined kept_lines.by_order k)
-      ≡ of_key same_order (λ (f : OrderLineFact). f.order) wrapped delivered ls k
+      ≡ of_key same_order (λ (f : OrderLineFact). f.order) sum_in_128_bits delivered_amount ls k
   amount-is k =
       ap (option_map (λ (s : LineSums). s.amount)) (lines.by_order k)
-      ∙ projected same_order lines_joined wrapped line_entry (λ (s : LineSums). s.amount) (λ a b. refl) ls k
+      ∙ projected same_order lines_joined sum_in_128_bits line_entry (λ (s : LineSums). s.amount) (λ a b. refl) ls k
 
   -- where an order is known, what was delivered is what its lines say
   delivery-amount : (o : Option OrderSums) (l : Option LineSums) (k : OrderId) (c : CustomerId)
@@ -159,10 +162,10 @@ module _ (os : List OrderFact) (ls : List OrderLineFact) (kept_orders : Orders) 
         subst (IsStrictlySortedBy order_cmp) (sym (keys-values (λ (d : Delivery). d.amount) found)) all.ordered
 
     amount-at : (c : CustomerId) (k : OrderId) → same_known (customer_of os k) (Some c) ≡ true
-        → total same_order wrapped (map (λ (e : OrderId × Delivery). (e.0, e.1.amount)) found) k
-        ≡ total same_order wrapped (map (λ (f : OrderLineFact). (f.order, delivered f)) ls) k
+        → total same_order sum_in_128_bits (map (λ (e : OrderId × Delivery). (e.0, e.1.amount)) found) k
+        ≡ total same_order sum_in_128_bits (map (λ (f : OrderLineFact). (f.order, delivered_amount f)) ls) k
     amount-at c k counts =
-        total-found order_cmp orders_total orders_tie wrapped
+        total-found order_cmp orders_total orders_tie sum_in_128_bits
         (map (λ (e : OrderId × Delivery). (e.0, e.1.amount)) found) k amounts-settled
         ∙ lookup-values (λ (d : Delivery). d.amount) (λ x. same_order x k) found
         ∙ ap (option_map (λ (d : Delivery). d.amount)) (all.exact k)
@@ -187,19 +190,23 @@ module _ (os : List OrderFact) (ls : List OrderLineFact) (kept_orders : Orders) 
         → AreFew ls → AreAmounts (λ (f : OrderLineFact). f.amount) ls → HasDeliveries os ls tally
     delivered-kept tally kept few amounts c =
         ap (option_map (λ (s : Takings). s.amount)) (kept c)
-        ∙ projected same_customer takings_joined wrapped delivery_entry (λ (s : Takings). s.amount) (λ a b. refl)
+        ∙ projected same_customer takings_joined sum_in_128_bits delivery_entry (λ (s : Takings). s.amount)
+        (λ a b. refl)
         found c
         ∙ keyed os found c customers-found
-        ∙ sym (total-map same_known wrapped (λ (e : OrderId × Delivery). (e.0, e.1.amount)) (customer_of os) found
+        ∙ sym (total-map same_known sum_in_128_bits (λ (e : OrderId × Delivery). (e.0, e.1.amount))
+        (customer_of os) found
         (Some c))
-        ∙ regroup order_cmp orders_total orders_tie exact_orders same_known wrapped wrapped_associative
+        ∙ regroup order_cmp orders_total orders_tie exact_orders same_known sum_in_128_bits wrapped_associative
         wrapped_commutative
         (customer_of os) (Some c) (map (λ (e : OrderId × Delivery). (e.0, e.1.amount)) found)
-        (map (λ (f : OrderLineFact). (f.order, delivered f)) ls) amounts-settled (amount-at c)
-        ∙ total-map same_known wrapped (λ (f : OrderLineFact). (f.order, delivered f)) (customer_of os) ls (Some c)
-        ∙ sym (itself-mapped (total same_known wrapped
-        (map (λ (f : OrderLineFact). (customer_of os f.order, delivered f)) ls) (Some c)))
-        ∙ summed same_known wrapped (λ (f : OrderLineFact). (customer_of os f.order, delivered f)) (λ z. z)
+        (map (λ (f : OrderLineFact). (f.order, delivered_amount f)) ls) amounts-settled (amount-at c)
+        ∙ total-map same_known sum_in_128_bits (λ (f : OrderLineFact). (f.order, delivered_amount f))
+        (customer_of os) ls (Some c)
+        ∙ sym (itself-mapped (total same_known sum_in_128_bits
+        (map (λ (f : OrderLineFact). (customer_of os f.order, delivered_amount f)) ls) (Some c)))
+        ∙ summed same_known sum_in_128_bits (λ (f : OrderLineFact). (customer_of os f.order, delivered_amount f))
+        (λ z. z)
         (2 ^ 127 - 1) (2 ^ 63)
         adds-wrapped ls (Some c)
         (within-amounts ls (recursion_from_All (λ (f : OrderLineFact). unsigned_abs f.amount ≤ 2 ^ 63) ls

@@ -23,7 +23,7 @@ use Rattle.oe_ledgers.specs.declared.stocks.StockSums.{StockSums}
 use Rattle.oe_ledgers.specs.Keys.{same_district, district_cmp, same_stock, stock_cmp}
 use Rattle.oe_ledgers.specs.Sums.{stocks_joined, warehouses_joined}
 use Rattle.oe_checks.specs.declared.figures.Apart.{Apart}
-use Rattle.oe_checks.specs.Sizes.{unstocked, one_missing, stock_at, missing_of, all_missing}
+use Rattle.oe_checks.specs.Sizes.{missing_stock, one_missing, stock_at, missing_of, all_missing}
 use Rattle.oe_checks.proofs.RegroupFacts.{none-behind}
 
 pub mapped-twice : {V A B : Type 0} (f : V → A) (g : A → B) (r : Option V) → option_map (λ s. g (f s)) r
@@ -67,7 +67,7 @@ none-before join es first rest is up d less =
 -- only whether there are rows counts
 pub unstocked-mapped : {A B C D E F : Type 0} (f : A → D) (g : B → E) (h : C → F) (w : Option A) (i : Option B)
     (s : Option C)
-    → unstocked w i s ≡ unstocked (option_map f w) (option_map g i) (option_map h s)
+    → missing_stock w i s ≡ missing_stock (option_map f w) (option_map g i) (option_map h s)
 unstocked-mapped f g h None i s = refl
 unstocked-mapped f g h (Some w) None s = refl
 unstocked-mapped f g h (Some w) (Some i) None = refl
@@ -101,7 +101,7 @@ module _ (stocks : List (StockId × StockSums)) (k : StockId) where
 
   here-step : (w : ℕ) (i : Count) (s : Option StockSums) (key : StockId) (rest : List (StockId × Apart))
       → same_stock key k ≡ true
-      → at rest ≡ None → at (cond (is_some s) rest ((key, one_missing) ∷ rest)) ≡ unstocked (Some w) (Some i) s
+      → at rest ≡ None → at (cond (is_some s) rest ((key, one_missing) ∷ rest)) ≡ missing_stock (Some w) (Some i) s
   here-step w i None key rest tie none = ap (λ t. cond t (Some one_missing) (at rest)) tie
   here-step w i (Some s) key rest tie none = none
 
@@ -118,9 +118,9 @@ module _ (stocks : List (StockId × StockSums)) (k : StockId) where
       → nat_eq e.0 k.item ≡ b
       → IsSettled nat_cmp (e ∷ items)
       → at (missing_of stocks w items)
-      ≡ unstocked (Some w) (total nat_eq counts_joined items k.item) (total same_stock stocks_joined stocks k)
+      ≡ missing_stock (Some w) (total nat_eq counts_joined items k.item) (total same_stock stocks_joined stocks k)
       → at (missing_of stocks w (e ∷ items))
-      ≡ unstocked (Some w) (total nat_eq counts_joined (e ∷ items) k.item) (total same_stock stocks_joined stocks k)
+      ≡ missing_stock (Some w) (total nat_eq counts_joined (e ∷ items) k.item) (total same_stock stocks_joined stocks k)
   item-step true w e items here tie up h =
       let none : total nat_eq counts_joined items k.item ≡ None =
       none-behind nat_cmp nat_cmp_total unsigned_ties counts_joined e items k.item up tie in
@@ -132,28 +132,28 @@ module _ (stocks : List (StockId × StockSums)) (k : StockId) where
       here-step w e.1 (total same_stock stocks_joined stocks (stock_at w e.0)) (stock_at w e.0)
       (missing_of stocks w items)
       (ap (λ x. x && nat_eq e.0 k.item) here ∙ tie)
-      (h ∙ ap (λ i. unstocked (Some w) i (total same_stock stocks_joined stocks k)) none)
-      ∙ ap (λ x. unstocked (Some w) (Some e.1) (total same_stock stocks_joined stocks x)) key
-      ∙ ap (λ i. unstocked (Some w) i (total same_stock stocks_joined stocks k)) (sym whole)
+      (h ∙ ap (λ i. missing_stock (Some w) i (total same_stock stocks_joined stocks k)) none)
+      ∙ ap (λ x. missing_stock (Some w) (Some e.1) (total same_stock stocks_joined stocks x)) key
+      ∙ ap (λ i. missing_stock (Some w) i (total same_stock stocks_joined stocks k)) (sym whole)
   item-step false w e items here other up h =
       skipped (is_some (total same_stock stocks_joined stocks (stock_at w e.0))) (stock_at w e.0)
       (missing_of stocks w items)
       (ap (λ x. x && nat_eq e.0 k.item) here ∙ other)
       ∙ h
-      ∙ ap (λ b. unstocked (Some w)
+      ∙ ap (λ b. missing_stock (Some w)
       (together counts_joined (cond b (Some e.1) None) (total nat_eq counts_joined items k.item))
       (total same_stock stocks_joined stocks k)) (sym other)
 
   missing-here : (w : ℕ) → nat_eq w k.warehouse ≡ true → (items : List (ℕ × Count)) → IsSettled nat_cmp items
       → at (missing_of stocks w items)
-      ≡ unstocked (Some w) (total nat_eq counts_joined items k.item) (total same_stock stocks_joined stocks k)
+      ≡ missing_stock (Some w) (total nat_eq counts_joined items k.item) (total same_stock stocks_joined stocks k)
   unfolding IsStrictlySortedBy
   missing-here w here [] up = refl
   missing-here w here (e ∷ items) up = item-step (nat_eq e.0 k.item) w e items here refl up
       (missing-here w here items up.1)
 
-  same-there : {A B C D : Type 0} (a : A) (b : B) (i : Option C) (s : Option D) → unstocked (Some a) i s
-      ≡ unstocked (Some b) i s
+  same-there : {A B C D : Type 0} (a : A) (b : B) (i : Option C) (s : Option D) → missing_stock (Some a) i s
+      ≡ missing_stock (Some b) i s
   same-there a b None s = refl
   same-there a b (Some i) None = refl
   same-there a b (Some i) (Some s) = refl
@@ -161,10 +161,10 @@ module _ (stocks : List (StockId × StockSums)) (k : StockId) where
   warehouse-step : (b : Bool) (items : List (ℕ × Count)) (w : ℕ × WarehouseSums) (ws : List (ℕ × WarehouseSums))
       → nat_eq w.0 k.warehouse ≡ b → IsSettled nat_cmp items → IsSettled nat_cmp (w ∷ ws)
       → at (all_missing stocks items ws)
-      ≡ unstocked (total nat_eq warehouses_joined ws k.warehouse) (total nat_eq counts_joined items k.item)
+      ≡ missing_stock (total nat_eq warehouses_joined ws k.warehouse) (total nat_eq counts_joined items k.item)
       (total same_stock stocks_joined stocks k)
       → at (all_missing stocks items (w ∷ ws))
-      ≡ unstocked (total nat_eq warehouses_joined (w ∷ ws) k.warehouse) (total nat_eq counts_joined items k.item)
+      ≡ missing_stock (total nat_eq warehouses_joined (w ∷ ws) k.warehouse) (total nat_eq counts_joined items k.item)
       (total same_stock stocks_joined stocks k)
   warehouse-step true items w ws tie up ups h =
       let none : total nat_eq warehouses_joined ws k.warehouse ≡ None =
@@ -174,18 +174,18 @@ module _ (stocks : List (StockId × StockSums)) (k : StockId) where
       ∙ ap (together warehouses_joined (Some w.1)) none in
       at-append (missing_of stocks w.0 items) (all_missing stocks items ws)
       ∙ ap (first_of (at (missing_of stocks w.0 items)))
-      (h ∙ ap (λ x. unstocked x (total nat_eq counts_joined items k.item) (total same_stock stocks_joined stocks k))
+      (h ∙ ap (λ x. missing_stock x (total nat_eq counts_joined items k.item) (total same_stock stocks_joined stocks k))
       none)
       ∙ first-none (at (missing_of stocks w.0 items))
       ∙ missing-here w.0 tie items up
       ∙ same-there w.0 w.1 (total nat_eq counts_joined items k.item) (total same_stock stocks_joined stocks k)
-      ∙ ap (λ x. unstocked x (total nat_eq counts_joined items k.item) (total same_stock stocks_joined stocks k))
+      ∙ ap (λ x. missing_stock x (total nat_eq counts_joined items k.item) (total same_stock stocks_joined stocks k))
       (sym whole)
   warehouse-step false items w ws other up ups h =
       at-append (missing_of stocks w.0 items) (all_missing stocks items ws)
       ∙ ap (λ x. first_of x (at (all_missing stocks items ws))) (missing-other w.0 other items)
       ∙ h
-      ∙ ap (λ b. unstocked (together warehouses_joined (cond b (Some w.1) None)
+      ∙ ap (λ b. missing_stock (together warehouses_joined (cond b (Some w.1) None)
       (total nat_eq warehouses_joined ws k.warehouse)) (total nat_eq counts_joined items k.item)
       (total same_stock stocks_joined stocks k)) (sym other)
 
@@ -193,7 +193,7 @@ module _ (stocks : List (StockId × StockSums)) (k : StockId) where
   missing-at : (items : List (ℕ × Count)) (ws : List (ℕ × WarehouseSums)) → IsSettled nat_cmp items
       → IsSettled nat_cmp ws
       → at (all_missing stocks items ws)
-      ≡ unstocked (total nat_eq warehouses_joined ws k.warehouse) (total nat_eq counts_joined items k.item)
+      ≡ missing_stock (total nat_eq warehouses_joined ws k.warehouse) (total nat_eq counts_joined items k.item)
       (total same_stock stocks_joined stocks k)
   unfolding IsStrictlySortedBy
   missing-at items [] up ups = refl
@@ -294,7 +294,7 @@ module _ (stocks : List (StockId × StockSums)) where
   pub all-missing : (items : List (ℕ × Count)) (ws : List (ℕ × WarehouseSums)) → IsSettled nat_cmp items
       → IsSettled nat_cmp ws
       → AreAll stock_cmp same_stock
-      (λ k. unstocked (total nat_eq warehouses_joined ws k.warehouse) (total nat_eq counts_joined items k.item)
+      (λ k. missing_stock (total nat_eq warehouses_joined ws k.warehouse) (total nat_eq counts_joined items k.item)
       (total same_stock stocks_joined stocks k))
       (all_missing stocks items ws)
   all-missing items ws up ups = record {

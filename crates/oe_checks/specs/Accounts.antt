@@ -21,10 +21,10 @@ less None (Some b) = Some (pos 0 -ℤ b)
 less (Some a) (Some b) = Some (a -ℤ b)
 
 -- two figures of one row together
-abbrev pub added : Option ℤ → Option ℤ → Option ℤ
-added None b = None
-added (Some a) None = None
-added (Some a) (Some b) = Some (a +ℤ b)
+abbrev pub figure_sum : Option ℤ → Option ℤ → Option ℤ
+figure_sum None b = None
+figure_sum (Some a) None = None
+figure_sum (Some a) (Some b) = Some (a +ℤ b)
 
 -- clause 3.3.2.10: C_BALANCE is the sum of delivered OL_AMOUNT less the sum of H_AMOUNT
 abbrev pub condition_10 : List CustomerFact → List OrderFact → List OrderLineFact → List HistoryFact → CustomerId
@@ -35,7 +35,7 @@ condition_10 customers orders lines histories c =
 -- clause 3.3.2.12: C_BALANCE and C_YTD_PAYMENT together are the sum of delivered OL_AMOUNT
 abbrev pub condition_12 : List CustomerFact → List OrderFact → List OrderLineFact → CustomerId → Option Apart
 condition_12 customers orders lines c =
-    against (added (c_balance customers c) (c_ytd_payment customers c)) (delivered_to orders lines c)
+    against (figure_sum (c_balance customers c) (c_ytd_payment customers c)) (delivered_to orders lines c)
 
 -- the difference as 128 bits have it
 abbrev pub wrapped_less : ℤ → ℤ → ℤ

@@ -63,12 +63,12 @@ outside (Some x) =
     (cond (int_lt (pos 100) x) (Some (record { first = x; second = pos 100 })) None)
 
 -- how many rows refer to one that is not there, and 0
-abbrev pub orphaned : Option ℤ → Option ℤ → Option Apart
-orphaned None there = None
-orphaned (Some n) None = Some (record { first = n; second = pos 0 })
-orphaned (Some n) (Some m) = None
+abbrev pub orphans_apart : Option ℤ → Option ℤ → Option Apart
+orphans_apart None there = None
+orphans_apart (Some n) None = Some (record { first = n; second = pos 0 })
+orphans_apart (Some n) (Some m) = None
 
 -- how many rows there are where there is more than one, and 1
-abbrev pub repeated : Option ℤ → Option Apart
-repeated None = None
-repeated (Some n) = cond (int_lt (pos 1) n) (Some (record { first = n; second = pos 1 })) None
+abbrev pub repeats_apart : Option ℤ → Option Apart
+repeats_apart None = None
+repeats_apart (Some n) = cond (int_lt (pos 1) n) (Some (record { first = n; second = pos 1 })) None

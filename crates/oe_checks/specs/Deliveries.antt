@@ -29,13 +29,13 @@ same_known (Some a) None = false
 same_known (Some a) (Some b) = same_customer a b
 
 -- OL_AMOUNT of a row that has an OL_DELIVERY_D
-abbrev pub delivered : OrderLineFact → ℤ
-delivered f = cond f.is_delivered f.amount (pos 0)
+abbrev pub delivered_amount : OrderLineFact → ℤ
+delivered_amount f = cond f.is_delivered f.amount (pos 0)
 
 -- the sum of delivered OL_AMOUNT of the rows whose order is the customer's; none where there is no row
 abbrev pub delivered_to : List OrderFact → List OrderLineFact → CustomerId → Option ℤ
 delivered_to orders lines c =
-    of_key same_known (λ f. customer_of orders f.order) (λ a b. a +ℤ b) delivered lines (Some c)
+    of_key same_known (λ f. customer_of orders f.order) (λ a b. a +ℤ b) delivered_amount lines (Some c)
 
 -- what an order and its lines say: its customer, and what was delivered
 abbrev pub delivery : Option OrderSums → Option LineSums → Option Delivery

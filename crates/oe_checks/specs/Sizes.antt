@@ -40,16 +40,16 @@ abbrev pub one_missing : Apart
 one_missing = record { first = pos 1; second = pos 0 }
 
 -- a STOCK row is asked for where there are its warehouse and its item
-abbrev pub unstocked : {A B C : Type 0} → Option A → Option B → Option C → Option Apart
-unstocked None item stock = None
-unstocked (Some w) None stock = None
-unstocked (Some w) (Some i) None = Some one_missing
-unstocked (Some w) (Some i) (Some s) = None
+abbrev pub missing_stock : {A B C : Type 0} → Option A → Option B → Option C → Option Apart
+missing_stock None item stock = None
+missing_stock (Some w) None stock = None
+missing_stock (Some w) (Some i) None = Some one_missing
+missing_stock (Some w) (Some i) (Some s) = None
 
 -- clause 1.2.1: each warehouse has a STOCK row for each item
-abbrev pub stocked : List WarehouseFact → List ItemFact → List StockFact → StockId → Option Apart
-stocked warehouses items stocks k =
-    unstocked (warehouse_rows warehouses k.warehouse) (item_rows items k.item) (stock_rows stocks k)
+abbrev pub stock_apart : List WarehouseFact → List ItemFact → List StockFact → StockId → Option Apart
+stock_apart warehouses items stocks k =
+    missing_stock (warehouse_rows warehouses k.warehouse) (item_rows items k.item) (stock_rows stocks k)
 
 abbrev pub stock_at : ℕ → ℕ → StockId
 stock_at w i = record { warehouse = w; item = i }

@@ -15,7 +15,7 @@ ghost use Rattle.oe_ledgers.specs.Settling.{AreSettledCustomers, AreSettledHisto
 ghost use Rattle.oe_ledgers.specs.Figures.{AreFew, AreAmounts};
 ghost use Rattle.oe_checks.specs.Comparing.{against};
 ghost use Rattle.oe_checks.specs.Deliveries.{HasDeliveries};
-ghost use Rattle.oe_checks.specs.Accounts.{added, net, wrapped_less, condition_10, condition_12};
+ghost use Rattle.oe_checks.specs.Accounts.{figure_sum, net, wrapped_less, condition_10, condition_12};
 
 use crate::figures::{Apart, differing};
 use oe_facts::keys::CustomerId;
@@ -170,13 +170,13 @@ impl Check<CustomerSums, Takings> for Condition12 {
 
     type Wrong = Apart;
 
-    ghost judged = { λ _ row sum. against (added (option_map (λ s. s.balance) row)
+    ghost judged = { λ _ row sum. against (figure_sum (option_map (λ s. s.balance) row)
         (option_map (λ s. s.ytd_payment) row)) (option_map (λ s. s.amount) sum) };
 
     ghost nothing = { λ _. refl };
 
     fn judge(&self, row: Option<CustomerSums>, sum: Option<Takings>) -> Option<Apart>
-        ensures { result ≡ against (added (option_map (λ s. s.balance) row)
+        ensures { result ≡ against (figure_sum (option_map (λ s. s.balance) row)
             (option_map (λ s. s.ytd_payment) row)) (option_map (λ s. s.amount) sum) }
     {
         let Some(row) = row else {

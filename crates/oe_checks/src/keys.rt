@@ -26,7 +26,7 @@ ghost use Rattle.oe_ledgers.specs.Settling.{AreSettledItems};
 ghost use Rattle.oe_ledgers.specs.Keeping.{KeepsStocks};
 ghost use Rattle.oe_ledgers.specs.Settling.{AreSettledStocks};
 ghost use Rattle.oe_ledgers.specs.Figures.{AreFew, AreAmounts, AreNumbers};
-ghost use Rattle.oe_checks.specs.Comparing.{repeated};
+ghost use Rattle.oe_checks.specs.Comparing.{repeats_apart};
 ghost use Rattle.oe_checks.specs.Keys.{warehouses_once};
 ghost use Rattle.oe_checks.specs.Keys.{districts_once};
 ghost use Rattle.oe_checks.specs.Keys.{customers_once};
@@ -56,12 +56,12 @@ impl Check<WarehouseSums, Count> for WarehousesOnce {
 
     type Wrong = Apart;
 
-    ghost judged = { λ _ row sum. repeated (option_map (λ s. pos s.rows) row) };
+    ghost judged = { λ _ row sum. repeats_apart (option_map (λ s. pos s.rows) row) };
 
     ghost nothing = { λ _. refl };
 
     fn judge(&self, row: Option<WarehouseSums>, _sum: Option<Count>) -> Option<Apart>
-        ensures { result ≡ repeated (option_map (λ s. pos s.rows) row) }
+        ensures { result ≡ repeats_apart (option_map (λ s. pos s.rows) row) }
     {
         let Some(row) = row else {
             return None;
@@ -99,12 +99,12 @@ impl Check<DistrictSums, Count> for DistrictsOnce {
 
     type Wrong = Apart;
 
-    ghost judged = { λ _ row sum. repeated (option_map (λ s. pos s.rows) row) };
+    ghost judged = { λ _ row sum. repeats_apart (option_map (λ s. pos s.rows) row) };
 
     ghost nothing = { λ _. refl };
 
     fn judge(&self, row: Option<DistrictSums>, _sum: Option<Count>) -> Option<Apart>
-        ensures { result ≡ repeated (option_map (λ s. pos s.rows) row) }
+        ensures { result ≡ repeats_apart (option_map (λ s. pos s.rows) row) }
     {
         let Some(row) = row else {
             return None;
@@ -142,12 +142,12 @@ impl Check<CustomerSums, Count> for CustomersOnce {
 
     type Wrong = Apart;
 
-    ghost judged = { λ _ row sum. repeated (option_map (λ s. pos s.rows) row) };
+    ghost judged = { λ _ row sum. repeats_apart (option_map (λ s. pos s.rows) row) };
 
     ghost nothing = { λ _. refl };
 
     fn judge(&self, row: Option<CustomerSums>, _sum: Option<Count>) -> Option<Apart>
-        ensures { result ≡ repeated (option_map (λ s. pos s.rows) row) }
+        ensures { result ≡ repeats_apart (option_map (λ s. pos s.rows) row) }
     {
         let Some(row) = row else {
             return None;
@@ -185,12 +185,12 @@ impl Check<Count, Count> for NewOrdersOnce {
 
     type Wrong = Apart;
 
-    ghost judged = { λ _ row sum. repeated (option_map (λ s. pos s.rows) row) };
+    ghost judged = { λ _ row sum. repeats_apart (option_map (λ s. pos s.rows) row) };
 
     ghost nothing = { λ _. refl };
 
     fn judge(&self, row: Option<Count>, _sum: Option<Count>) -> Option<Apart>
-        ensures { result ≡ repeated (option_map (λ s. pos s.rows) row) }
+        ensures { result ≡ repeats_apart (option_map (λ s. pos s.rows) row) }
     {
         let Some(row) = row else {
             return None;
@@ -228,12 +228,12 @@ impl Check<OrderSums, Count> for OrdersOnce {
 
     type Wrong = Apart;
 
-    ghost judged = { λ _ row sum. repeated (option_map (λ s. pos s.rows) row) };
+    ghost judged = { λ _ row sum. repeats_apart (option_map (λ s. pos s.rows) row) };
 
     ghost nothing = { λ _. refl };
 
     fn judge(&self, row: Option<OrderSums>, _sum: Option<Count>) -> Option<Apart>
-        ensures { result ≡ repeated (option_map (λ s. pos s.rows) row) }
+        ensures { result ≡ repeats_apart (option_map (λ s. pos s.rows) row) }
     {
         let Some(row) = row else {
             return None;
@@ -267,12 +267,12 @@ impl Check<Count, Count> for ItemsOnce {
 
     type Wrong = Apart;
 
-    ghost judged = { λ _ row sum. repeated (option_map (λ s. pos s.rows) row) };
+    ghost judged = { λ _ row sum. repeats_apart (option_map (λ s. pos s.rows) row) };
 
     ghost nothing = { λ _. refl };
 
     fn judge(&self, row: Option<Count>, _sum: Option<Count>) -> Option<Apart>
-        ensures { result ≡ repeated (option_map (λ s. pos s.rows) row) }
+        ensures { result ≡ repeats_apart (option_map (λ s. pos s.rows) row) }
     {
         let Some(row) = row else {
             return None;
@@ -306,12 +306,12 @@ impl Check<StockSums, Count> for StocksOnce {
 
     type Wrong = Apart;
 
-    ghost judged = { λ _ row sum. repeated (option_map (λ s. pos s.rows) row) };
+    ghost judged = { λ _ row sum. repeats_apart (option_map (λ s. pos s.rows) row) };
 
     ghost nothing = { λ _. refl };
 
     fn judge(&self, row: Option<StockSums>, _sum: Option<Count>) -> Option<Apart>
-        ensures { result ≡ repeated (option_map (λ s. pos s.rows) row) }
+        ensures { result ≡ repeats_apart (option_map (λ s. pos s.rows) row) }
     {
         let Some(row) = row else {
             return None;

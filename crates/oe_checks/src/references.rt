@@ -32,7 +32,7 @@ ghost use Rattle.oe_ledgers.specs.Settling.{AreSettledStocks};
 ghost use Rattle.oe_ledgers.specs.Keeping.{KeepsItems};
 ghost use Rattle.oe_ledgers.specs.Settling.{AreSettledItems};
 ghost use Rattle.oe_ledgers.specs.Figures.{AreFew, AreAmounts, AreNumbers};
-ghost use Rattle.oe_checks.specs.Comparing.{orphaned};
+ghost use Rattle.oe_checks.specs.Comparing.{orphans_apart};
 ghost use Rattle.oe_checks.specs.References.{districts_refer};
 ghost use Rattle.oe_checks.specs.References.{customers_refer};
 ghost use Rattle.oe_checks.specs.References.{histories_refer_to_customers};
@@ -67,13 +67,13 @@ impl Check<Takings, WarehouseSums> for DistrictsRefer {
 
     type Wrong = Apart;
 
-    ghost judged = { λ _ row sum. orphaned (option_map (λ s. pos s.rows) row)
+    ghost judged = { λ _ row sum. orphans_apart (option_map (λ s. pos s.rows) row)
         (option_map (λ s. pos s.rows) sum) };
 
     ghost nothing = { λ _. refl };
 
     fn judge(&self, row: Option<Takings>, sum: Option<WarehouseSums>) -> Option<Apart>
-        ensures { result ≡ orphaned (option_map (λ s. pos s.rows) row)
+        ensures { result ≡ orphans_apart (option_map (λ s. pos s.rows) row)
             (option_map (λ s. pos s.rows) sum) }
     {
         let Some(row) = row else {
@@ -116,13 +116,13 @@ impl Check<Count, DistrictSums> for CustomersRefer {
 
     type Wrong = Apart;
 
-    ghost judged = { λ _ row sum. orphaned (option_map (λ s. pos s.rows) row)
+    ghost judged = { λ _ row sum. orphans_apart (option_map (λ s. pos s.rows) row)
         (option_map (λ s. pos s.rows) sum) };
 
     ghost nothing = { λ _. refl };
 
     fn judge(&self, row: Option<Count>, sum: Option<DistrictSums>) -> Option<Apart>
-        ensures { result ≡ orphaned (option_map (λ s. pos s.rows) row)
+        ensures { result ≡ orphans_apart (option_map (λ s. pos s.rows) row)
             (option_map (λ s. pos s.rows) sum) }
     {
         let Some(row) = row else {
@@ -165,13 +165,13 @@ impl Check<Takings, CustomerSums> for HistoriesReferToCustomers {
 
     type Wrong = Apart;
 
-    ghost judged = { λ _ row sum. orphaned (option_map (λ s. pos s.rows) row)
+    ghost judged = { λ _ row sum. orphans_apart (option_map (λ s. pos s.rows) row)
         (option_map (λ s. pos s.rows) sum) };
 
     ghost nothing = { λ _. refl };
 
     fn judge(&self, row: Option<Takings>, sum: Option<CustomerSums>) -> Option<Apart>
-        ensures { result ≡ orphaned (option_map (λ s. pos s.rows) row)
+        ensures { result ≡ orphans_apart (option_map (λ s. pos s.rows) row)
             (option_map (λ s. pos s.rows) sum) }
     {
         let Some(row) = row else {
@@ -216,13 +216,13 @@ impl Check<Takings, DistrictSums> for HistoriesReferToDistricts {
 
     type Wrong = Apart;
 
-    ghost judged = { λ _ row sum. orphaned (option_map (λ s. pos s.rows) row)
+    ghost judged = { λ _ row sum. orphans_apart (option_map (λ s. pos s.rows) row)
         (option_map (λ s. pos s.rows) sum) };
 
     ghost nothing = { λ _. refl };
 
     fn judge(&self, row: Option<Takings>, sum: Option<DistrictSums>) -> Option<Apart>
-        ensures { result ≡ orphaned (option_map (λ s. pos s.rows) row)
+        ensures { result ≡ orphans_apart (option_map (λ s. pos s.rows) row)
             (option_map (λ s. pos s.rows) sum) }
     {
         let Some(row) = row else {
@@ -266,13 +266,13 @@ impl Check<Count, OrderSums> for NewOrdersRefer {
 
     type Wrong = Apart;
 
-    ghost judged = { λ _ row sum. orphaned (option_map (λ s. pos s.rows) row)
+    ghost judged = { λ _ row sum. orphans_apart (option_map (λ s. pos s.rows) row)
         (option_map (λ s. pos s.rows) sum) };
 
     ghost nothing = { λ _. refl };
 
     fn judge(&self, row: Option<Count>, sum: Option<OrderSums>) -> Option<Apart>
-        ensures { result ≡ orphaned (option_map (λ s. pos s.rows) row)
+        ensures { result ≡ orphans_apart (option_map (λ s. pos s.rows) row)
             (option_map (λ s. pos s.rows) sum) }
     {
         let Some(row) = row else {
@@ -315,13 +315,13 @@ impl Check<CustomerOrders, CustomerSums> for OrdersRefer {
 
     type Wrong = Apart;
 
-    ghost judged = { λ _ row sum. orphaned (option_map (λ s. pos s.rows) row)
+    ghost judged = { λ _ row sum. orphans_apart (option_map (λ s. pos s.rows) row)
         (option_map (λ s. pos s.rows) sum) };
 
     ghost nothing = { λ _. refl };
 
     fn judge(&self, row: Option<CustomerOrders>, sum: Option<CustomerSums>) -> Option<Apart>
-        ensures { result ≡ orphaned (option_map (λ s. pos s.rows) row)
+        ensures { result ≡ orphans_apart (option_map (λ s. pos s.rows) row)
             (option_map (λ s. pos s.rows) sum) }
     {
         let Some(row) = row else {
@@ -365,13 +365,13 @@ impl Check<LineSums, OrderSums> for LinesReferToOrders {
 
     type Wrong = Apart;
 
-    ghost judged = { λ _ row sum. orphaned (option_map (λ s. pos s.rows) row)
+    ghost judged = { λ _ row sum. orphans_apart (option_map (λ s. pos s.rows) row)
         (option_map (λ s. pos s.rows) sum) };
 
     ghost nothing = { λ _. refl };
 
     fn judge(&self, row: Option<LineSums>, sum: Option<OrderSums>) -> Option<Apart>
-        ensures { result ≡ orphaned (option_map (λ s. pos s.rows) row)
+        ensures { result ≡ orphans_apart (option_map (λ s. pos s.rows) row)
             (option_map (λ s. pos s.rows) sum) }
     {
         let Some(row) = row else {
@@ -415,13 +415,13 @@ impl Check<SupplySums, StockSums> for LinesReferToStocks {
 
     type Wrong = Apart;
 
-    ghost judged = { λ _ row sum. orphaned (option_map (λ s. pos s.rows) row)
+    ghost judged = { λ _ row sum. orphans_apart (option_map (λ s. pos s.rows) row)
         (option_map (λ s. pos s.rows) sum) };
 
     ghost nothing = { λ _. refl };
 
     fn judge(&self, row: Option<SupplySums>, sum: Option<StockSums>) -> Option<Apart>
-        ensures { result ≡ orphaned (option_map (λ s. pos s.rows) row)
+        ensures { result ≡ orphans_apart (option_map (λ s. pos s.rows) row)
             (option_map (λ s. pos s.rows) sum) }
     {
         let Some(row) = row else {
@@ -465,13 +465,13 @@ impl Check<Count, WarehouseSums> for StocksReferToWarehouses {
 
     type Wrong = Apart;
 
-    ghost judged = { λ _ row sum. orphaned (option_map (λ s. pos s.rows) row)
+    ghost judged = { λ _ row sum. orphans_apart (option_map (λ s. pos s.rows) row)
         (option_map (λ s. pos s.rows) sum) };
 
     ghost nothing = { λ _. refl };
 
     fn judge(&self, row: Option<Count>, sum: Option<WarehouseSums>) -> Option<Apart>
-        ensures { result ≡ orphaned (option_map (λ s. pos s.rows) row)
+        ensures { result ≡ orphans_apart (option_map (λ s. pos s.rows) row)
             (option_map (λ s. pos s.rows) sum) }
     {
         let Some(row) = row else {
@@ -514,13 +514,13 @@ impl Check<Count, Count> for StocksReferToItems {
 
     type Wrong = Apart;
 
-    ghost judged = { λ _ row sum. orphaned (option_map (λ s. pos s.rows) row)
+    ghost judged = { λ _ row sum. orphans_apart (option_map (λ s. pos s.rows) row)
         (option_map (λ s. pos s.rows) sum) };
 
     ghost nothing = { λ _. refl };
 
     fn judge(&self, row: Option<Count>, sum: Option<Count>) -> Option<Apart>
-        ensures { result ≡ orphaned (option_map (λ s. pos s.rows) row)
+        ensures { result ≡ orphans_apart (option_map (λ s. pos s.rows) row)
             (option_map (λ s. pos s.rows) sum) }
     {
         let Some(row) = row else {

@@ -16,7 +16,7 @@ ghost use Rattle.oe_ledgers.specs.Settling.{AreSettledWarehouses, AreSettledDist
 ghost use Rattle.oe_ledgers.specs.Settling.{AreSettledCustomers, AreSettledItems, AreSettledStocks};
 ghost use Rattle.oe_ledgers.specs.Figures.{AreFew};
 ghost use Rattle.oe_checks.specs.Comparing.{against};
-ghost use Rattle.oe_checks.specs.Sizes.{IsOfFirst, customers_each, stocked, missing_of, all_missing};
+ghost use Rattle.oe_checks.specs.Sizes.{IsOfFirst, customers_each, stock_apart, missing_of, all_missing};
 
 use crate::figures::{Apart, differing};
 use oe_facts::keys::{DistrictId, StockId};
@@ -165,7 +165,7 @@ pub fn stocked(
         → KeepsStocks of_stocks stocks.now
         → AreFew of_stocks
         → IfOk result (λ found. AreAll stock_cmp same_stock
-        (stocked of_warehouses of_items of_stocks) found.items) }
+        (stock_apart of_warehouses of_items of_stocks) found.items) }
 {
     let there = warehouses.by_warehouse.entries();
     missing(alloc, there, items.by_item.entries(), &stocks.by_stock)

@@ -16,9 +16,9 @@ use Rattle.oe_columns.specs.declared.columns.Column.{Column}
 use Rattle.oe_columns.specs.declared.headings.LayoutFault.{LayoutFault}
 use Rattle.oe_columns.specs.declared.headings.Named.{Named}
 use Rattle.oe_columns.specs.declared.headings.Named.TheVariants as stands
-use Rattle.oe_columns.specs.Headings.{◌>>=◌, bare, is_name, places_from, only, named, again, named_by, placed}
+use Rattle.oe_columns.specs.Headings.{◌>>=◌, bare, is_name, places_from, only, column_place, again, named_by, one_place}
 use Rattle.oe_columns.specs.Headings.{placed_from}
-use Rattle.oe_columns.specs.Headings.{heading_places, prepended}
+use Rattle.oe_columns.specs.Headings.{heading_places, places_behind}
 use Rattle.std.specs.Str.{bytes_eq}
 
 pub name_is : (name text : List ℕ) (r : Bool)
@@ -40,10 +40,10 @@ by_one (p ∷ q ∷ ps) = twice_stays ps
 
 -- what the fields from a place on say
 abbrev pub NamedSo : (name : List ℕ) → List (List ℕ) → Named → ℕ → Type 0
-NamedSo name fields seen place = named name fields ≡ named_by seen (places_from name place (drop place fields))
+NamedSo name fields seen place = column_place name fields ≡ named_by seen (places_from name place (drop place fields))
 
 pub named_first : (name : List ℕ) (fields : List (List ℕ)) → NamedSo name fields stands.Missing 0
-unfolding named
+unfolding column_place
 named_first name fields = sym (by_one (places_from name 0 fields))
 
 at_front : (fields : List (List ℕ)) (place : ℕ) (f : List ℕ) → slice_get fields place ≡ Some f
@@ -87,7 +87,7 @@ none_from (f ∷ fs) zero e = absurd (cc)
 none_from (f ∷ fs) (suc n) e = none_from fs n e
 
 pub named_last : (name : List ℕ) (fields : List (List ℕ)) (seen : Named) (place : ℕ)
-    → None ≡ slice_get fields place → NamedSo name fields seen place → seen ≡ named name fields
+    → None ≡ slice_get fields place → NamedSo name fields seen place → seen ≡ column_place name fields
 named_last name fields seen place e so =
     sym (so ∙ ap (λ fs. named_by seen (places_from name place fs)) (none_from fields place (sym e)))
 
@@ -102,14 +102,14 @@ names_are (c ∷ cs) = ap (λ ns. c.name.now ∷ ns) (names_are cs)
 
 -- the columns from the k-th on are left
 abbrev pub PlacedSo : Table → List Column → List (List ℕ) → List ℕ → ℕ → Type 0
-PlacedSo t cs fields ps k = heading_places t fields ≡ prepended ps (placed_from (names_in (drop k cs)) k fields)
+PlacedSo t cs fields ps k = heading_places t fields ≡ places_behind ps (placed_from (names_in (drop k cs)) k fields)
 
-pub none_prepended : (r : Result (List ℕ) LayoutFault) → prepended [] r ≡ r
+pub none_prepended : (r : Result (List ℕ) LayoutFault) → places_behind [] r ≡ r
 none_prepended (Ok ps) = refl
 none_prepended (Err e) = refl
 
 pub one_prepended : (ps : List ℕ) (p : ℕ) (r : Result (List ℕ) LayoutFault)
-    → prepended ps (r >>= λ qs. Ok (p ∷ qs)) ≡ prepended (ps ++ p ∷ []) r
+    → places_behind ps (r >>= λ qs. Ok (p ∷ qs)) ≡ places_behind (ps ++ p ∷ []) r
 one_prepended ps p (Ok qs) = ap Ok (sym (append_assoc ps (p ∷ []) qs))
 one_prepended ps p (Err e) = refl
 
@@ -123,32 +123,33 @@ placed_first t cs fields e =
 placed_at : (t : Table) (cs : List Column) (fields : List (List ℕ)) (ps : List ℕ) (k : ℕ) (d : Column) → k < length cs
     → PlacedSo t cs fields ps k
     → heading_places t fields
-    ≡ prepended ps (placed k (named (get_or cs k d).name.now fields)
+    ≡ places_behind ps (one_place k (column_place (get_or cs k d).name.now fields)
     >>= λ p. placed_from (names_in (drop (k + 1) cs)) (k + 1) fields >>= λ qs. Ok (p ∷ qs))
 placed_at t cs fields ps k d h so =
-    so ∙ ap (λ (rest : List Column). prepended ps (placed_from (names_in rest) k fields)) (drop_more cs k d h)
+    so ∙ ap (λ (rest : List Column). places_behind ps (placed_from (names_in rest) k fields)) (drop_more cs k d h)
 
 pub placed_more : (t : Table) (cs : List Column) (fields : List (List ℕ)) (ps : List ℕ) (k p : ℕ) (d : Column)
     (found : Named)
-    → k < length cs → found ≡ named (get_or cs k d).name.now fields → placed k found ≡ Ok p → PlacedSo t cs fields ps k
+    → k < length cs → found ≡ column_place (get_or cs k d).name.now fields → one_place k found ≡ Ok p
+    → PlacedSo t cs fields ps k
     → PlacedSo t cs fields (ps ++ p ∷ []) (k + 1)
 placed_more t cs fields ps k p d found h is e so =
     let rest = placed_from (names_in (drop (k + 1) cs)) (k + 1) fields in
     placed_at t cs fields ps k d h so
-    ∙ ap (λ r. prepended ps (r >>= λ p. rest >>= λ qs. Ok (p ∷ qs))) (ap (placed k) (sym is) ∙ e)
+    ∙ ap (λ r. places_behind ps (r >>= λ p. rest >>= λ qs. Ok (p ∷ qs))) (ap (one_place k) (sym is) ∙ e)
     ∙ one_prepended ps p rest
 
 pub placed_fault : (t : Table) (cs : List Column) (fields : List (List ℕ)) (ps : List ℕ) (k : ℕ) (e : LayoutFault)
     (d : Column) (found : Named)
-    → k < length cs → found ≡ named (get_or cs k d).name.now fields → placed k found ≡ Err e
+    → k < length cs → found ≡ column_place (get_or cs k d).name.now fields → one_place k found ≡ Err e
     → PlacedSo t cs fields ps k → heading_places t fields ≡ Err e
 placed_fault t cs fields ps k f d found h is e so =
     let rest = placed_from (names_in (drop (k + 1) cs)) (k + 1) fields in
     placed_at t cs fields ps k d h so
-    ∙ ap (λ r. prepended ps (r >>= λ p. rest >>= λ qs. Ok (p ∷ qs))) (ap (placed k) (sym is) ∙ e)
+    ∙ ap (λ r. places_behind ps (r >>= λ p. rest >>= λ qs. Ok (p ∷ qs))) (ap (one_place k) (sym is) ∙ e)
 
 pub placed_all : (t : Table) (cs : List Column) (fields : List (List ℕ)) (ps : List ℕ) (k : ℕ) → length cs ≤ k
     → PlacedSo t cs fields ps k → heading_places t fields ≡ Ok ps
 placed_all t cs fields ps k h so =
-    so ∙ ap (λ (rest : List Column). prepended ps (placed_from (names_in rest) k fields)) (drop_all k cs h)
+    so ∙ ap (λ (rest : List Column). places_behind ps (placed_from (names_in rest) k fields)) (drop_all k cs h)
     ∙ ap Ok (append-nil ps)

@@ -10,7 +10,7 @@ use Rattle.oe_columns.specs.declared.constants.Wanted.{Wanted}
 use Rattle.oe_columns.specs.declared.constants.Wanted.TheVariants as wanted
 use Rattle.oe_columns.specs.declared.headings.LayoutFault.{LayoutFault}
 use Rattle.oe_columns.specs.Columns.{columns_of, at_count}
-use Rattle.oe_columns.specs.Headings.{placed_from, is_heading, dumped}
+use Rattle.oe_columns.specs.Headings.{placed_from, is_heading, places_in_dump}
 
 -- a column's name, and how its fields are compared
 abbrev pub constant_of : Constant → List ℕ × Form
@@ -68,7 +68,8 @@ heading_constants t fields = placed_from (constant_names t) (length (columns_of 
 -- the places, by the fields of a file's first line
 unfoldable pub constants_in : Table → List (List ℕ) → Result (List ℕ) LayoutFault
 constants_in t fields =
-    if is_heading fields then heading_constants t fields else dumped (length fields) (dump_constants t (length fields))
+    if is_heading fields then heading_constants t fields
+    else places_in_dump (length fields) (dump_constants t (length fields))
 
 -- these places where prints are wanted, and else none
 unfoldable pub wanted_constants : Wanted → Result (List ℕ) LayoutFault → Result (List ℕ) LayoutFault

@@ -22,12 +22,12 @@ is_quoted s =
     nat_le 2 (length s)
     && ((slice_index s 0 == 34 || slice_index s 0 == 96) && (slice_index s (length s - 1) == slice_index s 0))
 
-abbrev pub unquoted : List ℕ → List ℕ
-unquoted s = if is_quoted s then slice_range s 1 (length s - 1) else s
+abbrev pub without_quotes : List ℕ → List ℕ
+without_quotes s = if is_quoted s then slice_range s 1 (length s - 1) else s
 
 -- a name without the blanks before it and the quotes that it stands in
 unfoldable pub bare : List ℕ → List ℕ
-bare s = unquoted (behind_blanks s)
+bare s = without_quotes (behind_blanks s)
 
 -- the text is that name, in any case
 unfoldable pub is_name : List ℕ → List ℕ → Bool
@@ -48,14 +48,14 @@ only (p ∷ []) = stands.Once p
 only (p ∷ q ∷ ps) = stands.Twice
 
 -- where a heading of these fields names a column
-unfoldable pub named : List ℕ → List (List ℕ) → Named
-named name fields = only (places_from name 0 fields)
+unfoldable pub column_place : List ℕ → List (List ℕ) → Named
+column_place name fields = only (places_from name 0 fields)
 
 -- the one place of a column
-abbrev pub placed : ℕ → Named → Result ℕ LayoutFault
-placed k stands.Missing = Err (fault.Missing k)
-placed k (stands.Once p) = Ok p
-placed k stands.Twice = Err (fault.Twice k)
+abbrev pub one_place : ℕ → Named → Result ℕ LayoutFault
+one_place k stands.Missing = Err (fault.Missing k)
+one_place k (stands.Once p) = Ok p
+one_place k stands.Twice = Err (fault.Twice k)
 
 infixl 10 ◌>>=◌
 abbrev pub ◌>>=◌ : {A B : Type 0} → Result A LayoutFault → (A → Result B LayoutFault) → Result B LayoutFault
@@ -66,7 +66,7 @@ abbrev pub ◌>>=◌ : {A B : Type 0} → Result A LayoutFault → (A → Result
 abbrev pub placed_from : List (List ℕ) → ℕ → List (List ℕ) → Result (List ℕ) LayoutFault
 placed_from [] k fields = Ok []
 placed_from (n ∷ ns) k fields = do
-  p ← placed k (named n fields)
+  p ← one_place k (column_place n fields)
   ps ← placed_from ns (k + 1) fields
   Ok (p ∷ ps)
 
@@ -83,14 +83,15 @@ abbrev pub is_heading : List (List ℕ) → Bool
 is_heading [] = false
 is_heading (f ∷ fs) = begins_with_letter (bare f)
 
-abbrev pub dumped : ℕ → Option (List ℕ) → Result (List ℕ) LayoutFault
-dumped n None = Err (fault.Fields n)
-dumped n (Some places) = Ok places
+abbrev pub places_in_dump : ℕ → Option (List ℕ) → Result (List ℕ) LayoutFault
+places_in_dump n None = Err (fault.Fields n)
+places_in_dump n (Some places) = Ok places
 
 -- the places of the columns, by the fields of a file's first line
 unfoldable pub layout_of : Table → List (List ℕ) → Result (List ℕ) LayoutFault
 layout_of t fields =
-    if is_heading fields then heading_places t fields else dumped (length fields) (dump_places t (length fields))
+    if is_heading fields then heading_places t fields
+    else places_in_dump (length fields) (dump_places t (length fields))
 
 -- ---- how a heading is read
 
@@ -104,6 +105,6 @@ named_by seen [] = seen
 named_by seen (p ∷ ps) = named_by (again seen p) ps
 
 -- these places in front
-abbrev pub prepended : List ℕ → Result (List ℕ) LayoutFault → Result (List ℕ) LayoutFault
-prepended ps (Ok qs) = Ok (ps ++ qs)
-prepended ps (Err e) = Err e
+abbrev pub places_behind : List ℕ → Result (List ℕ) LayoutFault → Result (List ℕ) LayoutFault
+places_behind ps (Ok qs) = Ok (ps ++ qs)
+places_behind ps (Err e) = Err e

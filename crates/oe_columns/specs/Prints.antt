@@ -10,8 +10,8 @@ use Rattle.oe_columns.specs.Constants.{constants_of}
 use Rattle.oe_columns.specs.Values.{Placed, field_at}
 
 -- a print that goes on with a number up to 256
-unfoldable pub mixed : ℕ → ℕ → ℕ
-mixed print symbol = ((print * 6_364_136_223_846_793_005) % 2 ^ 64 + symbol) % 2 ^ 64
+unfoldable pub print_with : ℕ → ℕ → ℕ
+print_with print symbol = ((print * 6_364_136_223_846_793_005) % 2 ^ 64 + symbol) % 2 ^ 64
 
 -- ---- numbers
 
@@ -29,9 +29,9 @@ before_zeros [] = []
 before_zeros (b ∷ s) = if are_zeros (b ∷ s) then [] else b ∷ before_zeros s
 
 -- what stands before the point, and the decimals behind it
-abbrev pub parted : List ℕ → List ℕ × List ℕ
-parted [] = ([], [])
-parted (b ∷ s) = if b == 46 then ([], s) else (b ∷ (parted s).0, (parted s).1)
+abbrev pub decimal_parts : List ℕ → List ℕ × List ℕ
+decimal_parts [] = ([], [])
+decimal_parts (b ∷ s) = if b == 46 then ([], s) else (b ∷ (decimal_parts s).0, (decimal_parts s).1)
 
 -- ---- prints
 
@@ -39,18 +39,18 @@ parted (b ∷ s) = if b == 46 then ([], s) else (b ∷ (parted s).0, (parted s).
 abbrev pub number_mixed : ℕ → List ℕ → ℕ
 number_mixed print [] = print
 number_mixed print (b ∷ s) =
-    let p = parted (b ∷ s) in
-    fold mixed (mixed (fold mixed print (behind_zeros p.0)) 46) (before_zeros p.1)
+    let p = decimal_parts (b ∷ s) in
+    fold print_with (print_with (fold print_with print (behind_zeros p.0)) 46) (before_zeros p.1)
 
 -- with a field's text
 abbrev pub field_mixed : Form → ℕ → List ℕ → ℕ
-field_mixed form.Text print s = fold mixed print s
+field_mixed form.Text print s = fold print_with print s
 field_mixed form.Number print s = number_mixed print s
 
 -- with the field of a column, and its end
 abbrev pub column_mixed : Form → ℕ → Option (List ℕ) → ℕ
-column_mixed f print None = mixed print 256
-column_mixed f print (Some s) = mixed (field_mixed f print s) 256
+column_mixed f print None = print_with print 256
+column_mixed f print (Some s) = print_with (field_mixed f print s) 256
 
 -- with the columns from the k-th on
 abbrev pub row_mixed : List (List ℕ × Form) → ℕ → Placed → ℕ → ℕ

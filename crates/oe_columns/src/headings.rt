@@ -5,7 +5,7 @@
 //! column that is not named or named twice is an error, and so is a first line that is no heading
 //! and has not as many fields as a dump's.
 ghost use Rattle.std.specs.Prelude.{◌≡◌, ◌≤◌, length, if◌then◌else◌};
-ghost use Rattle.oe_columns.specs.Headings.{behind_blanks, is_quoted, bare, is_name, again, named, placed, heading_places, is_heading, layout_of};
+ghost use Rattle.oe_columns.specs.Headings.{behind_blanks, is_quoted, bare, is_name, again, column_place, one_place, heading_places, is_heading, layout_of};
 ghost use Rattle.oe_fields.specs.Parting.{fields_of};
 
 use crate::columns::{MOST_COLUMNS, dump_places, fact_columns};
@@ -135,7 +135,7 @@ fn look_at(name: &str, seen: Named, place: usize, text: &[u8]) -> Named
 
 /// Finds where a heading names a column.
 pub(crate) fn find_name(name: &str, format: Format, line: &[u8]) -> Named
-    ensures { result ≡ named name.now (fields_of format line.now) }
+    ensures { result ≡ column_place name.now (fields_of format line.now) }
 {
     let mut fields = Fields::new(format, line);
     let mut seen = Named::Missing;
@@ -150,7 +150,7 @@ pub(crate) fn find_name(name: &str, format: Format, line: &[u8]) -> Named
 
 /// Gives the one place of a column.
 pub(crate) fn placed(column: usize, named: Named) -> Result<usize, LayoutFault>
-    ensures { result ≡ placed column named }
+    ensures { result ≡ one_place column named }
 {
     match named {
         Named::Missing => Err(LayoutFault::Missing(column)),

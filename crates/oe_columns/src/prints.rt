@@ -10,7 +10,7 @@ ghost use Rattle.std.specs.Prelude.{◌≡◌, map};
 ghost use Rattle.std.specs.List.{fold};
 ghost use Rattle.std.specs.Option.{option_copied};
 ghost use Rattle.oe_columns.specs.Constants.{constants_of};
-ghost use Rattle.oe_columns.specs.Prints.{mixed, behind_zeros, are_zeros, before_zeros, parted, number_mixed, field_mixed, column_mixed, row_mixed, print_of};
+ghost use Rattle.oe_columns.specs.Prints.{print_with, behind_zeros, are_zeros, before_zeros, decimal_parts, number_mixed, field_mixed, column_mixed, row_mixed, print_of};
 ghost use Rattle.oe_columns.specs.declared.prints.TheConstants.{START};
 ghost use Rattle.oe_fields.specs.Parting.{fields_of};
 
@@ -32,9 +32,9 @@ pub const START: u64 = 14_695_981_039_346_656_037;
 
 /// Goes on with a number up to 256.
 #[inline]
-#[tactic(auto, unfolding(crate::specs::Prints::mixed))]
+#[tactic(auto, unfolding(crate::specs::Prints::print_with))]
 fn mixed(print: u64, symbol: u64) -> u64
-    ensures { result ≡ mixed print symbol }
+    ensures { result ≡ print_with print symbol }
 {
     print
         .wrapping_mul(6_364_136_223_846_793_005)
@@ -44,7 +44,7 @@ fn mixed(print: u64, symbol: u64) -> u64
 /// Goes on with the bytes of a text.
 #[inline]
 fn text_mixed(start: u64, text: &[u8]) -> u64
-    ensures { result ≡ fold mixed start text.now }
+    ensures { result ≡ fold print_with start text.now }
 {
     let mut print = start;
     for byte in text {
@@ -86,7 +86,7 @@ fn before_zeros(text: &[u8]) -> &[u8]
 
 /// Parts a number at its point: what stands before it, and the decimals behind it.
 fn parted(text: &[u8]) -> (&[u8], &[u8])
-    ensures { (result.0.now, result.1.now) ≡ parted text.now }
+    ensures { (result.0.now, result.1.now) ≡ decimal_parts text.now }
 {
     for (i, b) in text.iter().enumerate() {
         if *b == b'.' {

@@ -11,7 +11,7 @@ use Rattle.std.specs.declared.cmp.Ordering.TheVariants.{Less, Equal, Greater}
 use Rattle.std.proofs.lemmas.Cmp.{tied_itself}
 use Rattle.std.proofs.lemmas.List.{length-map}
 use Rattle.oe_comparison.specs.Columns.{Other, first_other}
-use Rattle.oe_comparison.specs.Differences.{Difference, Extra, Missing, Column, met, differences}
+use Rattle.oe_comparison.specs.Differences.{Difference, Extra, Missing, Column, differences_at, differences}
 use Rattle.oe_comparison.specs.Counts.{key_of, HasKey, HasRow, DifferAt, IsAmong, Ascend, AreSoMany}
 
 abbrev Side : Type 0 → Type 0
@@ -69,7 +69,8 @@ module _ {K : Type 0} (cmp : K → K → Ordering) (exact : IsAntisymmetric cmp)
 
   met_below : (x : K) (t o : K × List (List ℕ)) (c : Ordering) (d : Option Other)
       (below both above : List (Difference K)) → cmp x t.0 ≡ Less → cmp x o.0 ≡ Less
-      → BelowKeys x below → BelowKeys x both → BelowKeys x above → BelowKeys x (met c t.0 o.0 d below both above)
+      → BelowKeys x below → BelowKeys x both → BelowKeys x above
+      → BelowKeys x (differences_at c t.0 o.0 d below both above)
   met_below x t o Less d below both above h k b a g = (h, b)
   met_below x t o Greater d below both above h k b a g = (k, g)
   met_below x t o Equal (Some c) below both above h k b a g = (k, a)
@@ -110,7 +111,7 @@ module _ {K : Type 0} (cmp : K → K → Ordering) (exact : IsAntisymmetric cmp)
       → KeysAscend (differences cmp ts (o ∷ os)) → KeysAscend (differences cmp ts os)
       → KeysAscend (differences cmp (t ∷ ts) os) → (c : Ordering) → cmp t.0 o.0 ≡ c → (d : Option Other)
       → KeysAscend
-      (met c t.0 o.0 d (differences cmp ts (o ∷ os)) (differences cmp ts os) (differences cmp (t ∷ ts) os))
+      (differences_at c t.0 o.0 d (differences cmp ts (o ∷ os)) (differences cmp ts os) (differences cmp (t ∷ ts) os))
   met_ascend t o ts os h k b a g Less is d =
       one_ascends (Extra t.0) (differences cmp ts (o ∷ os))
       (all_below t.0 ts (o ∷ os) (first_below t ts h) (is, below_all t.0 o.0 os is (first_below o os k))) b
@@ -212,7 +213,8 @@ module _ {K : Type 0} (cmp : K → K → Ordering) (exact : IsAntisymmetric cmp)
       → Sound ts (o ∷ os) → Sound ts os → Sound (t ∷ ts) os → (c : Ordering) → cmp t.0 o.0 ≡ c → (d : Option Other)
       → first_other 0 t.1 o.1 ≡ d → (k : K)
       → IsAmong (keys
-      (met c t.0 o.0 d (differences cmp ts (o ∷ os)) (differences cmp ts os) (differences cmp (t ∷ ts) os))) k
+      (differences_at c t.0 o.0 d (differences cmp ts (o ∷ os)) (differences cmp ts os)
+      (differences cmp (t ∷ ts) os))) k
       → DifferAt (t ∷ ts) (o ∷ os) k
   met_sound t o ts os h g b a n Less is d f k (inl same) =
       inl (inl same, absent t.0 k (o ∷ os) (is, below_all t.0 o.0 os is (first_below o os g)) same)
@@ -340,7 +342,8 @@ module _ {K : Type 0} (cmp : K → K → Ordering) (exact : IsAntisymmetric cmp)
       → Complete ts (o ∷ os) → Complete ts os → Complete (t ∷ ts) os → (c : Ordering) → cmp t.0 o.0 ≡ c
       → (d : Option Other) → first_other 0 t.1 o.1 ≡ d → (k : K) → DifferAt (t ∷ ts) (o ∷ os) k
       → IsAmong (keys
-      (met c t.0 o.0 d (differences cmp ts (o ∷ os)) (differences cmp ts os) (differences cmp (t ∷ ts) os))) k
+      (differences_at c t.0 o.0 d (differences cmp ts (o ∷ os)) (differences cmp ts os)
+      (differences cmp (t ∷ ts) os))) k
   met_complete t o ts os h g b a n Less is d f k differ =
       behind_first (DifferAt ts (o ∷ os) k) (IsAmong (keys (differences cmp ts (o ∷ os))) k) k t.0
       (fewer_theirs t ts (o ∷ os) k

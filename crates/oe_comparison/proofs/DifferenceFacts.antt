@@ -10,11 +10,11 @@ use Rattle.std.specs.declared.cmp.Ordering.{Ordering}
 use Rattle.std.specs.declared.cmp.Ordering.TheVariants.{Less, Equal, Greater}
 use Rattle.oe_rows.specs.declared.keys.Table.{Table}
 use Rattle.oe_file_tables.specs.declared.lines.Numbered.{Numbered}
-use Rattle.oe_comparison.specs.Columns.{Other, shown, first_other}
+use Rattle.oe_comparison.specs.Columns.{Other, column_texts, first_other}
 use Rattle.oe_comparison.specs.Differences.{Difference, Extra, Missing, Column, differences, with_columns, theirs_shown}
-use Rattle.oe_comparison.specs.Differences.{keyless, keyed, own_key}
+use Rattle.oe_comparison.specs.Differences.{keyless, row_by_key, own_key}
 use Rattle.oe_comparison.specs.Texts.{Told, with_line, with_first, with_more, with_differences}
-use Rattle.oe_comparison.specs.Walks.{rows_from, pair_of, seen, at_rows, front, Counts, TellsFront}
+use Rattle.oe_comparison.specs.Walks.{rows_from, pair_of, key_and_texts, at_rows, front, Counts, TellsFront}
 use Rattle.oe_comparison.specs.declared.sides.Turn.TheVariants as turn
 
 -- ---- the difference that the first rows make
@@ -147,7 +147,8 @@ module _ {K X : Type 0} (cmp : K → K → Ordering) (columns : K → X → List
   -- by what the next rows are, and what was told of them
   pub passed_by : (E : Type 0) (r q : Option (Bor K × Bor X)) (xs ys : List (K × X)) (n m : ℕ) (p : Ordering)
       (now now' : Told)
-      → TellsFront {E = E} line (front cmp (seen columns r) (seen columns q)) n now now' (Ok (turn.Passed p m))
+      → TellsFront {E = E} line (front cmp (key_and_texts columns r) (key_and_texts columns q)) n now now'
+      (Ok (turn.Passed p m))
       → Ahead (rows_from (pair_of r) xs) (rows_from (pair_of q) ys) n now
       → Ahead (their_rest p xs (rows_from (pair_of r) xs)) (our_rest p ys (rows_from (pair_of q) ys)) m now'
   passed_by E None None xs ys n m p now now' told h = absurd told
@@ -173,7 +174,8 @@ module _ {K X : Type 0} (cmp : K → K → Ordering) (columns : K → X → List
 
   pub fewer : (E : Type 0) (r q : Option (Bor K × Bor X)) (xs ys : List (K × X)) (n m : ℕ) (p : Ordering)
       (now now' : Told)
-      → TellsFront {E = E} line (front cmp (seen columns r) (seen columns q)) n now now' (Ok (turn.Passed p m))
+      → TellsFront {E = E} line (front cmp (key_and_texts columns r) (key_and_texts columns q)) n now now'
+      (Ok (turn.Passed p m))
       → length (their_rest p xs (rows_from (pair_of r) xs)) + length (our_rest p ys (rows_from (pair_of q) ys))
       < length (rows_from (pair_of r) xs) + length (rows_from (pair_of q) ys)
   fewer E None None xs ys n m p now now' told = absurd told
@@ -194,7 +196,7 @@ module _ {K X : Type 0} (cmp : K → K → Ordering) (columns : K → X → List
 
   -- at the end of both sides
   pub none_left : (E : Type 0) (r q : Option (Bor K × Bor X)) (xs ys : List (K × X)) (n : ℕ) (now now' : Told)
-      → TellsFront {E = E} line (front cmp (seen columns r) (seen columns q)) n now now' (Ok turn.End)
+      → TellsFront {E = E} line (front cmp (key_and_texts columns r) (key_and_texts columns q)) n now now' (Ok turn.End)
       → (differences cmp (with_columns columns (rows_from (pair_of r) xs))
       (with_columns columns (rows_from (pair_of q) ys)) ≡ []) × (now' ≡ now)
   none_left E None None xs ys n now now' told = (refl, told)
@@ -205,10 +207,10 @@ module _ {K X : Type 0} (cmp : K → K → Ordering) (columns : K → X → List
 -- ---- rows of a file, and rows without a key
 
 pub numbered_shown : {K X : Type 0} (columns : K → X → List (List ℕ)) (ns : List (Numbered K X))
-    → with_columns {K = K} {X = X} (λ k x. shown (columns k x)) (map keyed ns) ≡ theirs_shown columns ns
+    → with_columns {K = K} {X = X} (λ k x. column_texts (columns k x)) (map row_by_key ns) ≡ theirs_shown columns ns
 numbered_shown columns [] = refl
 numbered_shown columns (n ∷ ns) =
-    ap (λ z. (n.key, shown (columns n.key n.row)) ∷ z) (numbered_shown columns ns)
+    ap (λ z. (n.key, column_texts (columns n.key n.row)) ∷ z) (numbered_shown columns ns)
 
 pub keyless_shown : {X : Type 0} (xs : List X) → with_columns {K = X} {X = X} (λ k x. []) (map own_key xs) ≡ keyless xs
 keyless_shown [] = refl

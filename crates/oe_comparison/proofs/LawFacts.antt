@@ -13,11 +13,11 @@ use Rattle.std.proofs.lemmas.List.{length-append, take_at}
 use Rattle.oe_texts.specs.Column.{line_of}
 use Rattle.oe_file_rows.specs.declared.forms.Form.{Form}
 use Rattle.oe_file_rows.specs.Value.{Value}
-use Rattle.oe_file_rows.specs.Line.{joined, AreSpelled}
+use Rattle.oe_file_rows.specs.Line.{all_forms, AreSpelled}
 use Rattle.oe_file_rows.specs.Dumped.{AreReadBack}
 use Rattle.oe_file_rows.proofs.WordFacts.{is_small, value_only}
-use Rattle.oe_comparison.specs.Columns.{Other, is_same, shown, shown_line, first_other}
-use Rattle.oe_comparison.specs.Differences.{Difference, Extra, Missing, Column, met, differences}
+use Rattle.oe_comparison.specs.Columns.{Other, is_same, column_texts, shown_line, first_other}
+use Rattle.oe_comparison.specs.Differences.{Difference, Extra, Missing, Column, differences_at, differences}
 use Rattle.oe_comparison.specs.Laws.{AreToldApart, AreSame, BeginsSo, IsFirst}
 
 -- ---- a row's line and its end
@@ -64,15 +64,19 @@ front_is x y xs ys e = cc
 
 -- ---- rows without a column that differs
 
-abbrev chosen : ℕ → List ℕ → List ℕ → List (List ℕ) → List (List ℕ) → Bool → Option Other
-chosen n x y xs ys c =
+abbrev first_other_by : ℕ → List ℕ → List ℕ → List (List ℕ) → List (List ℕ) → Bool → Option Other
+first_other_by n x y xs ys c =
     if c then first_other (n + 1) xs ys else Some (record { place = n; theirs = x; ours = y })
 
 same_first : (n : ℕ) (x y : List ℕ) (xs ys : List (List ℕ)) (b : Bool) → b ≡ is_same x y
     → first_other n (x ∷ xs) (y ∷ ys) ≡ None → (x ≡ y) × (first_other (n + 1) xs ys ≡ None)
-same_first n x y xs ys true is h = (same_text x y is, subst (λ (c : Bool). chosen n x y xs ys c ≡ None) (sym is) h)
+same_first n x y xs ys true is h = (
+  same_text x y is,
+  subst (λ (c : Bool). first_other_by n x y xs ys c ≡ None)
+      (sym is) h,
+)
 same_first n x y xs ys false is h =
-    absurd (no_some _ (subst (λ (c : Bool). chosen n x y xs ys c ≡ None) (sym is) h))
+    absurd (no_some _ (subst (λ (c : Bool). first_other_by n x y xs ys c ≡ None) (sym is) h))
 
 same_fields : (n : ℕ) (xs ys : List (List ℕ)) → length xs ≡ length ys → first_other n xs ys ≡ None → xs ≡ ys
 same_fields n [] [] long h = refl
@@ -114,24 +118,24 @@ one_row (f ∷ fs) (v ∷ vs) [] ss small h k = absurd k
 one_row (f ∷ fs) (v ∷ vs) (w ∷ ws) [] small h k = absurd h
 
 pub told_apart : {R : Type 0} (forms : List (List Form)) (values : R → List Value) (columns : R → List (List ℕ))
-    → list_all is_small (joined forms) ≡ true → AreReadBack forms values columns
+    → list_all is_small (all_forms forms) ≡ true → AreReadBack forms values columns
     → ((a b : R) → values a ≡ values b → a ≡ b) → AreToldApart forms values columns
 told_apart forms values columns small back inj a b ha hb none =
     let one = back a (shown_line (columns a)) ha (line_shown (columns a)) in
     let two = back b (shown_line (columns b)) hb (line_shown (columns b)) in
-    let first = as_long (joined forms) (values a) (shown (columns a)) one in
-    let second = as_long (joined forms) (values b) (shown (columns b)) two in
-    let fields = same_fields 0 (shown (columns a)) (shown (columns b)) (first ∙ sym second) none in
+    let first = as_long (all_forms forms) (values a) (column_texts (columns a)) one in
+    let second = as_long (all_forms forms) (values b) (column_texts (columns b)) two in
+    let fields = same_fields 0 (column_texts (columns a)) (column_texts (columns b)) (first ∙ sym second) none in
     inj a b
-    (one_row (joined forms) (values a) (values b) (shown (columns b)) small
-    (subst (AreSpelled (joined forms) (values a)) fields one) two)
+    (one_row (all_forms forms) (values a) (values b) (column_texts (columns b)) small
+    (subst (AreSpelled (all_forms forms) (values a)) fields one) two)
 
 -- ---- the first row that differs
 
 module _ {K : Type 0} (cmp : K → K → Ordering) (exact : IsAntisymmetric cmp) (total : IsTotalOrder cmp) where
   met_same : (t o : K × List (List ℕ)) (ts os : List (K × List (List ℕ))) (below both above : List (Difference K))
       → (both ≡ [] → AreSame ts os) → (c : Ordering) → cmp t.0 o.0 ≡ c → (x : Option Other)
-      → first_other 0 t.1 o.1 ≡ x → met c t.0 o.0 x below both above ≡ [] → AreSame (t ∷ ts) (o ∷ os)
+      → first_other 0 t.1 o.1 ≡ x → differences_at c t.0 o.0 x below both above ≡ [] → AreSame (t ∷ ts) (o ∷ os)
   met_same t o ts os below both above again Less e x f h = absurd (no_front _ _ h)
   met_same t o ts os below both above again Greater e x f h = absurd (no_front _ _ h)
   met_same t o ts os below both above again Equal e (Some c) f h = absurd (no_front _ _ h)
@@ -173,7 +177,7 @@ module _ {K : Type 0} (cmp : K → K → Ordering) (exact : IsAntisymmetric cmp)
   met_first : (t o : K × List (List ℕ)) (ts os : List (K × List (List ℕ))) (d : Difference K)
       (ds below both above : List (Difference K)) → (both ≡ d ∷ ds → IsFirst cmp ts os d) → (c : Ordering)
       → cmp t.0 o.0 ≡ c → (x : Option Other) → first_other 0 t.1 o.1 ≡ x
-      → met c t.0 o.0 x below both above ≡ d ∷ ds → IsFirst cmp (t ∷ ts) (o ∷ os) d
+      → differences_at c t.0 o.0 x below both above ≡ d ∷ ds → IsFirst cmp (t ∷ ts) (o ∷ os) d
   met_first t o ts os d ds below both above again Less e x f h =
       at_once (t ∷ ts) (o ∷ os) (Extra t.0) d (front_is _ _ _ _ h) (refl, e)
   met_first t o ts os d ds below both above again Greater e x f h =

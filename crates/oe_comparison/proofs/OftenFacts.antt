@@ -9,7 +9,7 @@ use Rattle.std.specs.List.Sorted.{IsSorted}
 use Rattle.std.specs.Ordering.{eq_by_cmp, is_eq, is_lt, ordering_reverse}
 use Rattle.std.specs.declared.cmp.Ordering.{Ordering}
 use Rattle.std.specs.declared.cmp.Ordering.TheVariants.{Less, Equal, Greater}
-use Rattle.oe_comparison.specs.Differences.{Difference, Extra, Missing, met, differences, keyless}
+use Rattle.oe_comparison.specs.Differences.{Difference, Extra, Missing, differences_at, differences, keyless}
 use Rattle.oe_comparison.specs.Often.{times, is_extra, is_missing, is_column}
 
 -- an ordering that is not Greater, and one that is
@@ -130,7 +130,7 @@ module _ {X : Type 0} (cmp : X → X → Ordering) (total : IsTotalOrder cmp) wh
       → Told h (differences cmp (keyless ts) (keyless (o ∷ os))) ts (o ∷ os)
       → Told h (differences cmp (keyless ts) (keyless os)) ts os
       → Told h (differences cmp (keyless (t ∷ ts)) (keyless os)) (t ∷ ts) os → (c : Ordering) → cmp t o ≡ c
-      → Told h (met c t o None (differences cmp (keyless ts) (keyless (o ∷ os)))
+      → Told h (differences_at c t o None (differences cmp (keyless ts) (keyless (o ∷ os)))
       (differences cmp (keyless ts) (keyless os)) (differences cmp (keyless (t ∷ ts)) (keyless os))) (t ∷ ts) (o ∷ os)
   met_told h t o ts os up down b a g Less is =
       extra_told h t (differences cmp (keyless ts) (keyless (o ∷ os))) ts (o ∷ os)
@@ -183,7 +183,7 @@ module _ {X : Type 0} (cmp : X → X → Ordering) where
   missing_alone (o ∷ os) = one_sided (Missing o) (differences cmp [] (keyless os)) refl (missing_alone os)
 
   met_alone : (t o : X) (below both above : List (Difference X)) → HasNoColumn below → HasNoColumn both
-      → HasNoColumn above → (c : Ordering) → HasNoColumn (met c t o None below both above)
+      → HasNoColumn above → (c : Ordering) → HasNoColumn (differences_at c t o None below both above)
   met_alone t o below both above b a g Less = one_sided (Extra t) below refl b
   met_alone t o below both above b a g Greater = one_sided (Missing o) above refl g
   met_alone t o below both above b a g Equal = a

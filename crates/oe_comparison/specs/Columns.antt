@@ -10,8 +10,8 @@ abbrev pub shown_line : List (List ℕ) → List ℕ
 shown_line columns = take (length (line_of columns) - 1) (line_of columns)
 
 -- the texts of its columns, which tabs part
-abbrev pub shown : List (List ℕ) → List (List ℕ)
-shown columns = fields_of (shown_line columns)
+abbrev pub column_texts : List (List ℕ) → List (List ℕ)
+column_texts columns = fields_of (shown_line columns)
 
 -- a column at which two rows differ: its place, counted from 0, and both its texts
 pub record Other : Type 0 where

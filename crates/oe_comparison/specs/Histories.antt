@@ -24,12 +24,12 @@ pub record AreSorted (rows sorted : List History) : Type 0 where
   pub ordered : IsSortedByKey (λ h. h) history_order sorted
 
 -- columns with a blank behind each
-abbrev pub blanked : List (List ℕ) → List ℕ
-blanked [] = []
-blanked (c ∷ cs) = c ++ 32 ∷ blanked cs
+abbrev pub with_blanks : List (List ℕ) → List ℕ
+with_blanks [] = []
+with_blanks (c ∷ cs) = c ++ 32 ∷ with_blanks cs
 
 -- history H_C_ID H_C_D_ID H_C_W_ID H_D_ID H_W_ID H_DATE H_AMOUNT H_DATA
 abbrev pub history_text : History → List ℕ
 history_text h =
-    codes "history " ++ blanked (reference_columns h.customer h.district) ++ stamp_text h.date ++ codes " "
+    codes "history " ++ with_blanks (reference_columns h.customer h.district) ++ stamp_text h.date ++ codes " "
     ++ money_text h.amount ++ codes " " ++ h.data

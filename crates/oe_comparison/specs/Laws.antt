@@ -6,20 +6,20 @@ use Rattle.oe_texts.specs.Dump.{warehouse_columns, district_columns, customer_co
 use Rattle.oe_texts.specs.Dump.{new_order_columns, order_columns, order_line_columns, item_columns, stock_columns}
 use Rattle.oe_file_rows.specs.declared.forms.Form.{Form}
 use Rattle.oe_file_rows.specs.Value.{Value}
-use Rattle.oe_file_rows.specs.Line.{joined}
+use Rattle.oe_file_rows.specs.Line.{all_forms}
 use Rattle.oe_file_rows.specs.Dumped.{AreOf}
 use Rattle.oe_file_rows.specs.Rows.{warehouse_forms, warehouse_values, district_forms, district_values, customer_forms}
 use Rattle.oe_file_rows.specs.Rows.{customer_values, history_forms, history_values, new_order_forms, new_order_values}
 use Rattle.oe_file_rows.specs.Rows.{order_forms, order_values, order_line_forms, order_line_values, item_forms}
 use Rattle.oe_file_rows.specs.Rows.{item_values, stock_forms, stock_values}
-use Rattle.oe_comparison.specs.Columns.{shown, first_other}
+use Rattle.oe_comparison.specs.Columns.{column_texts, first_other}
 use Rattle.oe_comparison.specs.Differences.{Difference, Extra, Missing, Column, differences}
 
 -- Two rows are the same where their columns are in their ranges and no column differs.
 abbrev pub AreToldApart : {R : Type 0} → List (List Form) → (R → List Value) → (R → List (List ℕ)) → Type 0
 AreToldApart {R} forms values columns =
-    (a b : R) → AreOf (joined forms) (values a) → AreOf (joined forms) (values b)
-    → first_other 0 (shown (columns a)) (shown (columns b)) ≡ None → a ≡ b
+    (a b : R) → AreOf (all_forms forms) (values a) → AreOf (all_forms forms) (values b)
+    → first_other 0 (column_texts (columns a)) (column_texts (columns b)) ≡ None → a ≡ b
 
 pub record Rows_are_told_apart : Type 0 where
   pub warehouses : AreToldApart warehouse_forms warehouse_values (λ r. warehouse_columns r.0 r.1)

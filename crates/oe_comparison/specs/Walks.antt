@@ -21,9 +21,10 @@ pair_of None = None
 pair_of (Some p) = Some (p.0.now, p.1.now)
 
 -- the key, and the texts of the columns
-abbrev pub seen : {K X : Type 0} → (K → X → List (List ℕ)) → Option (Bor K × Bor X) → Option (K × List (List ℕ))
-seen columns None = None
-seen columns (Some p) = Some (p.0.now, columns p.0.now p.1.now)
+abbrev pub key_and_texts : {K X : Type 0} → (K → X → List (List ℕ)) → Option (Bor K × Bor X)
+    → Option (K × List (List ℕ))
+key_and_texts columns None = None
+key_and_texts columns (Some p) = Some (p.0.now, columns p.0.now p.1.now)
 
 -- the difference that the next rows of both sides make, if they make one; and whose is passed: the file's (Less), this
 -- order's (Greater), or both

@@ -4,7 +4,7 @@ ghost use Rattle.std.specs.Prelude.{◌≡◌, ◌≤◌, ◌<◌, ◌+◌, ◌+
 ghost use Rattle.arrayvec.specs.ArrayVec.{array_vec_len};
 ghost use Rattle.oe_texts.specs.Dump.{reference_columns};
 ghost use Rattle.oe_comparison.specs.Names.{column_name};
-ghost use Rattle.oe_comparison.specs.Histories.{blanked, history_text};
+ghost use Rattle.oe_comparison.specs.Histories.{with_blanks, history_text};
 ghost use Rattle.oe_comparison.specs.Texts.{nothing_told, with_piece, with_line, with_more, extra_line, missing_line, column_front, column_line, often_line, last_line};
 
 use crate::names::column_name;
@@ -46,7 +46,7 @@ fn number_then(out: &mut Pending, number: u32)
 // Writes H_C_ID, H_C_D_ID, H_C_W_ID, H_D_ID and H_W_ID, with a blank behind each.
 fn references(out: &mut Pending, customer: CustomerKey, district: DistrictKey)
     requires { array_vec_len out.old + 55 ≤ SIZE }
-    ensures items { out.new.items ≡ out.old.items ++ blanked (reference_columns customer district) }
+    ensures items { out.new.items ≡ out.old.items ++ with_blanks (reference_columns customer district) }
     ensures len { array_vec_len out.new ≤ array_vec_len out.old + 55 }
 {
     number_then(out, customer.customer.get());

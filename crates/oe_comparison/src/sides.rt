@@ -8,7 +8,7 @@ ghost use Rattle.oe_rows.specs.declared.keys.Table.{Table};
 ghost use Rattle.oe_comparison.specs.Columns.{first_other};
 ghost use Rattle.oe_comparison.specs.Differences.{Difference, Extra, Missing, differences, with_columns};
 ghost use Rattle.oe_comparison.specs.Texts.{with_line, with_differences};
-ghost use Rattle.oe_comparison.specs.Walks.{rows_from, pair_of, seen, at_rows, front, TellsFront};
+ghost use Rattle.oe_comparison.specs.Walks.{rows_from, pair_of, key_and_texts, at_rows, front, TellsFront};
 ghost use Rattle.oe_comparison.specs.declared.sides.Turn.TheVariants as turn;
 
 use crate::reports::Report;
@@ -136,7 +136,7 @@ fn pass<C: Comparing<K, R>, K, R>(
     report: &mut Report,
 ) -> Result<Turn, NoMemory>
     ensures { TellsFront C.line_at
-        (front C.order_of (seen C.columns_of their.entry) (seen C.columns_of our.entry)) others
+        (front C.order_of (key_and_texts C.columns_of their.entry) (key_and_texts C.columns_of our.entry)) others
         report.old report.new result }
 {
     match (their, our) {

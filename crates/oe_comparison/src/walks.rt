@@ -2,7 +2,7 @@
 //! differs, and the others are counted.
 ghost use Rattle.std.specs.Prelude.{◌≡◌, OnOk, Some};
 ghost use Rattle.std.specs.declared.cmp.Ordering.TheVariants.{Equal};
-ghost use Rattle.oe_comparison.specs.Columns.{shown, first_other};
+ghost use Rattle.oe_comparison.specs.Columns.{column_texts, first_other};
 ghost use Rattle.oe_comparison.specs.Tables.{IsTold};
 ghost use Rattle.oe_comparison.specs.Texts.{line_of};
 ghost use Rattle.oe_comparison.specs.Walks.{at_rows, TellsFront};
@@ -21,9 +21,9 @@ use std::cmp::Ordering;
 
 impl<'a, K, R> RowWalk<'a, K, R> for Walk<'a, K, R> {
     ghost use Rattle.std.specs.Prelude.{map};
-    ghost use Rattle.oe_comparison.specs.Differences.{keyed};
+    ghost use Rattle.oe_comparison.specs.Differences.{row_by_key};
 
-    ghost left = { λ w. map keyed w };
+    ghost left = { λ w. map row_by_key w };
 
     fn next_row(&mut self) -> Option<(&'a K, &'a R)> {
         match self.next() {
@@ -52,8 +52,8 @@ fn pass_column<K, R: RowLine<K> + DumpedRow<K>>(
     report: &mut Report,
 ) -> Result<Turn, NoMemory>
     ensures { TellsFront (line_of R.key_of) (Some (at_rows Equal their_key.now key.now
-        (first_other 0 (shown (R.columns their_key.now theirs.now))
-        (shown (R.columns key.now ours.now))))) others report.old report.new result }
+        (first_other 0 (column_texts (R.columns their_key.now theirs.now))
+        (column_texts (R.columns key.now ours.now))))) others report.old report.new result }
 {
     let mut their_line = Pending::new();
     write_row(&mut their_line, their_key, theirs);
@@ -83,8 +83,8 @@ fn pass_both<K, R: RowLine<K> + DumpedRow<K> + ComparedRow>(
 ) -> Result<Turn, NoMemory>
     requires { their_key.now ≡ key.now }
     ensures { TellsFront (line_of R.key_of) (Some (at_rows Equal their_key.now key.now
-        (first_other 0 (shown (R.columns their_key.now theirs.now))
-        (shown (R.columns key.now ours.now))))) others report.old report.new result }
+        (first_other 0 (column_texts (R.columns their_key.now theirs.now))
+        (column_texts (R.columns key.now ours.now))))) others report.old report.new result }
 {
     if theirs.equals(ours) {
         return Ok(Turn::Passed(Ordering::Equal, others));
@@ -98,7 +98,7 @@ pub(crate) struct ByKey;
 impl<K: TableKey, R: RowLine<K> + DumpedRow<K> + ComparedRow> Comparing<K, R> for ByKey {
     ghost order_of = { K.cmp };
 
-    ghost columns_of = { λ k x. shown (R.columns k x) };
+    ghost columns_of = { λ k x. column_texts (R.columns k x) };
 
     ghost line_at = { line_of R.key_of };
 

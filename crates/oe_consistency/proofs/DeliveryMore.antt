@@ -24,7 +24,8 @@ use Rattle.oe_rows.proofs.KeyFacts.{exact_order, order_line_total, exact_order_l
 use Rattle.oe_model.specs.Keys.{district_of_order, order_of_line, customer_in, order_in, new_order_in}
 use Rattle.oe_model.specs.Rows.{Rows}
 use Rattle.oe_model.specs.Maps.{each}
-use Rattle.oe_model.specs.Delivery.{oldest, lines_of, worth, dated, carried, delivered_to, delivered_out, delivery_of}
+use Rattle.oe_model.specs.Delivery.{oldest, lines_of, worth, with_date, with_carrier, delivered_to, delivered_out}
+use Rattle.oe_model.specs.Delivery.{delivery_of}
 use Rattle.oe_model.specs.Delivery.{district_effect, delivery_effect}
 use Rattle.oe_model.specs.Deliveries.{districts, in_district, in_turn, deliveries_effect}
 use Rattle.oe_model.specs.Conditions.{HasNewOrder}
@@ -75,12 +76,12 @@ module _ (q : DeliveryRequest) (r : Rows) (more : More r) (o : ℕ) (is_oldest :
   value = worth (lines_of k r.order_lines)
 
   abbrev date : OrderLineKey → OrderLine → OrderLine
-  date l y = cond (eq_by_cmp order_cmp (order_of_line l) k) (dated q.stamp y) y
+  date l y = cond (eq_by_cmp order_cmp (order_of_line l) k) (with_date q.stamp y) y
 
   abbrev pub delivered : Rows
   delivered = record r {
     new_orders = remove r.new_orders j;
-    orders = insert r.orders k (carried q.carrier order);
+    orders = insert r.orders k (with_carrier q.carrier order);
     order_lines = each date r.order_lines;
     customers = insert r.customers owner (delivered_to value u);
   }
@@ -96,12 +97,12 @@ module _ (q : DeliveryRequest) (r : Rows) (more : More r) (o : ℕ) (is_oldest :
   undated l y e s = (more.condition_7 l y e order (ap (get r.orders) s ∙ order_at)).1 uncarried
 
   order_stays : (i : OrderKey) → eq_by_cmp order_cmp i k ≡ false → get delivered.orders i ≡ get r.orders i
-  order_stays i e = get_other order_total exact_order r.orders k (carried q.carrier order) i e
+  order_stays i e = get_other order_total exact_order r.orders k (with_carrier q.carrier order) i e
 
   delivered_5 : Condition_5 delivered
-  delivered_5 i x e = go (own_or_old order_total exact_order r.orders k (carried q.carrier order) i x e)
+  delivered_5 i x e = go (own_or_old order_total exact_order r.orders k (with_carrier q.carrier order) i x e)
     where
-      own : Condition_5_at delivered k (carried q.carrier order)
+      own : Condition_5_at delivered k (with_carrier q.carrier order)
       own = (
         λ v. let no : ⊥ = cc in
             absurd no,
@@ -109,10 +110,11 @@ module _ (q : DeliveryRequest) (r : Rows) (more : More r) (o : ℕ) (is_oldest :
             (missing (get delivered.new_orders j) p (gone_own new_order_total exact_new_order r.new_orders j)),
       )
 
-      go : ((i ≡ k) × (carried q.carrier order ≡ x)) ⊎ ((eq_by_cmp order_cmp i k ≡ false) × (get r.orders i ≡ Some x))
+      go : ((i ≡ k) × (with_carrier q.carrier order ≡ x))
+          ⊎ ((eq_by_cmp order_cmp i k ≡ false) × (get r.orders i ≡ Some x))
           → Condition_5_at delivered i x
       go (inl h) = subst (λ (y : Order). Condition_5_at delivered i y) h.1
-          (subst (λ (n : OrderKey). Condition_5_at delivered n (carried q.carrier order)) (sym h.0) own)
+          (subst (λ (n : OrderKey). Condition_5_at delivered n (with_carrier q.carrier order)) (sym h.0) own)
       go (inr h) =
           let old : (x.carrier ≡ None) ↔ HasNewOrder r (district_of_order i) i.order = more.condition_5 i x h.1 in
           let same : get delivered.new_orders (new_order_in (district_of_order i) i.order) ≡ get r.new_orders
@@ -125,9 +127,10 @@ module _ (q : DeliveryRequest) (r : Rows) (more : More r) (o : ℕ) (is_oldest :
       (λ l y. refl)
 
   delivered_6 : Condition_6 delivered
-  delivered_6 i x e = go (own_or_old order_total exact_order r.orders k (carried q.carrier order) i x e)
+  delivered_6 i x e = go (own_or_old order_total exact_order r.orders k (with_carrier q.carrier order) i x e)
     where
-      go : ((i ≡ k) × (carried q.carrier order ≡ x)) ⊎ ((eq_by_cmp order_cmp i k ≡ false) × (get r.orders i ≡ Some x))
+      go : ((i ≡ k) × (with_carrier q.carrier order ≡ x))
+          ⊎ ((eq_by_cmp order_cmp i k ≡ false) × (get r.orders i ≡ Some x))
           → Condition_6_at delivered i x
       go (inl h) = sym (ap (λ (y : Order). y.line_count) h.1) ∙ more.condition_6 i order
           (ap (get r.orders) h.0 ∙ order_at) ∙ sym (count i)
@@ -144,19 +147,20 @@ module _ (q : DeliveryRequest) (r : Rows) (more : More r) (o : ℕ) (is_oldest :
       by_order (inl s) =
           let test : eq_by_cmp order_cmp (order_of_line l) k ≡ true = ap (λ (i : OrderKey). eq_by_cmp order_cmp i k) s
           ∙ is_self order_total exact_order k in
-          let here : dated q.stamp row.0 ≡ y = ap (λ b. cond b (dated q.stamp row.0) row.0) (sym test) ∙ row.2 in
+          let here : with_date q.stamp row.0 ≡ y = ap (λ b. cond b (with_date q.stamp row.0) row.0) (sym test)
+          ∙ row.2 in
           let dates : Some q.stamp ≡ y.delivery = ap (λ (z : OrderLine). z.delivery) here in
-          let own : Some (carried q.carrier order) ≡ Some x =
-          sym (get_own order_total exact_order r.orders k (carried q.carrier order))
+          let own : Some (with_carrier q.carrier order) ≡ Some x =
+          sym (get_own order_total exact_order r.orders k (with_carrier q.carrier order))
           ∙ ap (get delivered.orders) (sym s) ∙ f in
-          let same : carried q.carrier order ≡ x = cc in
+          let same : with_carrier q.carrier order ≡ x = cc in
           let carries : Some q.carrier ≡ x.carrier = ap (λ (z : Order). z.carrier) same in (
             λ v. let g : Some q.stamp ≡ None = dates ∙ v in let no : ⊥ = cc in
                 absurd no,
             λ v. let g : Some q.carrier ≡ None = carries ∙ v in let no : ⊥ = cc in absurd no,
           )
       by_order (inr n) =
-          let here : row.0 ≡ y = ap (λ b. cond b (dated q.stamp row.0) row.0) (sym n) ∙ row.2 in
+          let here : row.0 ≡ y = ap (λ b. cond b (with_date q.stamp row.0) row.0) (sym n) ∙ row.2 in
           let old : (row.0.delivery ≡ None) ↔ (x.carrier ≡ None) = more.condition_7 l row.0 row.1 x
           (sym (order_stays (order_of_line l) n) ∙ f) in
           subst (λ (z : OrderLine). (z.delivery ≡ None) ↔ (x.carrier ≡ None)) here old
@@ -186,12 +190,13 @@ module _ (q : DeliveryRequest) (r : Rows) (more : More r) (o : ℕ) (is_oldest :
       always false n = refl
 
       own : (l : OrderLineKey) (y : OrderLine) → order_of_line l ≡ k
-          → amount_for c (order_of_line l) (get delivered.orders (order_of_line l)) (dated q.stamp y) ≡ if_of_customer c
+          → amount_for c (order_of_line l) (get delivered.orders (order_of_line l)) (with_date q.stamp y)
+          ≡ if_of_customer c
           owner y.amount
       own l y s =
-          ap (λ (i : OrderKey). amount_for c i (get delivered.orders i) (dated q.stamp y)) s
-          ∙ ap (λ (v : Option Order). amount_for c k v (dated q.stamp y))
-          (get_own order_total exact_order r.orders k (carried q.carrier order))
+          ap (λ (i : OrderKey). amount_for c i (get delivered.orders i) (with_date q.stamp y)) s
+          ∙ ap (λ (v : Option Order). amount_for c k v (with_date q.stamp y))
+          (get_own order_total exact_order r.orders k (with_carrier q.carrier order))
           ∙ always (eq_by_cmp customer_cmp owner c) y.amount
 
       each_line : (l : OrderLineKey) (y : OrderLine) → get r.order_lines l ≡ Some y
@@ -200,15 +205,16 @@ module _ (q : DeliveryRequest) (r : Rows) (more : More r) (o : ℕ) (is_oldest :
       each_line l y e (inl s) =
           let test : eq_by_cmp order_cmp (order_of_line l) k ≡ true = ap (λ (i : OrderKey). eq_by_cmp order_cmp i k) s
           ∙ is_self order_total exact_order k in
-          let a : now l (date l y) ≡ now l (dated q.stamp y) = ap (λ b. now l (cond b (dated q.stamp y) y)) test in
-          let b : now l (dated q.stamp y) ≡ if_of_customer c owner y.amount = own l y s in
+          let a : now l (date l y) ≡ now l (with_date q.stamp y) = ap
+          (λ b. now l (cond b (with_date q.stamp y) y)) test in
+          let b : now l (with_date q.stamp y) ≡ if_of_customer c owner y.amount = own l y s in
           let none : before l y ≡ 0 = undated_counts c (order_of_line l) (get r.orders (order_of_line l)) y
           (undated l y e s) in
           let all : gained l y ≡ if_of_customer c owner y.amount = ap (λ b. cond b (if_of_customer c owner y.amount) 0)
           test in
           omega arith
       each_line l y e (inr n) =
-          let a : now l (date l y) ≡ now l y = ap (λ b. now l (cond b (dated q.stamp y) y)) n in
+          let a : now l (date l y) ≡ now l y = ap (λ b. now l (cond b (with_date q.stamp y) y)) n in
           let b : now l y ≡ before l y = ap (λ (v : Option Order). amount_for c (order_of_line l) v y)
           (order_stays (order_of_line l) n) in
           let none : gained l y ≡ 0 = ap (λ b. cond b (if_of_customer c owner y.amount) 0) n in

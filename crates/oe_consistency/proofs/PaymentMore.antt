@@ -20,7 +20,7 @@ use Rattle.oe_rows.proofs.KeyFacts.{exact_customer, history_total, exact_history
 use Rattle.oe_model.specs.Keys.{warehouse_of_district, customer_in}
 use Rattle.oe_model.specs.Rows.{Rows}
 use Rattle.oe_model.specs.Maps.{sum_of}
-use Rattle.oe_model.specs.Choice.{chosen}
+use Rattle.oe_model.specs.Choice.{customer_meant}
 use Rattle.oe_model.specs.Payment.{payment_effect, paid_warehouse, paid_district, paid_customer, paid_warehouse_out}
 use Rattle.oe_model.specs.Payment.{paid_district_out, paid_customer_out, history_data, history_row, history_key}
 use Rattle.oe_model.specs.Conditions.{if_of_warehouse, if_of}
@@ -178,7 +178,7 @@ payment_more t k q r after y new more e =
     there_in_range P paid_warehouse_out (paid_warehouse q w) _ _ e (λ _ e.
     there P (get r.districts q.district) _ _ e (λ d d_at e.
     there_in_range P paid_district_out (paid_district q d) _ _ e (λ _ e.
-    there P (chosen q.customer_district q.customer r.customers) _ _ e (λ c _ e.
+    there P (customer_meant q.customer_district q.customer r.customers) _ _ e (λ c _ e.
     there P (get r.customers (customer_in q.customer_district c)) _ _ e (λ u u_at e.
     there_in_range P paid_customer_out (paid_customer c q u) _ _ e (λ _ e.
     let made : Rows = paid t k q r more new w w_at d d_at c u u_at in

@@ -6,10 +6,10 @@ use Rattle.std.specs.FinMap.{get}
 use Rattle.std.proofs.lemmas.Bool.{cases_lt}
 use Rattle.oe_theory.specs.Machine.{Mode, Shared, Ask, Stop, Plain, Take, Fail, Go, Tx}
 use Rattle.oe_theory.specs.World.{Open, World, total, go_together, latest, overlay}
-use Rattle.oe_theory.specs.Next.{Next, Advance, More, Committed, Aborted, IsNew, GivesWay, held_after, filled}
+use Rattle.oe_theory.specs.Next.{Next, Advance, More, Committed, Aborted, IsNew, GivesWay, held_after, fill_of}
 use Rattle.oe_theory.specs.Next.{record_on}
 use Rattle.oe_theory.specs.Undo.{lengths_of, used_of}
-use Rattle.oe_theory.specs.Store.{Slot, Store, tx_in, opened_by, slot_after, dropped, IsGrantedIn, IsInTheWayIn}
+use Rattle.oe_theory.specs.Store.{Slot, Store, tx_in, open_in_slot, slot_after, without_slot, IsGrantedIn, IsInTheWayIn}
 use Rattle.oe_theory.specs.Store.{HasRoomIn, MayLackMemoryIn}
 use Rattle.oe_theory.specs.Store as theory
 use Rattle.oe_theory.specs.StoreTheorems.{Leads}
@@ -40,20 +40,21 @@ use Rattle.oe_model.specs.Meets.{Accepts}
 use Rattle.oe_model.specs.Positions as model
 use Rattle.oe_model.specs.Requests.{MayRefuse}
 use Rattle.oe_model.specs.Rows.{Rows, as_customer}
-use Rattle.oe_model.specs.System.{system, ask, act, taken, yields, marks, may_allocate, terminal_limit}
+use Rattle.oe_model.specs.System.{system, ask, act, locks_before, yields, marks, may_allocate, terminal_limit}
 use Rattle.oe_model.proofs.ChangeFacts.{not_both}
 use Rattle.oe_model.proofs.LawFacts as law
 use Rattle.oe_model.proofs.SystemLaws.{laws, recalls_alone}
 use Rattle.oe_engine.specs.View.{View, view_of, Handle, IsOpen}
 use Rattle.oe_engine.specs.View as engine
-use Rattle.oe_engine.specs.Calls.{IsFree, IsInTheWay, IsFullFor, IsFullForAny, stage_done, committed, rolled_back}
+use Rattle.oe_engine.specs.Calls.{IsFree, IsInTheWay, IsFullFor, IsFullForAny, after_stage, after_commit}
+use Rattle.oe_engine.specs.Calls.{after_rollback}
 use Rattle.oe_engine.specs.Programs.{reply_at, tx_of, ask_here, act_here, IsFreeHere, GoesOn, IsReady, Ends}
 use Rattle.oe_engine.specs.Programs.{WantsMemory, IsRefused}
 use Rattle.oe_engine.proofs.ReplyFacts.{ready_at}
 use Rattle.oe_core.specs.Core.{CoreState, in_slot, reply_left, last_reply, work_at, slot_of, open_at, store_with}
 use Rattle.oe_core.specs.Core.{store_of, world_of, IsOrderly, Moves, keeps_open}
 use Rattle.oe_core.specs.Steps.{refusal_in, Carries}
-use Rattle.oe_core.specs.Works.{WorkState, HoldsTaken, Recalls, gone_on}
+use Rattle.oe_core.specs.Works.{WorkState, HoldsTaken, Recalls, work_after_stage}
 use Rattle.oe_model.specs.Positions.{Position}
 use Rattle.oe_core.proofs.KeepFacts.{unchanged}
 use Rattle.oe_core.proofs.WantFacts.{wants_in, allocates}
@@ -66,7 +67,7 @@ has_room : (v : View) (f : ℕ → Option WorkState) (t : ℕ) (c : Option Chang
     → HasRoomIn system (store_with v f) t c
 has_room v f t None room = tt
 has_room v f t (Some c) room =
-    let filled_to = (filled system (lengths_of system (v.undo.active t))).1 in
+    let filled_to = (fill_of system (lengths_of system (v.undo.active t))).1 in
     elim (cases_lt filled_to (system.size_of (record_on system v.layout c v.rows))) [
       | inl over ↦ elim (cases_lt (used_of system v.undo) v.extents) [
         | inl free ↦ inr free
@@ -136,12 +137,12 @@ module _ (s : CoreState) (t : ℕ) (x : Handle) (w : WorkState) (h : HasOpen s t
 
   -- a row that ends its transaction
   leads_stop : (e : Refusal) → ask (tx_in system t here) w.position (view_of s.engine).rows ≡ Stop e
-      → Leads system (store_of s) (Advance t) (Aborted e) (dropped system t (store_of s))
+      → Leads system (store_of s) (Advance t) (Aborted e) (without_slot system t (store_of s))
   leads_stop e q = the_steps.stops (store_of s) t here e (standing s h.orderly) (slot_here h) q
 
   leads_fail : (e : Refusal) → IsFreeHere s.engine x w.request w.position
       → act (tx_in system t here) w.position (view_of s.engine).rows ≡ Fail e
-      → Leads system (store_of s) (Advance t) (Aborted e) (dropped system t (store_of s))
+      → Leads system (store_of s) (Advance t) (Aborted e) (without_slot system t (store_of s))
   leads_fail e f q = the_steps.fails (store_of s) t here e (standing s h.orderly) (slot_here h) (granted_in f) q
 
   -- the tables accept each change of a row
@@ -150,13 +151,13 @@ module _ (s : CoreState) (t : ℕ) (x : Handle) (w : WorkState) (h : HasOpen s t
   accepted c p f q =
       subst (Accepts c) (tables_here system laws (store_of s) (standing s h.orderly))
       (changes_are_accepted system laws (theory.world_of system (store_of s)) t
-      (opened_by system ((store_of s).undo.active t) (store_of s).tables here) c p (standing s h.orderly).reached
+      (open_in_slot system ((store_of s).undo.active t) (store_of s).tables here) c p (standing s h.orderly).reached
       (is_open_in system laws (store_of s) t here (slot_here h))
       (granted_here system laws (store_of s) (standing s h.orderly) t here (granted_in f))
       (acts_here system laws (store_of s) (standing s h.orderly) t here ∙ q))
 
   pub leads_end : (e : Refusal) → Ends s.engine x w.request w.position e
-      → Leads system (store_of s) (Advance t) (Aborted e) (dropped system t (store_of s))
+      → Leads system (store_of s) (Advance t) (Aborted e) (without_slot system t (store_of s))
   leads_end e (inl q) = leads_stop e (sym asked_here ∙ q)
   leads_end e (inr (inl d)) = leads_fail e d.0 (sym acted_here ∙ d.1)
   leads_end e (inr (inr d)) =
@@ -174,13 +175,13 @@ pub holds_taken : {s : CoreState} {t : ℕ} {x : Handle} {w : WorkState} → Has
     → HoldsTaken s.engine x w.request w.position
 holds_taken {s} {t} {x} {w} h n m g =
     let p : Slot system = here s t x w h in
-    let o : Open system = opened_by system ((store_of s).undo.active t) (store_of s).tables p in
+    let o : Open system = open_in_slot system ((store_of s).undo.active t) (store_of s).tables p in
     let w' : World system = theory.world_of system (store_of s) in
     let course = (reached_sound system laws w' (standing s h.orderly).reached).each t o
     (is_open_in system laws (store_of s) t p (slot_here h)) in
     subst (λ (k : ℕ). held_of system ((view_of s.engine).held k) n m) (sym (own_work h).terminal)
     (taken_held system laws ((view_of s.engine).held t) (tx_in system t p) (latest system w') o.now course.now n m
-    (subst (λ (z : Tx Request). Holds system (taken z w.position) n m) (same_tx s t x w h) g))
+    (subst (λ (z : Tx Request). Holds system (locks_before z w.position) n m) (same_tx s t x w h) g))
 
 -- and what a rename has read still stands
 same_row : (a b : Option Customer) → option_map row.Customer a ≡ option_map row.Customer b → a ≡ b
@@ -192,7 +193,7 @@ same_row a b e = sym (back a) ∙ ap (option_and_then as_customer) e ∙ back b
 
 recalls_at : (s : engine.EngineState) (t : ℕ) (z : Tx Request) (r : Rows) (p : Position)
     → Alike system (held_of system ((view_of s).held t)) z (view_of s).rows r
-    → ((n : Name) (m : Mode) → Holds system (taken z p) n m → held_of system ((view_of s).held t) n m)
+    → ((n : Name) (m : Mode) → Holds system (locks_before z p) n m → held_of system ((view_of s).held t) n m)
     → law.Recalls p r → Recalls s p
 recalls_at s t z r (model.InRename q (model.RenameNew last)) alike held h = (
   h.0,
@@ -212,7 +213,7 @@ recalls_at s t z r (model.DeliveriesEnd done) alike held h = tt
 pub recalls_here : {s : CoreState} {t : ℕ} {x : Handle} {w : WorkState} → HasOpen s t x w → Recalls s.engine w.position
 recalls_here {s} {t} {x} {w} h =
     let p : Slot system = here s t x w h in
-    let o : Open system = opened_by system ((store_of s).undo.active t) (store_of s).tables p in
+    let o : Open system = open_in_slot system ((store_of s).undo.active t) (store_of s).tables p in
     let w' : World system = theory.world_of system (store_of s) in
     let sound = reached_sound system laws w' (standing s h.orderly).reached in
     let i = is_open_in system laws (store_of s) t p (slot_here h) in
@@ -266,7 +267,7 @@ lacks s t p (Take k m) g n y = (g, n, y)
 pub went_on_here : {s : CoreState} {t : ℕ} {x : Handle} {w : WorkState} → HasOpen s t x w
     → (w' : WorkState) (e' : engine.EngineState) (ws : List (Option WorkState))
     → GoesOn s.engine x w.request w.position e' w'.position
-    → w' ≡ gone_on (length ((view_of s.engine).undo.active x.terminal)) w w'.position
+    → w' ≡ work_after_stage (length ((view_of s.engine).undo.active x.terminal)) w w'.position
     → ws ≡ slice_set s.works t (Some w')
     → Moves s (Advance t) More (record { engine = e'; txs = s.txs; works = ws })
 went_on_here {s} {t} {x} {w} h w' e' ws g same q =
@@ -275,12 +276,13 @@ went_on_here {s} {t} {x} {w} h w' e' ws g same q =
     let p = w'.position in
     let n : ℕ = length (v.undo.active t) in
     let a = ask (tx_in system t (slot_of v t w)) w.position v.rows in
-    let now : view_of e' ≡ stage_done t a g.change v =
+    let now : view_of e' ≡ after_stage t a g.change v =
     g.done
-    ∙ (ap (λ (z : Ask Name Refusal). stage_done x.terminal z g.change v) (asked_here s t x w h)
-    ∙ ap (λ (z : ℕ). stage_done z a g.change v) own.terminal) in
-    worked h (Advance t) More (gone_on n w p) (Some (slot_after system (slot_of v t w) (length (v.undo.active t)) a p))
-    e' (stage_done t a g.change v)
+    ∙ (ap (λ (z : Ask Name Refusal). after_stage x.terminal z g.change v) (asked_here s t x w h)
+    ∙ ap (λ (z : ℕ). after_stage z a g.change v) own.terminal) in
+    worked h (Advance t) More (work_after_stage n w p)
+    (Some (slot_after system (slot_of v t w) (length (v.undo.active t)) a p))
+    e' (after_stage t a g.change v)
     (the_steps.goes_on (store_of s) t (slot_of v t w) g.change p (standing s h.orderly) (slot_here h)
     (granted_in s t x w h g.free)
     (sym (acted_here s t x w h) ∙ g.does)
@@ -296,7 +298,7 @@ went_on_here {s} {t} {x} {w} h w' e' ws g same q =
     }))
     (tx_still s.engine e' t x own (ap (λ (z : View). z.is_open) now) g.name)
     ws (q ∙ ap (λ (z : WorkState). slice_set s.works t (Some z))
-    (same ∙ ap (λ (k : ℕ). gone_on (length (v.undo.active k)) w p) own.terminal))
+    (same ∙ ap (λ (k : ℕ). work_after_stage (length (v.undo.active k)) w p) own.terminal))
 
 -- what is taken out of a slot is the transaction that stood there
 pub taken_is : {s : CoreState} {t : ℕ} {x : Handle} {w : WorkState} → HasOpen s t x w → (out : Handle)
@@ -325,18 +327,18 @@ pub committed_here : {s : CoreState} {t : ℕ} {x : Handle} {w : WorkState} → 
     → (y : Reply) (n : ℕ) (e₀ e' : engine.EngineState) (xs : List (Option Handle)) (ws : List (Option WorkState))
     (z : Option WorkState)
     → IsReady s.engine x w.request w.position y → e₀ ≡ s.engine → n ≡ suc (total terminal_limit (view_of e₀).counts)
-    → view_of e' ≡ committed out.terminal w.request y (view_of e₀) → e'.name ≡ e₀.name → xs ≡ slice_set s.txs t None
+    → view_of e' ≡ after_commit out.terminal w.request y (view_of e₀) → e'.name ≡ e₀.name → xs ≡ slice_set s.txs t None
     → ws ≡ slice_set s.works t z
     → Moves s (Advance t) (Committed n y) (record { engine = e'; txs = xs; works = ws })
 committed_here {s} {t} {x} {w} h out own y n e₀ e' xs ws z g same c b name p q =
     let v = view_of s.engine in
-    let now : view_of e' ≡ committed t w.request y v =
-    b ∙ (ap (λ (k : engine.EngineState). committed out.terminal w.request y (view_of k)) same
-    ∙ ap (λ (k : ℕ). committed k w.request y v) (ap (λ (k : Handle). k.terminal) own ∙ (own_work h).terminal)) in
+    let now : view_of e' ≡ after_commit t w.request y v =
+    b ∙ (ap (λ (k : engine.EngineState). after_commit out.terminal w.request y (view_of k)) same
+    ∙ ap (λ (k : ℕ). after_commit k w.request y v) (ap (λ (k : Handle). k.terminal) own ∙ (own_work h).terminal)) in
     let moment : n ≡ suc (total terminal_limit v.counts) = c
     ∙ ap (λ (k : engine.EngineState). suc (total terminal_limit (view_of k).counts)) same in
     subst (λ (k : ℕ). Moves s (Advance t) (Committed k y) (record { engine = e'; txs = xs; works = ws })) (sym moment)
-    (emptied h (Advance t) (Committed (suc (total terminal_limit v.counts)) y) e' (committed t w.request y v)
+    (emptied h (Advance t) (Committed (suc (total terminal_limit v.counts)) y) e' (after_commit t w.request y v)
     (the_steps.commits (store_of s) t (slot_of v t w) y (standing s h.orderly) (slot_here h)
     (granted_in s t x w h g.free) (sym (acted_here s t x w h) ∙ g.does))
     now (name ∙ ap (λ (k : engine.EngineState). k.name) same)
@@ -421,7 +423,7 @@ kept_lead s t y w o (NotPinned n) kp h = let no : ⊥ = cc in absurd no
 ended_lead : (s : CoreState) (t : ℕ) (y : Handle) (w : WorkState) → HasOpen s t y w → (x : Refusal)
     → keeps_open x ≡ false
     → IsRefused s.engine y w.request w.position x
-    → Leads system (store_of s) (Advance t) (refusal_in (step.Advance t) x) (dropped system t (store_of s))
+    → Leads system (store_of s) (Advance t) (refusal_in (step.Advance t) x) (without_slot system t (store_of s))
 ended_lead s t y w o (NoSuchRow k) kp h = leads_end s t y w o (NoSuchRow k) h.1
 ended_lead s t y w o (RowExists k) kp h = leads_end s t y w o (RowExists k) h.1
 ended_lead s t y w o (Overflow c) kp h = leads_end s t y w o (Overflow c) h.1
@@ -516,12 +518,12 @@ pub given_up_here : {s : CoreState} {t : ℕ} {y : Handle} {w : WorkState} → H
     → (e' e'' : engine.EngineState) (xs : List (Option Handle)) (ws : List (Option WorkState)) (z : Option WorkState)
     (x : Refusal)
     → keeps_open x ≡ false → IsRefused s.engine y w.request w.position x
-    → view_of e' ≡ view_of s.engine → e'.name ≡ s.engine.name → view_of e'' ≡ rolled_back out.terminal (view_of e')
+    → view_of e' ≡ view_of s.engine → e'.name ≡ s.engine.name → view_of e'' ≡ after_rollback out.terminal (view_of e')
     → e''.name ≡ e'.name
     → xs ≡ slice_set s.txs t None → ws ≡ slice_set s.works t z
     → Moves s (Advance t) (refusal_in (step.Advance t) x) (record { engine = e''; txs = xs; works = ws })
 given_up_here {s} {t} {y} {w} h out own e' e'' xs ws z x ended why same same_name b name p q =
     dropped_here h (Advance t) (refusal_in (step.Advance t) x) e'' xs ws z (ended_lead s t y w h x ended why)
-    (b ∙ (ap (λ (k : View). rolled_back out.terminal k) same
-    ∙ ap (λ (k : Handle). rolled_back k.terminal (view_of s.engine)) own))
+    (b ∙ (ap (λ (k : View). after_rollback out.terminal k) same
+    ∙ ap (λ (k : Handle). after_rollback k.terminal (view_of s.engine)) own))
     (name ∙ same_name) p q

@@ -3,14 +3,14 @@ use Rattle.std.proofs.Common.{◌≡◌, ℕ, false, List, [], Option, None, Som
 use Rattle.oe_theory.specs.Machine as theory
 use Rattle.oe_theory.specs.Machine.{Tx, Hold}
 use Rattle.oe_theory.specs.World.{Open, tx_of}
-use Rattle.oe_theory.specs.Store.{open_of, opened_by}
+use Rattle.oe_theory.specs.Store.{open_of, open_in_slot}
 use Rattle.oe_rows.specs.declared.locks.Name.{Name}
 use Rattle.oe_requests.specs.declared.requests.Request.{Request}
 use Rattle.oe_locks.specs.Listed.{stands}
 use Rattle.oe_model.specs.Rows.{Rows}
 use Rattle.oe_model.specs.System.{system, ask}
 use Rattle.oe_engine.specs.View.{view_of, Handle, IsOpen}
-use Rattle.oe_engine.specs.Programs.{wanted}
+use Rattle.oe_engine.specs.Programs.{lock_asked}
 use Rattle.oe_core.specs.Asks.{wanted_of, wanted_by, held_of, held_by}
 use Rattle.oe_core.specs.Core.{CoreState, in_slot, work_of, slot_of, open_at, world_of, Works, IsOrderly}
 use Rattle.oe_core.specs.Works.{WorkState}
@@ -28,13 +28,14 @@ module _ (s : CoreState) (t : ℕ) where
       (ap (λ (z : Option Handle). wanted_of (world_of s) t (open_in s t z (in_slot s.works t))) e)
 
   pub open_asks : IsOrderly s → (x : Handle) (w : WorkState) (a : Option (Hold Name)) → in_slot s.txs t ≡ Some x
-      → in_slot s.works t ≡ Some w → ((y : Tx Request) → a ≡ wanted (ask y w.position (view_of s.engine).rows))
+      → in_slot s.works t ≡ Some w → ((y : Tx Request) → a ≡ lock_asked (ask y w.position (view_of s.engine).rows))
       → a ≡ wanted_by (world_of s) t
   unfolding world_of
   open_asks o x w a e f h =
-      let who = opened_by system ((view_of s.engine).undo.active t) (view_of s.engine).rows
+      let who = open_in_slot system ((view_of s.engine).undo.active t) (view_of s.engine).rows
       (slot_of (view_of s.engine) t w) in
-      h (tx_of system t who) ∙ (ap (λ (r : Rows). wanted (ask (tx_of system t who) w.position r)) (sym (tables_are s o))
+      h (tx_of system t who) ∙ (ap (λ (r : Rows). lock_asked (ask (tx_of system t who) w.position r))
+      (sym (tables_are s o))
       ∙ sym (ap (λ (z : Option Handle). wanted_of (world_of s) t (open_in s t z (in_slot s.works t))) e
       ∙ ap (λ (z : Option WorkState). wanted_of (world_of s) t (open_in s t (Some x) z)) f))
 

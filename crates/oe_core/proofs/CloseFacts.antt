@@ -5,7 +5,7 @@ use Rattle.std.specs.Prelude.{◌⊎◌}
 use Rattle.std.proofs.lemmas.Bool.{cases_eq}
 use mathlib.Core.Path.{fun_ext}
 use Rattle.oe_theory.specs.World.{set, latest}
-use Rattle.oe_theory.specs.Store.{Store, newest_version, dropped}
+use Rattle.oe_theory.specs.Store.{Store, newest_version, without_slot}
 use Rattle.oe_theory.specs.StoreTheorems.{IsStanding}
 use Rattle.oe_theory.proofs.Sets.{set_same, set_other, set_idle}
 use Rattle.oe_theory.proofs.StoreTheorems.{latest_here}
@@ -15,7 +15,7 @@ use Rattle.oe_model.specs.System.{system}
 use Rattle.oe_model.proofs.SystemLaws.{laws}
 use Rattle.oe_engine.specs.View.{View, view_of, Handle}
 use Rattle.oe_engine.specs.View as engine
-use Rattle.oe_engine.specs.Calls.{rolled_back}
+use Rattle.oe_engine.specs.Calls.{after_rollback}
 use Rattle.oe_core.specs.Core.{CoreState, in_slot, work_of, work_at, store_with, store_of, world_of, IsTx, Works}
 use Rattle.oe_core.specs.Core.{IsOrderly, IsEndable, IsEnded}
 use Rattle.oe_core.specs.Works.{WorkState}
@@ -101,15 +101,15 @@ last_popped e e' ws ys (Some x) r h k =
     let after : CoreState = record { engine = e'; txs = ys; works = ws } in
     let own = its_work e t x (in_slot ws t)
     (subst (λ (z : Option Handle). Works e t z (in_slot ws t)) (at_last ys (Some x)) (k.works t)) in
-    let now : view_of e' ≡ rolled_back t v = h.0 ∙ ap (λ (z : ℕ). rolled_back z v) own.1.terminal in
+    let now : view_of e' ≡ after_rollback t v = h.0 ∙ ap (λ (z : ℕ). after_rollback z v) own.1.terminal in
     let d = rollback_leaves_versions system laws (store_of before) t k.stands in
     let kept : in_slot ws ≡ set t (in_slot ws t) (in_slot ws) = sym (set_idle t (in_slot ws t) (in_slot ws) refl) in
     let left : work_at after ≡ set t None (work_at before) = work_set (in_slot before.txs) (in_slot ys) (in_slot ws)
     (in_slot ws) t None (in_slot ws t) (last_taken ys (Some x)) kept in
-    let same : dropped system t (store_of before) ≡ store_of after =
+    let same : without_slot system t (store_of before) ≡ store_of after =
     sym (ap (λ (z : View). store_with z (work_at after)) now
     ∙ same_parts _ _ _ _ _ _ _ _ _ _ _ _ _ _ refl refl
-    (slots_set v (rolled_back t v) (work_at before) (work_at after) t None None left (λ u n. refl)
+    (slots_set v (after_rollback t v) (work_at before) (work_at after) t None None left (λ u n. refl)
     (λ u n. set_other t _ v.held u n) refl)
     refl refl refl refl) in
     record {

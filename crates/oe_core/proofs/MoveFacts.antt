@@ -9,7 +9,7 @@ use Rattle.oe_theory.specs.World.{set}
 use Rattle.oe_theory.specs.Next.{Next, Step, Begin, Save, Back, Rollback, Answer, Begun, Saved, Gone_back, Rolled_back}
 use Rattle.oe_theory.specs.Next.{Not_open, works_on}
 use Rattle.oe_theory.specs.Undo.{Undo}
-use Rattle.oe_theory.specs.Store.{Slot, Seal, Store, first_slot, dropped}
+use Rattle.oe_theory.specs.Store.{Slot, Seal, Store, first_slot, without_slot}
 use Rattle.oe_theory.specs.Theorems.{IsReached}
 use Rattle.oe_theory.specs.StoreTheorems.{IsStanding, Leads, Steps_of_the_store}
 use Rattle.oe_theory.proofs.Sets.{set_same, set_other}
@@ -23,10 +23,10 @@ use Rattle.oe_model.specs.System.{system, start_of, terminal_limit}
 use Rattle.oe_model.proofs.SystemLaws.{laws}
 use Rattle.oe_engine.specs.View.{View, view_of, Handle, IsOpen}
 use Rattle.oe_engine.specs.View as engine
-use Rattle.oe_engine.specs.Calls.{begun, back_at, rolled_back}
+use Rattle.oe_engine.specs.Calls.{after_begin, back_at, after_rollback}
 use Rattle.oe_core.specs.Core.{CoreState, in_slot, work_of, work_at, slot_of, open_at, store_with, store_of, world_of}
 use Rattle.oe_core.specs.Core.{IsSound, IsTx, Works, IsOrderly, Moves}
-use Rattle.oe_core.specs.Works.{WorkState, begun as begun_work}
+use Rattle.oe_core.specs.Works.{WorkState, work_at_begin as begun_work}
 use Rattle.oe_core.proofs.SlotFacts.{slot_set, kept_slot, get_slot, lent_slot, set_idle_slot}
 
 pub standing : (s : CoreState) → IsOrderly s → IsStanding system (store_of s)
@@ -402,14 +402,14 @@ gone_back_here {s} {t} {x} {w} h w' e' ws same b name q =
 pub dropped_here : {s : CoreState} {t : ℕ} {x : Handle} {w : WorkState} → HasOpen s t x w
     → (i : Step system) (a : Answer system) (e' : engine.EngineState) (xs : List (Option Handle))
     (ws : List (Option WorkState)) (z : Option WorkState)
-    → Leads system (store_of s) i a (dropped system t (store_of s))
-    → view_of e' ≡ rolled_back x.terminal (view_of s.engine) → e'.name ≡ s.engine.name → xs ≡ slice_set s.txs t None
+    → Leads system (store_of s) i a (without_slot system t (store_of s))
+    → view_of e' ≡ after_rollback x.terminal (view_of s.engine) → e'.name ≡ s.engine.name → xs ≡ slice_set s.txs t None
     → ws ≡ slice_set s.works t z
     → Moves s i a (record { engine = e'; txs = xs; works = ws })
 dropped_here {s} {t} h i a e' xs ws z lead b name p q =
     let v = view_of s.engine in
-    let now : view_of e' ≡ rolled_back t v = b ∙ ap (λ (k : ℕ). rolled_back k v) (own_work h).terminal in
-    emptied h i a e' (rolled_back t v) lead now name
+    let now : view_of e' ≡ after_rollback t v = b ∙ ap (λ (k : ℕ). after_rollback k v) (own_work h).terminal in
+    emptied h i a e' (after_rollback t v) lead now name
     (record {
       counts = λ u n. refl;
       held = λ u n. set_other t _ v.held u n;
@@ -421,7 +421,7 @@ dropped_here {s} {t} h i a e' xs ws z lead b name p q =
 -- where what it carried out is not there any more, none is open
 pub rolled_back_here : {s : CoreState} {t : ℕ} {x : Handle} {w : WorkState} → HasOpen s t x w
     → (e' : engine.EngineState) (xs : List (Option Handle)) (ws : List (Option WorkState))
-    → view_of e' ≡ rolled_back x.terminal (view_of s.engine) → e'.name ≡ s.engine.name → xs ≡ slice_set s.txs t None
+    → view_of e' ≡ after_rollback x.terminal (view_of s.engine) → e'.name ≡ s.engine.name → xs ≡ slice_set s.txs t None
     → ws ≡ slice_set s.works t None
     → Moves s (Rollback t) Rolled_back (record { engine = e'; txs = xs; works = ws })
 rolled_back_here {s} {t} {x} {w} h e' xs ws b name p q =
@@ -449,7 +449,7 @@ pub begun_here : (s : CoreState) → IsOrderly s → (t : ℕ) → 1 ≤ t → t
     → rejection q (view_of s.engine).rows ≡ None → number_rejection (suc ((view_of s.engine).counts t)) ≡ None
     → (view_of s.engine).is_open t ≡ false
     → ((view_of s.engine).is_open t ≡ false → (view_of s.engine).held t ≡ (λ _. None))
-    → view_of e' ≡ begun t (view_of s.engine) → e'.name ≡ s.engine.name
+    → view_of e' ≡ after_begin t (view_of s.engine) → e'.name ≡ s.engine.name
     → x ≡ record { engine = s.engine.name; terminal = t }
     → xs ≡ slice_set s.txs t (Some x) → ws ≡ slice_set s.works t (Some (begun_work q))
     → Moves s (Begin t q) Begun (record { engine = e'; txs = xs; works = ws })
@@ -458,7 +458,7 @@ begun_here s o t l h q g x e' xs ws known counted shut idle b name tx txs works 
     let low : t < 65 = omega (arith, h) in
     let free : v.held t ≡ (λ _. None) = idle shut in
     replaced s o (Begin t q) Begun t low (Some x) (Some (begun_work q)) (Some (first_slot system (store_of s) t q)) e'
-    (begun t v)
+    (after_begin t v)
     (the_steps.begins (store_of s) t q (standing s o)
     (record {
       terminal = (l, below_limit t low);

@@ -3,7 +3,7 @@ use Rattle.std.proofs.Common.{◌≡◌, ℕ, zero, suc, List, Option, None, len
 use mathlib.Core.Path.{fun_ext}
 use Rattle.oe_theory.specs.Store as theory
 use Rattle.oe_theory.specs.Store.{opened_store}
-use Rattle.oe_theory.specs.Theorems.{opened}
+use Rattle.oe_theory.specs.Theorems.{world_at_opening}
 use Rattle.oe_theory.specs.StoreTheorems.{IsStanding}
 use Rattle.oe_theory.proofs.StoreSteps.{opening_stands}
 use Rattle.oe_model.specs.Rows.{Rows}
@@ -49,7 +49,7 @@ orderly_opened e r n l xs ws p q g h =
 
 pub world_opened : (e : engine.EngineState) (r : Rows) (n : ℕ) (l : Layout) (xs : List (Option Handle))
     (ws : List (Option WorkState)) → xs ≡ replicate 65 None → IsPopulation r → view_of e ≡ opened_view r n l
-    → world_of (record { engine = e; txs = xs; works = ws }) ≡ opened system r n l
+    → world_of (record { engine = e; txs = xs; works = ws }) ≡ world_at_opening system r n l
 unfolding world_of
 world_opened e r n l xs ws p g h =
     ap (λ (z : List (Option Handle)). theory.world_of system (store_of (record { engine = e; txs = z; works = ws }))) p

@@ -13,7 +13,7 @@ use Rattle.oe_model.specs.System.{system, terminal_limit}
 use Rattle.oe_log.specs.Moments.{IsBetween, IsOutside}
 use Rattle.oe_engine.specs.View.{View, view_of, Handle}
 use Rattle.oe_engine.specs.View as engine
-use Rattle.oe_engine.specs.Calls.{newest, horizon, IsQuiet, CantRewind, purged_to, rewound_to}
+use Rattle.oe_engine.specs.Calls.{newest, horizon, IsQuiet, CantRewind, after_purge, after_rewind}
 use Rattle.oe_core.specs.Core.{CoreState, in_slot, work_of, work_at, open_at, store_with, store_of, Works, IsOrderly}
 use Rattle.oe_core.specs.Core.{Moves}
 use Rattle.oe_core.specs.Steps.{refusal_in}
@@ -51,16 +51,16 @@ unchanged {s} {i} {a} e' same m =
 -- a purge
 pub purged_here : (s : CoreState) → IsOrderly s → (e' : engine.EngineState) (m : ℕ)
     → IsBetween (horizon (view_of s.engine)) (newest (view_of s.engine)) m
-    → view_of e' ≡ purged_to m (view_of s.engine) → e'.name ≡ s.engine.name
+    → view_of e' ≡ after_purge m (view_of s.engine) → e'.name ≡ s.engine.name
     → Moves s (Purge m) (Purged m) (record { engine = e'; txs = s.txs; works = s.works })
 purged_here s o e' m kept now name =
     let v = view_of s.engine in
     closed s (record { engine = e'; txs = s.txs; works = s.works }) (Purge m) (Purged m)
-    (stored.purged_to system m (store_of s))
+    (stored.after_purge system m (store_of s))
     (the_steps.purges (store_of s) m (standing s o) kept.old kept.new)
     (ap (λ (z : View). store_with z (work_at s)) now
     ∙ same_parts _ _ _ _ _ _ _ _ _ _ _ _ _ _ refl refl
-    (fun_ext (λ u. same_slot v (purged_to m v) u (work_at s u) refl refl)) refl refl refl refl)
+    (fun_ext (λ u. same_slot v (after_purge m v) u (work_at s u) refl refl)) refl refl refl refl)
     o.tx_slots o.work_slots
     (λ u. works_still s.engine e' (ap (λ (z : View). z.is_open) now) name u (in_slot s.txs u) (in_slot s.works u)
     (o.works u))
@@ -86,17 +86,17 @@ none_at s o quiet t = ap (λ (z : Option Handle). work_of z (in_slot s.works t))
 -- a rewind
 pub rewound_here : (s : CoreState) → IsOrderly s → (e' : engine.EngineState) (m : ℕ) → IsQuiet (view_of s.engine)
     → IsBetween (horizon (view_of s.engine)) (newest (view_of s.engine)) m
-    → view_of e' ≡ rewound_to m (view_of s.engine) → e'.name ≡ s.engine.name
+    → view_of e' ≡ after_rewind m (view_of s.engine) → e'.name ≡ s.engine.name
     → Moves s (Rewind m) (Rewound m) (record { engine = e'; txs = s.txs; works = s.works })
 rewound_here s o e' m quiet kept now name =
     let v = view_of s.engine in
     let none : (t : ℕ) → work_at s t ≡ None = none_at s o quiet in
     closed s (record { engine = e'; txs = s.txs; works = s.works }) (Rewind m) (Rewound m)
-    (stored.rewound_to system m (store_of s))
+    (stored.after_rewind system m (store_of s))
     (the_steps.rewinds (store_of s) m (standing s o) (λ t. is_shut s o t (quiet t)) kept.old kept.new)
     (ap (λ (z : View). store_with z (work_at s)) now
     ∙ same_parts _ _ _ _ _ _ _ _ _ _ _ _ _ _ refl refl
-    (fun_ext (λ u. ap (open_at (rewound_to m v) u) (none u) ∙ sym (ap (open_at v u) (none u)))) refl refl refl refl)
+    (fun_ext (λ u. ap (open_at (after_rewind m v) u) (none u) ∙ sym (ap (open_at v u) (none u)))) refl refl refl refl)
     o.tx_slots o.work_slots
     (λ u. works_still s.engine e' (ap (λ (z : View). z.is_open) now) name u (in_slot s.txs u) (in_slot s.works u)
     (o.works u))

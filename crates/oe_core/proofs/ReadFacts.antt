@@ -20,8 +20,8 @@ use Rattle.oe_requests.specs.declared.steps.Step.TheVariants as step
 use Rattle.oe_model.specs.Rows.{Rows, row_at}
 use Rattle.oe_model.specs.Requests.{warehouse_no, first_absent, query_rejection}
 use Rattle.oe_model.specs.Keys.{customer_in}
-use Rattle.oe_model.specs.Choice.{chosen, HaveSameNames}
-use Rattle.oe_model.specs.Queries.{found, last_order, status_of, recent_lines, is_low, answer_of}
+use Rattle.oe_model.specs.Choice.{customer_meant, HaveSameNames}
+use Rattle.oe_model.specs.Queries.{reply_with, last_order, status_of, recent_lines, is_low, answer_of}
 use Rattle.oe_model.specs.System.{system}
 use Rattle.oe_store.specs.Places.{rows}
 use Rattle.oe_store.specs.Places as tables
@@ -135,18 +135,19 @@ module _ (s : CoreState) (ts : tables.Places) (u : undo.SegmentLog) (m : ℕ) (q
   rejection_is (Level p) r e h = absent_is (p.district.warehouse ∷ []) r e h
 
   told_is : {A : Type 0} (d : Refusal) (o : Option A) (k : A → QueryReply) (e : Refusal) → AsRejected d
-      → found d o (λ x. Here (k x)) ≡ Missing e → AsRejected e
+      → reply_with d o (λ x. Here (k x)) ≡ Missing e → AsRejected e
   told_is d None k e t h = let it : d ≡ e = cc in subst AsRejected it t
   told_is d (Some x) k e t h = let no : ⊥ = cc in absurd no
 
   chosen_is : (o : Option ℕ) (at : ℕ → Option Customer) (k : ℕ → Customer → QueryReply) (e : Refusal)
-      → found refusal.NoCustomer o (λ c. found refusal.NoCustomer (at c) (λ x. Here (k c x))) ≡ Missing e → AsRejected e
+      → reply_with refusal.NoCustomer o (λ c. reply_with refusal.NoCustomer (at c) (λ x. Here (k c x))) ≡ Missing e
+      → AsRejected e
   chosen_is None at k e h = let it : refusal.NoCustomer ≡ e = cc in subst AsRejected it refl
   chosen_is (Some c) at k e h = told_is {A = Customer} refusal.NoCustomer (at c) (k c) e refl h
 
   nothing_is : (p : Query) (r : Rows) (e : Refusal) → answer_of p r ≡ Missing e → AsRejected e
   nothing_is (Status p) r e h =
-      chosen_is (chosen p.district p.customer r.customers) (λ c. get r.customers (customer_in p.district c))
+      chosen_is (customer_meant p.district p.customer r.customers) (λ c. get r.customers (customer_in p.district c))
       (λ c x. told.Status (record {
         customer = c;
         balance = x.account.balance;

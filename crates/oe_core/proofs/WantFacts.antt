@@ -18,13 +18,13 @@ use Rattle.oe_requests.specs.declared.refusals.Refusal.TheVariants.{NoSuchRow, N
 use Rattle.oe_model.specs.Keys.{warehouse_of_district, customer_in, order_in, line_in, new_order_in}
 use Rattle.oe_model.specs.Rows.{Rows}
 use Rattle.oe_model.specs.Changes.{Change, UpdateCustomer, DeleteNewOrder}
-use Rattle.oe_model.specs.Choice.{chosen}
+use Rattle.oe_model.specs.Choice.{customer_meant}
 use Rattle.oe_model.specs.Meets.{is_insert}
-use Rattle.oe_model.specs.Effects.{Doing, given, within}
+use Rattle.oe_model.specs.Effects.{Doing, with_value, within}
 use Rattle.oe_model.specs.Positions as model
 use Rattle.oe_model.specs.Payment.{paid_warehouse, paid_warehouse_out, paid_district, paid_district_out, paid_customer}
 use Rattle.oe_model.specs.Payment.{paid_customer_out}
-use Rattle.oe_model.specs.NewOrder.{with_next, next_out, item_at, stock_of, supplied, stock_out}
+use Rattle.oe_model.specs.NewOrder.{with_next, next_out, item_at, stock_of, stock_after, stock_out}
 use Rattle.oe_model.specs.Delivery.{Setting, alone, district_act, oldest, delivered_to, delivered_out}
 use Rattle.oe_model.specs.Deliveries.{at_hand, among_ten}
 use Rattle.oe_model.specs.System.{act, may_allocate}
@@ -43,7 +43,7 @@ wants_in s c h = elim h.1 [ inl i ↦ inl i.0 | inr r ↦ inr r ]
 
 -- a stage that reads a row first, or looks at the ranges of columns, where it makes a change
 given_goes : {A : Type 0} (e : Refusal) (o : Option A) (f : A → Doing) (c : Change) (z : model.Position)
-    → given e o f ≡ Go (Some c) z → (a : A) × (o ≡ Some a) × (f a ≡ Go (Some c) z)
+    → with_value e o f ≡ Go (Some c) z → (a : A) × (o ≡ Some a) × (f a ≡ Go (Some c) z)
 given_goes e None f c z h = let no : ⊥ = cc in absurd no
 given_goes e (Some a) f c z h = (a, refl, h)
 
@@ -92,7 +92,7 @@ payment_allocates x q (model.PaymentDistrict n) r c z e i =
     let (y, at, f) = given_goes (NoSuchRow (key.District q.district)) (get r.districts q.district) _ c z e in
     absurd (other _ _ c z r (within_goes (paid_district_out (paid_district q y)) _ c z f) refl (λ n. n) i)
 payment_allocates x q (model.PaymentNames n d) r c z e i =
-    let (k, at, f) = given_goes NoCustomer (chosen q.customer_district q.customer r.customers) _ c z e in
+    let (k, at, f) = given_goes NoCustomer (customer_meant q.customer_district q.customer r.customers) _ c z e in
     let no : ⊥ = cc in absurd no
 payment_allocates x q (model.PaymentCustomer n d k) r c z e i =
     let (y, at, f) = given_goes NoCustomer (get r.customers (customer_in q.customer_district k)) _ c z e in
@@ -121,7 +121,7 @@ new_order_allocates x q (model.NewOrderStock y before done (l ∷ ls)) r c z e i
     let (item, at, f) = given_goes InvalidItem (item_at l.item r.items) _ c z e in
     let (s, at, g) = given_goes (NoSuchRow (key.Stock (stock_of l))) (get r.stocks (stock_of l)) _ c z f in
     absurd (other _ _ c z r
-    (within_goes (stock_out (supplied q.district.warehouse (stock_of l) s l.quantity)) _ c z g) refl (λ n. n) i)
+    (within_goes (stock_out (stock_after q.district.warehouse (stock_of l) s l.quantity)) _ c z g) refl (λ n. n) i)
 new_order_allocates x q (model.NewOrderLine y before done l f ls) r c z e i = refl
 
 -- the oldest order is deleted, if there is one

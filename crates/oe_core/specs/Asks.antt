@@ -5,13 +5,13 @@ use Rattle.oe_theory.specs.Machine.{Hold}
 use Rattle.oe_theory.specs.World.{World, Open, tx_of, tables}
 use Rattle.oe_rows.specs.declared.locks.Name.{Name}
 use Rattle.oe_model.specs.System.{system, ask}
-use Rattle.oe_engine.specs.Programs.{wanted}
+use Rattle.oe_engine.specs.Programs.{lock_asked}
 
 -- the lock that the next stage of a terminal's transaction asks for; none where it asks for none, and where nothing is
 -- open
 abbrev pub wanted_of : World system → ℕ → Option (Open system) → Option (Hold Name)
 wanted_of w t None = None
-wanted_of w t (Some o) = wanted (ask (tx_of system t o) o.now.position (tables system w))
+wanted_of w t (Some o) = lock_asked (ask (tx_of system t o) o.now.position (tables system w))
 
 abbrev pub wanted_by : World system → ℕ → Option (Hold Name)
 wanted_by w t = wanted_of w t (w.active t)

@@ -15,7 +15,7 @@ use Rattle.oe_requests.specs.declared.answers.Answer.TheVariants as answer
 use Rattle.oe_model.specs.System.{system}
 use Rattle.oe_engine.specs.View.{View, view_of, Handle, IsOpen}
 use Rattle.oe_engine.specs.View as engine
-use Rattle.oe_engine.specs.Calls.{rolled_back}
+use Rattle.oe_engine.specs.Calls.{after_rollback}
 use Rattle.oe_engine.specs.Programs.{reply_at}
 use Rattle.oe_core.specs.Works.{WorkState}
 use Rattle.oe_core.specs.declared.advances.Advanced.{Advanced}
@@ -136,4 +136,4 @@ IsEndable e (Some x) = IsOpen e x
 -- the transaction of a slot was rolled back, where there is one
 abbrev pub IsEnded : engine.EngineState → Option Handle → engine.EngineState → Type 0
 IsEnded e None e' = e' ≡ e
-IsEnded e (Some x) e' = (view_of e' ≡ rolled_back x.terminal (view_of e)) × (e'.name ≡ e.name)
+IsEnded e (Some x) e' = (view_of e' ≡ after_rollback x.terminal (view_of e)) × (e'.name ≡ e.name)

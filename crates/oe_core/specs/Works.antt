@@ -3,7 +3,7 @@ use Rattle.std.specs.Prelude.{◌≡◌, ℕ, cond}
 use Rattle.oe_requests.specs.declared.requests.Request.{Request}
 use Rattle.oe_requests.specs.declared.requests.Request.TheVariants as request
 use Rattle.oe_model.specs.Positions.{Position, InPayment, InNewOrder, InDelivery, InRename}
-use Rattle.oe_model.specs.System.{taken, start_of, marks}
+use Rattle.oe_model.specs.System.{locks_before, start_of, marks}
 use Rattle.oe_engine.specs.View.{EngineState, view_of, Handle}
 use Rattle.oe_engine.specs.Programs.{tx_of}
 use Rattle.oe_engine.specs.declared.programs.Progress.{Progress}
@@ -51,12 +51,12 @@ state_of (task.Rename q p m) n =
     }
 
 -- work for a request whose transaction has just begun: the program and the mark stand at its first row
-abbrev pub begun : Request → WorkState
-begun q = record { request = q; position = start_of q; mark = start_of q; mark_records = 0 }
+abbrev pub work_at_begin : Request → WorkState
+work_at_begin q = record { request = q; position = start_of q; mark = start_of q; mark_records = 0 }
 
 -- the names that are taken on the way to that row are held
 abbrev pub HoldsTaken : EngineState → Handle → Request → Position → Type 0
-HoldsTaken s x q p = HoldsAll (view_of s) x.terminal (taken (tx_of s x q) p)
+HoldsTaken s x q p = HoldsAll (view_of s) x.terminal (locks_before (tx_of s x q) p)
 
 -- and where a rename holds the old last name, it is still the customer's
 abbrev pub Recalls : EngineState → Position → Type 0
@@ -65,8 +65,8 @@ Recalls s _ = Unit {0}
 
 -- after a stage that went on to this position, where n records stood before it: where the stage moves the mark, the
 -- mark is where the program stood
-abbrev pub gone_on : ℕ → WorkState → Position → WorkState
-gone_on n w p =
+abbrev pub work_after_stage : ℕ → WorkState → Position → WorkState
+work_after_stage n w p =
     record w {
       position = p;
       mark = cond (marks w.position) w.position w.mark;
@@ -75,6 +75,6 @@ gone_on n w p =
 
 -- what a stage leaves, where n records stood before it: a refused one leaves all as it was
 abbrev pub Leaves : ℕ → WorkState → Progress → WorkState → Type 0
-Leaves n w progress.More w' = w' ≡ gone_on n w w'.position
+Leaves n w progress.More w' = w' ≡ work_after_stage n w w'.position
 Leaves n w progress.Ready w' = w' ≡ w
 Leaves n w (progress.Refused e) w' = w' ≡ w

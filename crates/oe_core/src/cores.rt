@@ -5,7 +5,7 @@
 ghost use Rattle.std.specs.Prelude.{◌≡◌, ◌↔◌, IfOk, IfSome, IsSome, None, is_some, suc, option_map};
 ghost use Rattle.oe_theory.specs.World.{horizon, latest, newest, tables, total};
 ghost use Rattle.oe_theory.specs.Next.{Next, IsQuiet, count_open};
-ghost use Rattle.oe_theory.specs.Theorems.{opened, IsReached};
+ghost use Rattle.oe_theory.specs.Theorems.{world_at_opening, IsReached};
 ghost use Rattle.oe_rows.specs.declared.locks.Name.{Name};
 ghost use Rattle.oe_requests.specs.Reply.{told_reply};
 ghost use Rattle.oe_locks.specs.Held.{names_of};
@@ -15,7 +15,7 @@ ghost use Rattle.oe_model.specs.Conditions.{IsPopulation};
 ghost use Rattle.oe_model.specs.System.{system, terminal_limit};
 ghost use Rattle.oe_store.specs.Places.{rows};
 ghost use Rattle.oe_engine.specs.View.{view_of, IsOpen};
-ghost use Rattle.oe_engine.specs.Calls.{committed, rolled_back};
+ghost use Rattle.oe_engine.specs.Calls.{after_commit, after_rollback};
 ghost use Rattle.oe_engine.specs.Programs.{hold_of, reply_at};
 ghost use Rattle.oe_core.specs.Steps.{step_in, answer_in, Carries, begin_answer, Advances};
 ghost use Rattle.oe_core.specs.Asks.{held_by, wanted_by};
@@ -68,7 +68,7 @@ impl Core {
         layout: Layout,
     ) -> Result<Core, NoMemory>
         requires { IsPopulation (rows tables) }
-        ensures { IfOk result (λ c. world_of c ≡ opened system (rows tables) extents layout) }
+        ensures { IfOk result (λ c. world_of c ≡ world_at_opening system (rows tables) extents layout) }
     {
         let engine = Engine::open(alloc, tables, extents, layout, 0)?;
         let Ok((works, txs)) = empty_places(alloc) else {
@@ -456,7 +456,7 @@ fn commit(engine: &mut Engine, tx: Tx, work: &Work) -> Moment
     requires ready { IsSome (reply_at work.now.position) }
     ensures moment { result ≡ suc (total terminal_limit (view_of engine.old).counts) }
     ensures committed { IfSome (reply_at work.now.position) (λ y. view_of engine.new
-        ≡ committed tx.terminal work.now.request y (view_of engine.old)) }
+        ≡ after_commit tx.terminal work.now.request y (view_of engine.old)) }
     ensures name { engine.new.name ≡ engine.old.name }
 {
     let Some((request, reply)) = work.ended() else {
@@ -472,7 +472,7 @@ fn commit(engine: &mut Engine, tx: Tx, work: &Work) -> Moment
 #[inline(never)]
 fn roll_back(engine: &mut Engine, tx: Tx)
     requires { IsOpen engine.old tx }
-    ensures rolled_back { view_of engine.new ≡ rolled_back tx.terminal (view_of engine.old) }
+    ensures rolled_back { view_of engine.new ≡ after_rollback tx.terminal (view_of engine.old) }
     ensures name { engine.new.name ≡ engine.old.name }
 {
     match engine.rollback(tx) {

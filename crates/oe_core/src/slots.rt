@@ -3,7 +3,7 @@
 ghost use Rattle.std.specs.Prelude.{◌≡◌, ◌≤◌, suc, Some, None, IsSome, IfOk, slice_get, slice_set, replicate};
 ghost use Rattle.oe_values.specs.declared.numbers.TheConstants.{TERMINALS};
 ghost use Rattle.oe_core.specs.Core.{in_slot};
-ghost use Rattle.oe_core.specs.Works.{begun};
+ghost use Rattle.oe_core.specs.Works.{work_at_begin};
 
 use crate::works::Work;
 use oe_engine::Tx;
@@ -59,7 +59,7 @@ pub fn put_tx(txs: &mut PerTerminal<Option<Tx>>, terminal: Terminal, tx: Tx)
 // In a slot: over what an earlier transaction left there, if there was one.
 #[inline]
 fn begin_slot(slot: &mut Option<Work>, request: &Request)
-    ensures { slot.new ≡ Some (begun request.now) }
+    ensures { slot.new ≡ Some (work_at_begin request.now) }
 {
     match slot {
         Some(work) => work.start(request),
@@ -70,7 +70,7 @@ fn begin_slot(slot: &mut Option<Work>, request: &Request)
 // In a slot where no transaction has been.
 #[inline(never)]
 fn begin_first(slot: &mut Option<Work>, request: &Request)
-    ensures { slot.new ≡ Some (begun request.now) }
+    ensures { slot.new ≡ Some (work_at_begin request.now) }
 {
     *slot = Some(Work::new(request));
 }
@@ -80,7 +80,7 @@ fn begin_first(slot: &mut Option<Work>, request: &Request)
 #[inline]
 pub fn begin_work(works: &mut PerTerminal<Option<Work>>, terminal: Terminal, request: &Request)
     ensures { works.new
-        ≡ slice_set works.old terminal (Some (begun request.now)) }
+        ≡ slice_set works.old terminal (Some (work_at_begin request.now)) }
 {
     begin_slot(works.at_mut(terminal), request);
 }

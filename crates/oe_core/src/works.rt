@@ -10,9 +10,9 @@ ghost use Rattle.oe_engine.specs.View.{IsOpen, view_of};
 ghost use Rattle.oe_theory.specs.Machine as theory;
 ghost use Rattle.oe_model.specs.System.{ask};
 ghost use Rattle.oe_store.specs.Places.{rows};
-ghost use Rattle.oe_engine.specs.Programs.{Progresses, hold_of, reply_at, wanted};
+ghost use Rattle.oe_engine.specs.Programs.{Progresses, hold_of, reply_at, lock_asked};
 ghost use Rattle.oe_delivery.specs.Deliveries.{place_of, HoldsNames};
-ghost use Rattle.oe_core.specs.Works.{begun, state_of, HoldsTaken, Recalls, Leaves};
+ghost use Rattle.oe_core.specs.Works.{work_at_begin, state_of, HoldsTaken, Recalls, Leaves};
 
 use oe_engine::{Engine, Progress, Savepoint, Tx};
 use oe_requests::{
@@ -73,7 +73,7 @@ impl Model for Work {
 impl Task {
     /// Gives the task of a request whose transaction has just begun.
     fn new(request: &Request) -> Self
-        ensures { state_of result 0 ≡ begun request.now }
+        ensures { state_of result 0 ≡ work_at_begin request.now }
     {
         match request {
             Request::Payment(payment) => Task::Payment {
@@ -108,7 +108,7 @@ impl Task {
 impl Work {
     /// Begins the work of a transaction of this request.
     pub fn new(request: &Request) -> Self
-        ensures { result ≡ begun request.now }
+        ensures { result ≡ work_at_begin request.now }
     {
         Work {
             task: Task::new(request),
@@ -119,7 +119,7 @@ impl Work {
     /// Becomes the work of a transaction of this request, which has just begun.
     #[inline]
     pub fn start(&mut self, request: &Request)
-        ensures { self.new ≡ begun request.now }
+        ensures { self.new ≡ work_at_begin request.now }
     {
         match &mut self.task {
             Task::Payment {
@@ -156,7 +156,7 @@ impl Work {
     // which these do without.
     #[inline(never)]
     fn start_other(&mut self, request: &Request)
-        ensures { self.new ≡ begun request.now }
+        ensures { self.new ≡ work_at_begin request.now }
     {
         *self = Work::new(request);
     }
@@ -273,7 +273,7 @@ impl Work {
     /// stops before it.
     pub fn wanted(&self, tables: &Tables) -> Option<Lock>
         ensures { (x : theory.Tx Request) → option_map hold_of result
-            ≡ wanted (ask x self.now.position (rows tables.now)) }
+            ≡ lock_asked (ask x self.now.position (rows tables.now)) }
     {
         match &self.task {
             Task::Payment {

@@ -10,9 +10,9 @@ use Rattle.std.specs.Prelude.{is_some, nat_le, IfSome}
 use Rattle.std.proofs.lemmas.Nat.{mod-mul-add, div-mul-add, shr_below}
 use Rattle.std.proofs.Math.Pow.{mod-mod-pow}
 use Rattle.oe_extent.specs.Images.{number, number_at}
-use Rattle.oe_image.specs.Before.{binary, mask, kept as kept_image}
+use Rattle.oe_image.specs.Before.{binary, mask, image_where_there as kept_image}
 use Rattle.oe_image.proofs.MaskFacts.{binary_small, in_bytes, bytes_wide}
-use Rattle.oe_decode.specs.Fronts.{IsBytes, kept, seen}
+use Rattle.oe_decode.specs.Fronts.{IsBytes, front_where, front_as}
 use Rattle.oe_decode.specs.ColumnFronts.{present}
 use Rattle.oe_decode.specs.BeforeFronts.{digits, bit, mask_at, kept_at}
 use Rattle.oe_decode.specs.Codec.{IsCodec, Takes}
@@ -131,7 +131,8 @@ mask_law width count few short = record {
     found : (bytes : List ℕ) (x : List Bool × List ℕ) → IsBytes bytes → mask_at width count bytes ≡ Some x
         → (length x.0 ≡ count) × Takes bytes (mask width x.0) x.1
     found bytes x fits e =
-        let a = seen_some (λ n. digits count (n / 2 ^ s)) (kept (λ n. n % 2 ^ s == 0) (number_at width bytes)) x e in
+        let a = seen_some (λ n. digits count (n / 2 ^ s))
+        (front_where (λ n. n % 2 ^ s == 0) (number_at width bytes)) x e in
         let b = kept_some (λ n. n % 2 ^ s == 0) (number_at width bytes) a.0 a.1 in
         let t = (number_law width).takes bytes a.0 fits b.0 in
         let n = a.0.0 in
@@ -163,8 +164,8 @@ mask_law width count few short = record {
         ap (λ n. n / 2 ^ s) (at_end ∙ plain) ∙ div-mul-add (binary bs) (2 ^ s) 0 (pow_pos s) in
         let same : digits count (x / 2 ^ s) ≡ bs =
         ap (digits count) whole ∙ (ap (λ c. digits c (binary bs)) (sym long) ∙ digits_back bs) in
-        ap (λ o. seen (λ n. digits count (n / 2 ^ s)) (kept (λ n. n % 2 ^ s == 0) o)) r
-        ∙ (ap (λ b. seen {X = ℕ} (λ n. digits count (n / 2 ^ s)) (cond b (Some (x, rest)) None))
+        ap (λ o. front_as (λ n. digits count (n / 2 ^ s)) (front_where (λ n. n % 2 ^ s == 0) o)) r
+        ∙ (ap (λ b. front_as {X = ℕ} (λ n. digits count (n / 2 ^ s)) (cond b (Some (x, rest)) None))
         (eq-eqb (x % 2 ^ s) 0 none)
         ∙ ap (λ z. Some (z, rest)) same)
 

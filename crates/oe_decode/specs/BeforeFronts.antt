@@ -12,7 +12,7 @@ use Rattle.oe_rows.specs.declared.before.CustomerBefore.{CustomerBefore}
 use Rattle.oe_rows.specs.declared.before.OrderBefore.{OrderBefore}
 use Rattle.oe_rows.specs.declared.before.OrderLineBefore.{OrderLineBefore}
 use Rattle.oe_rows.specs.declared.before.StockBefore.{StockBefore}
-use Rattle.oe_decode.specs.Fronts.{◌>>=◌, kept, seen, pair_at, ranged_at}
+use Rattle.oe_decode.specs.Fronts.{◌>>=◌, front_where, front_as, pair_at, ranged_at}
 use Rattle.oe_decode.specs.ColumnFronts.{text_at, present, stamp_at, balance_at, carrier_at, delivery_at, flag_at}
 use Rattle.oe_decode.specs.ColumnFronts.{credit_at}
 
@@ -24,8 +24,8 @@ digits (suc k) n = nat_le (2 ^ k) n ∷ digits k (n % 2 ^ k)
 -- a mask of so many columns in `width` bytes: none where a spare bit is 1
 abbrev pub mask_at : ℕ → ℕ → List ℕ → Option (List Bool × List ℕ)
 mask_at width count bytes =
-    seen (λ n. digits count (n / 2 ^ (8 * width - count)))
-    (kept (λ n. n % 2 ^ (8 * width - count) == 0) (number_at width bytes))
+    front_as (λ n. digits count (n / 2 ^ (8 * width - count)))
+    (front_where (λ n. n % 2 ^ (8 * width - count) == 0) (number_at width bytes))
 
 -- a column that is there, or none
 abbrev pub kept_at : {X : Type 0} → Bool → (List ℕ → Option (X × List ℕ)) → List ℕ → Option (Option X × List ℕ)
@@ -39,7 +39,7 @@ bit bits i = get_or bits i false
 -- the address's five columns, from the i-th bit on
 unfoldable pub address_columns_at : List Bool → ℕ → List ℕ → Option (AddressBefore × List ℕ)
 address_columns_at bits i bytes =
-    seen (λ p. record { street_1 = p.0; street_2 = p.1.0; city = p.1.1.0; state = p.1.1.1.0; zip = p.1.1.1.1 })
+    front_as (λ p. record { street_1 = p.0; street_2 = p.1.0; city = p.1.1.0; state = p.1.1.1.0; zip = p.1.1.1.1 })
     (pair_at (kept_at (bit bits i) (text_at 0 20)) (pair_at (kept_at (bit bits (i + 1)) (text_at 0 20))
     (pair_at (kept_at (bit bits (i + 2)) (text_at 0 20)) (pair_at (kept_at (bit bits (i + 3)) (text_at 2 2))
     (kept_at (bit bits (i + 4)) (text_at 9 9))))) bytes)
@@ -47,14 +47,14 @@ address_columns_at bits i bytes =
 -- the name's three
 unfoldable pub name_columns_at : List Bool → ℕ → List ℕ → Option (CustomerNameBefore × List ℕ)
 name_columns_at bits i bytes =
-    seen (λ p. record { first = p.0; middle = p.1.0; last = p.1.1 })
+    front_as (λ p. record { first = p.0; middle = p.1.0; last = p.1.1 })
     (pair_at (kept_at (bit bits i) (text_at 0 16)) (pair_at (kept_at (bit bits (i + 1)) (text_at 2 2))
     (kept_at (bit bits (i + 2)) (text_at 0 16))) bytes)
 
 -- the account's six
 unfoldable pub account_columns_at : List Bool → ℕ → List ℕ → Option (AccountBefore × List ℕ)
 account_columns_at bits i bytes =
-    seen (λ p. record {
+    front_as (λ p. record {
       credit_limit = p.0;
       discount = p.1.0;
       balance = p.1.1.0;
@@ -72,7 +72,7 @@ account_columns_at bits i bytes =
 -- S_DIST_01 to S_DIST_10, from the i-th bit on
 unfoldable pub ten_columns_at : List Bool → ℕ → List ℕ → Option (List (Option (List ℕ)) × List ℕ)
 ten_columns_at bits i bytes =
-    seen (λ p. p.0 ∷ p.1.0 ∷ p.1.1.0 ∷ p.1.1.1.0 ∷ p.1.1.1.1.0 ∷ p.1.1.1.1.1.0 ∷ p.1.1.1.1.1.1.0 ∷ p.1.1.1.1.1.1.1.0
+    front_as (λ p. p.0 ∷ p.1.0 ∷ p.1.1.0 ∷ p.1.1.1.0 ∷ p.1.1.1.1.0 ∷ p.1.1.1.1.1.0 ∷ p.1.1.1.1.1.1.0 ∷ p.1.1.1.1.1.1.1.0
     ∷ p.1.1.1.1.1.1.1.1.0 ∷ p.1.1.1.1.1.1.1.1.1 ∷ [])
     (pair_at (kept_at (bit bits i) (text_at 24 24)) (pair_at (kept_at (bit bits (i + 1)) (text_at 24 24))
     (pair_at (kept_at (bit bits (i + 2)) (text_at 24 24)) (pair_at (kept_at (bit bits (i + 3)) (text_at 24 24))
@@ -82,21 +82,21 @@ ten_columns_at bits i bytes =
 
 unfoldable pub warehouse_columns_at : List Bool → List ℕ → Option (WarehouseBefore × List ℕ)
 warehouse_columns_at bits bytes =
-    seen (λ p. record { name = p.0; address = p.1.0; tax = p.1.1.0; ytd = p.1.1.1 })
+    front_as (λ p. record { name = p.0; address = p.1.0; tax = p.1.1.0; ytd = p.1.1.1 })
     (pair_at (kept_at (bit bits 0) (text_at 0 10)) (pair_at (address_columns_at bits 1)
     (pair_at (kept_at (bit bits 6) (ranged_at 2 0 9_999)) (kept_at (bit bits 7)
     (ranged_at 8 0 999_999_999_999)))) bytes)
 
 unfoldable pub district_columns_at : List Bool → List ℕ → Option (DistrictBefore × List ℕ)
 district_columns_at bits bytes =
-    seen (λ p. record { name = p.0; address = p.1.0; tax = p.1.1.0; ytd = p.1.1.1.0; next_order = p.1.1.1.1 })
+    front_as (λ p. record { name = p.0; address = p.1.0; tax = p.1.1.0; ytd = p.1.1.1.0; next_order = p.1.1.1.1 })
     (pair_at (kept_at (bit bits 0) (text_at 0 10)) (pair_at (address_columns_at bits 1)
     (pair_at (kept_at (bit bits 6) (ranged_at 2 0 9_999)) (pair_at
     (kept_at (bit bits 7) (ranged_at 8 0 999_999_999_999)) (kept_at (bit bits 8) (ranged_at 4 1 10_000_000))))) bytes)
 
 unfoldable pub customer_columns_at : List Bool → List ℕ → Option (CustomerBefore × List ℕ)
 customer_columns_at bits bytes =
-    seen (λ p. record {
+    front_as (λ p. record {
       name = p.0;
       address = p.1.0;
       phone = p.1.1.0;
@@ -112,7 +112,7 @@ customer_columns_at bits bytes =
 
 unfoldable pub order_columns_at : List Bool → List ℕ → Option (OrderBefore × List ℕ)
 order_columns_at bits bytes =
-    seen (λ p. record {
+    front_as (λ p. record {
       customer = p.0;
       entry = p.1.0;
       carrier = p.1.1.0;
@@ -125,7 +125,7 @@ order_columns_at bits bytes =
 
 unfoldable pub order_line_columns_at : List Bool → List ℕ → Option (OrderLineBefore × List ℕ)
 order_line_columns_at bits bytes =
-    seen (λ p. record {
+    front_as (λ p. record {
       item = p.0;
       supply = p.1.0;
       delivery = p.1.1.0;
@@ -140,7 +140,7 @@ order_line_columns_at bits bytes =
 
 unfoldable pub stock_columns_at : List Bool → List ℕ → Option (StockBefore × List ℕ)
 stock_columns_at bits bytes =
-    seen (λ p. record {
+    front_as (λ p. record {
       quantity = p.0;
       dist_info = p.1.0;
       ytd = p.1.1.0;

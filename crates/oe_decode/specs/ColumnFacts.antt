@@ -18,10 +18,10 @@ use Rattle.oe_values.specs.Number.{IsWithin}
 use Rattle.oe_values.specs.Text.{IsText, IsPrintable}
 use Rattle.oe_rows.specs.declared.customers.Credit.{Credit}
 use Rattle.oe_rows.specs.declared.customers.Credit.TheVariants.{Good, Bad}
-use Rattle.oe_decode.specs.Fronts.{IsBytes, kept, seen, is_from, ranged_at}
+use Rattle.oe_decode.specs.Fronts.{IsBytes, front_where, front_as, is_from, ranged_at}
 use Rattle.oe_image.specs.Columns.{text, optional, flag, balance, credit_text, credit, ten_texts}
-use Rattle.oe_decode.specs.ColumnFronts.{is_within, stamp_at, balance_at, is_printable, is_text, checked, text_at}
-use Rattle.oe_decode.specs.ColumnFronts.{present, marked, optional_at, flagged, flag_at, is_credit, credit_of}
+use Rattle.oe_decode.specs.ColumnFronts.{is_within, stamp_at, balance_at, is_printable, is_text, text_within, text_at}
+use Rattle.oe_decode.specs.ColumnFronts.{present, column_by_mark, optional_at, flag_by, flag_at, is_credit, credit_of}
 use Rattle.oe_decode.specs.ColumnFronts.{credit_at, ten_texts_at}
 use Rattle.oe_decode.specs.Codec.{Takes, IsCodec}
 use Rattle.oe_decode.specs.FrontFacts.{IsBytes-drop, bind_some, guard_some, kept_some, Takes-then}
@@ -59,7 +59,7 @@ fits_within (negsuc n) h = omega (arith, ints)
 pub balance_law : IsCodec (λ z. IsWithin 999_999_999_999 z) (λ z. balance z) balance_at
 balance_law =
     kept_law (λ z. FitsSigned w64 z) (λ z. IsWithin 999_999_999_999 z) (λ z. balance z)
-    (λ bytes. seen (cast_signed w64) (number_at 8 bytes)) (is_within 999_999_999_999)
+    (λ bytes. front_as (cast_signed w64) (number_at 8 bytes)) (is_within 999_999_999_999)
     (λ z e s. IsWithin-test z e) (λ z h. (is_within-true z h, fits_within z h))
     (seen_law (cast_signed w64) (cast_unsigned w64) (λ z. FitsSigned w64 z)
     (λ z s. (Fits-lt-pow (Fits-of_z s), to_z-of_z w64 z s))
@@ -90,7 +90,7 @@ is_text-true least most bytes h = rw (le-leb _ _ h.at_least, le-leb _ _ h.at_mos
 
 -- what a reading of a text answers is what the test says
 pub checked_is : (least most : ℕ) (bytes : List ℕ) (r : Option (List ℕ)) → (IsSome r → IsText least most bytes)
-    → (IsText least most bytes → IsSome r) → IfSome r (λ t. t ≡ bytes) → r ≡ checked least most bytes
+    → (IsText least most bytes → IsSome r) → IfSome r (λ t. t ≡ bytes) → r ≡ text_within least most bytes
 checked_is least most bytes None f g v = go (is_text least most bytes)
     (λ e. absurd (let s = g (is_text-test least most bytes e) in cc))
   where
@@ -102,7 +102,7 @@ checked_is least most bytes (Some t) f g v = let e = is_text-true least most byt
 text_takes : (least most : ℕ) (bytes : List ℕ) (x : List ℕ × List ℕ) → IsBytes bytes → text_at least most bytes ≡ Some x
     → IsText least most x.0 × Takes bytes (text x.0) x.1
 text_takes least most bytes x fits e =
-    let a = bind_some (number_at 2 bytes) (λ n. kept (is_text least most) (run_at n.0 n.1)) x e in
+    let a = bind_some (number_at 2 bytes) (λ n. front_where (is_text least most) (run_at n.0 n.1)) x e in
     let n = a.0 in
     let t = (number_law 2).takes bytes n fits a.1 in
     let k = kept_some (is_text least most) (run_at n.0 n.1) x a.2 in
@@ -173,7 +173,7 @@ pub optional_law : {X : Type 0} {Fits : X → Type 0} {image : X → List ℕ} {
     → IsCodec (λ v. IfSome v Fits) (λ v. optional image v) (optional_at at)
 optional_law {X = X} {Fits = Fits} {image = image} {at = at} law = record {
   takes = λ bytes x fits e.
-      let n = bind_some (number_at 1 bytes) (λ n. marked at n.0 n.1) x e in
+      let n = bind_some (number_at 1 bytes) (λ n. column_by_mark at n.0 n.1) x e in
       let t = (number_law 1).takes bytes n.0 fits n.1 in
       mark_taken image Fits at law bytes n.0.0 n.0.1 t.1 (n.0.0 == 0) (n.0.0 == 1) (eqb-true n.0.0 0) (eqb-true n.0.0 1)
       x n.2;
@@ -203,7 +203,7 @@ flag_again false rest = rw ((number_law 1).again 0 rest (omega arith)) refl
 pub flag_law : IsCodec (λ b. Unit {0}) (λ b. flag b) flag_at
 flag_law = record {
   takes = λ bytes x fits e.
-      let n = bind_some (number_at 1 bytes) (λ n. flagged n.0 n.1) x e in
+      let n = bind_some (number_at 1 bytes) (λ n. flag_by n.0 n.1) x e in
       let t = (number_law 1).takes bytes n.0 fits n.1 in
       flag_taken bytes n.0.0 n.0.1 t.1 (n.0.0 == 0) (n.0.0 == 1) (eqb-true n.0.0 0) (eqb-true n.0.0 1) x n.2;
   again = λ v rest h. flag_again v rest;

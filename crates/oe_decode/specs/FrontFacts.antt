@@ -9,7 +9,7 @@ use Rattle.std.proofs.lemmas.List.{drop_at, take-append-drop, length-append, get
 use Rattle.byteorder.specs.Endian.{big_bytes, big_number}
 use Rattle.byteorder.specs.Numbers.{big_from-lt, big_number-reads_back, length-bytes_high_first}
 use Rattle.oe_extent.specs.Images.{number, number_at}
-use Rattle.oe_decode.specs.Fronts.{IsBytes, IsExact, ◌>>=◌, kept, seen, pair_at, is_from, ranged_at}
+use Rattle.oe_decode.specs.Fronts.{IsBytes, IsExact, ◌>>=◌, front_where, front_as, pair_at, is_from, ranged_at}
 use Rattle.oe_decode.specs.Codec.{Takes, IsCodec, Shows}
 use Rattle.oe_decode.specs.NumberFacts.{number_back}
 
@@ -43,14 +43,14 @@ choice_some : {A : Type 0} (b : Bool) (x y : A) → cond b (Some x) None ≡ Som
 choice_some true x y e = (refl, cc)
 choice_some false x y e = absurd cc
 
-pub kept_some : {X : Type 0} (test : X → Bool) (r : Option (X × List ℕ)) (y : X × List ℕ) → kept test r ≡ Some y
+pub kept_some : {X : Type 0} (test : X → Bool) (r : Option (X × List ℕ)) (y : X × List ℕ) → front_where test r ≡ Some y
     → (r ≡ Some y) × (test y.0 ≡ true)
 kept_some test None y e = absurd cc
 kept_some {X = X} test (Some x) y e =
     let g = choice_some (test x.0) x y e in
     (ap (λ (p : X × List ℕ). Some p) g.1, subst (λ (p : X × List ℕ). test p.0 ≡ true) g.1 g.0)
 
-pub seen_some : {X Y : Type 0} (f : X → Y) (r : Option (X × List ℕ)) (y : Y × List ℕ) → seen f r ≡ Some y
+pub seen_some : {X Y : Type 0} (f : X → Y) (r : Option (X × List ℕ)) (y : Y × List ℕ) → front_as f r ≡ Some y
     → (x : X × List ℕ) × (r ≡ Some x) × (f x.0 ≡ y.0) × (x.1 ≡ y.1)
 seen_some f None y e = absurd cc
 seen_some {Y = Y} f (Some x) y e =
@@ -104,7 +104,7 @@ pub kept_law : {X : Type 0} (Wide Fits : X → Type 0) (image : X → List ℕ) 
     (test : X → Bool)
     → ((x : X) → test x ≡ true → Wide x → Fits x) → ((x : X) → Fits x → (test x ≡ true) × Wide x)
     → IsCodec Wide image at
-    → IsCodec Fits image (λ bytes. kept test (at bytes))
+    → IsCodec Fits image (λ bytes. front_where test (at bytes))
 kept_law Wide Fits image at test into out_of law = record {
   takes = λ bytes x fits e.
       let g = kept_some test (at bytes) x e in
@@ -138,7 +138,7 @@ ranged_law width low high fits =
 pub seen_law : {X Y : Type 0} {Fits : X → Type 0} {image : X → List ℕ} {at : List ℕ → Option (X × List ℕ)} (f : X → Y)
     (g : Y → X) (Shown : Y → Type 0)
     → ((y : Y) → Shown y → Fits (g y) × (f (g y) ≡ y)) → ((x : X) → Fits x → Shown (f x) × (g (f x) ≡ x))
-    → IsCodec Fits image at → IsCodec Shown (λ y. image (g y)) (λ bytes. seen f (at bytes))
+    → IsCodec Fits image at → IsCodec Shown (λ y. image (g y)) (λ bytes. front_as f (at bytes))
 seen_law {X = X} {Y = Y} {Fits = Fits} {image = image} {at = at} f g Shown there back law = record {
   takes = λ bytes y fits e.
       let s = seen_some f (at bytes) y e in
@@ -160,7 +160,7 @@ pub record_law : {X Y : Type 0} {Fits : X → Type 0} {image : X → List ℕ} {
     (g : Y → X) (Shown : Y → Type 0)
     → ((y : Y) → f (g y) ≡ y) → ((x : X) → g (f x) ≡ x) → ((y : Y) → Shown y → Fits (g y))
     → ((x : X) → Fits x → Shown (f x))
-    → IsCodec Fits image at → IsCodec Shown (λ y. image (g y)) (λ bytes. seen f (at bytes))
+    → IsCodec Fits image at → IsCodec Shown (λ y. image (g y)) (λ bytes. front_as f (at bytes))
 record_law f g Shown there back apart together law = seen_law f g Shown (λ y h. (apart y h, there y))
     (λ x h. (together x h, back x)) law
 
@@ -189,7 +189,7 @@ pair_law {A = A} {B = B} {P = P} {p = p} {p_at = p_at} {Q = Q} {q = q} {q_at = q
 pub found_as : {X Y : Type 0} {Fits : X → Type 0} {image : X → List ℕ} {at : List ℕ → Option (X × List ℕ)} (f : X → Y)
     (Shown : Y → Type 0) (whole : Y → List ℕ)
     → ((x : X) → Fits x → Shown (f x)) → ((x : X) → whole (f x) ≡ image x) → IsCodec Fits image at
-    → (bytes : List ℕ) → IsBytes bytes → (y : Y) (rest : List ℕ) → seen f (at bytes) ≡ Some (y, rest)
+    → (bytes : List ℕ) → IsBytes bytes → (y : Y) (rest : List ℕ) → front_as f (at bytes) ≡ Some (y, rest)
     → Shown y × (bytes ≡ whole y ++ rest)
 found_as {at = at} f Shown whole shown same law bytes fits y rest e =
     let s = seen_some f (at bytes) (y, rest) e in
@@ -202,13 +202,13 @@ found_as {at = at} f Shown whole shown same law bytes fits y rest e =
 
 pub finds_as : {X Y : Type 0} {Fits : X → Type 0} {image : X → List ℕ} {at : List ℕ → Option (X × List ℕ)} (f : X → Y)
     → IsCodec Fits image at
-    → (x : X) (bytes rest : List ℕ) → Fits x → bytes ≡ image x ++ rest → seen f (at bytes) ≡ Some (f x, rest)
-finds_as {at = at} f law x bytes rest fits e = ap (seen f) (ap at e ∙ law.again x rest fits)
+    → (x : X) (bytes rest : List ℕ) → Fits x → bytes ≡ image x ++ rest → front_as f (at bytes) ≡ Some (f x, rest)
+finds_as {at = at} f law x bytes rest fits e = ap (front_as f) (ap at e ∙ law.again x rest fits)
 
 -- a row, by its columns
 pub row_law : {X Y : Type 0} {Fits : X → Type 0} {image : X → List ℕ} {at : List ℕ → Option (X × List ℕ)}
     {Shown : Y → Type 0} {f : X → Y} {g : Y → X} → Shows Fits Shown f g
-    → IsCodec Fits image at → IsCodec Shown (λ y. image (g y)) (λ bytes. seen f (at bytes))
+    → IsCodec Fits image at → IsCodec Shown (λ y. image (g y)) (λ bytes. front_as f (at bytes))
 row_law {Shown = Shown} {f = f} {g = g} s law =
     seen_law f g Shown (λ y h. (s.apart y h, s.there y h)) (λ x h. (s.together x h, s.back x h)) law
 

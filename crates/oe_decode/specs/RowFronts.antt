@@ -17,7 +17,7 @@ use Rattle.oe_rows.specs.declared.rows.Row.TheVariants as row
 use Rattle.oe_rows.specs.declared.keys.Key.{Key}
 use Rattle.oe_rows.specs.declared.keys.Table.{Table}
 use Rattle.oe_rows.specs.declared.keys.Table.TheVariants as table
-use Rattle.oe_decode.specs.Fronts.{seen, pair_at, ranged_at}
+use Rattle.oe_decode.specs.Fronts.{front_as, pair_at, ranged_at}
 use Rattle.oe_decode.specs.KeyFronts.{IsKeyOf}
 use Rattle.oe_decode.specs.ColumnFronts.{text_at, stamp_at, balance_at, carrier_at, delivery_at, flag_at, credit_at}
 use Rattle.oe_decode.specs.ColumnFronts.{ten_texts_at}
@@ -25,7 +25,7 @@ use Rattle.oe_image.specs.Rows.{image_of, IsRow}
 
 unfoldable pub address_at : List ℕ → Option (Address × List ℕ)
 address_at bytes =
-    seen (λ p. record {
+    front_as (λ p. record {
       street_1 = p.0;
       street_2 = p.1.0;
       city = p.1.1.0;
@@ -37,13 +37,13 @@ address_at bytes =
 
 unfoldable pub warehouse_at : List ℕ → Option (Warehouse × List ℕ)
 warehouse_at bytes =
-    seen (λ p. record { name = p.0; address = p.1.0; tax = p.1.1.0; ytd = p.1.1.1 })
+    front_as (λ p. record { name = p.0; address = p.1.0; tax = p.1.1.0; ytd = p.1.1.1 })
     (pair_at (text_at 0 10)
     (pair_at address_at (pair_at (ranged_at 2 0 9_999) (ranged_at 8 0 999_999_999_999))) bytes)
 
 unfoldable pub district_at : List ℕ → Option (District × List ℕ)
 district_at bytes =
-    seen (λ p. record {
+    front_as (λ p. record {
       name = p.0;
       address = p.1.0;
       tax = p.1.1.0;
@@ -55,7 +55,7 @@ district_at bytes =
 
 unfoldable pub customer_name_at : List ℕ → Option (CustomerName × List ℕ)
 customer_name_at bytes =
-    seen (λ p. record {
+    front_as (λ p. record {
       first = p.0;
       middle = p.1.0;
       last = p.1.1;
@@ -64,7 +64,7 @@ customer_name_at bytes =
 
 unfoldable pub account_at : List ℕ → Option (Account × List ℕ)
 account_at bytes =
-    seen
+    front_as
     (λ p. record {
       credit_limit = p.0;
       discount = p.1.0;
@@ -79,7 +79,7 @@ account_at bytes =
 
 unfoldable pub customer_at : List ℕ → Option (Customer × List ℕ)
 customer_at bytes =
-    seen
+    front_as
     (λ p. record {
       name = p.0.0;
       address = p.0.1.0;
@@ -94,7 +94,7 @@ customer_at bytes =
 
 unfoldable pub history_at : List ℕ → Option (History × List ℕ)
 history_at bytes =
-    seen
+    front_as
     (λ p. record {
       customer = record { warehouse = p.0.1.1.0; district = p.0.1.0; customer = p.0.0 };
       district = record { warehouse = p.1.0; district = p.0.1.1.1 };
@@ -108,7 +108,7 @@ history_at bytes =
 
 unfoldable pub order_at : List ℕ → Option (Order × List ℕ)
 order_at bytes =
-    seen (λ p. record {
+    front_as (λ p. record {
       customer = p.0;
       entry = p.1.0;
       carrier = p.1.1.0;
@@ -120,7 +120,7 @@ order_at bytes =
 
 unfoldable pub order_line_at : List ℕ → Option (OrderLine × List ℕ)
 order_line_at bytes =
-    seen (λ p. record {
+    front_as (λ p. record {
       item = p.0;
       supply = p.1.0;
       delivery = p.1.1.0;
@@ -134,13 +134,13 @@ order_line_at bytes =
 
 unfoldable pub item_at : List ℕ → Option (Item × List ℕ)
 item_at bytes =
-    seen (λ p. record { image = p.0; name = p.1.0; price = p.1.1.0; «data» = p.1.1.1 })
+    front_as (λ p. record { image = p.0; name = p.1.0; price = p.1.1.0; «data» = p.1.1.1 })
     (pair_at (ranged_at 4 1 200_000)
     (pair_at (text_at 0 24) (pair_at (ranged_at 8 0 99_999) (text_at 0 50))) bytes)
 
 unfoldable pub stock_at : List ℕ → Option (Stock × List ℕ)
 stock_at bytes =
-    seen (λ p. record {
+    front_as (λ p. record {
       quantity = p.0;
       dist_info = p.1.0;
       ytd = p.1.1.0;
@@ -154,15 +154,15 @@ stock_at bytes =
 
 -- the row of a table
 abbrev pub row_at : Table → List ℕ → Option (Row × List ℕ)
-row_at table.Warehouse bytes = seen (λ r. row.Warehouse r) (warehouse_at bytes)
-row_at table.District bytes = seen (λ r. row.District r) (district_at bytes)
-row_at table.Customer bytes = seen (λ r. row.Customer r) (customer_at bytes)
-row_at table.History bytes = seen (λ r. row.History r) (history_at bytes)
+row_at table.Warehouse bytes = front_as (λ r. row.Warehouse r) (warehouse_at bytes)
+row_at table.District bytes = front_as (λ r. row.District r) (district_at bytes)
+row_at table.Customer bytes = front_as (λ r. row.Customer r) (customer_at bytes)
+row_at table.History bytes = front_as (λ r. row.History r) (history_at bytes)
 row_at table.NewOrder bytes = Some (row.NewOrder (record {}), bytes)
-row_at table.Order bytes = seen (λ r. row.Order r) (order_at bytes)
-row_at table.OrderLine bytes = seen (λ r. row.OrderLine r) (order_line_at bytes)
-row_at table.Item bytes = seen (λ r. row.Item r) (item_at bytes)
-row_at table.Stock bytes = seen (λ r. row.Stock r) (stock_at bytes)
+row_at table.Order bytes = front_as (λ r. row.Order r) (order_at bytes)
+row_at table.OrderLine bytes = front_as (λ r. row.OrderLine r) (order_line_at bytes)
+row_at table.Item bytes = front_as (λ r. row.Item r) (item_at bytes)
+row_at table.Stock bytes = front_as (λ r. row.Stock r) (stock_at bytes)
 
 -- a row of that table, in its ranges
 abbrev pub IsRowOf : Table → Row → Type 0

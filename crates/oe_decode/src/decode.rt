@@ -2,7 +2,7 @@
 ghost use Rattle.std.specs.Prelude.{◌≡◌, ◌++◌, List, ℕ, Option, IfSome, ⊤};
 ghost use Rattle.std.specs.Option.{option_map};
 ghost use Rattle.oe_image.specs.Columns.{optional};
-ghost use Rattle.oe_decode.specs.Fronts.{Reads, seen, pair_at};
+ghost use Rattle.oe_decode.specs.Fronts.{Reads, front_as, pair_at};
 ghost use Rattle.oe_decode.specs.ColumnFronts.{optional_at};
 ghost use Rattle.oe_decode.specs.Codec.{IsCodec, IsRow};
 ghost use Rattle.oe_decode.specs.FrontFacts.{pair_law, row_law};
@@ -108,7 +108,7 @@ impl<R: Row> Decode for R {
 
     ghost image = { λ r. R.Columns.image (R.parts r) };
 
-    ghost at = { λ bytes. seen R.of (R.Columns.at bytes) };
+    ghost at = { λ bytes. front_as R.of (R.Columns.at bytes) };
 
     ghost exact = { λ s. row_law R.is_row.shows (R.Columns.exact R.is_row.kept) };
 

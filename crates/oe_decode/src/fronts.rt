@@ -7,7 +7,7 @@ ghost use Rattle.oe_values.specs.Number.{IsWithin};
 ghost use Rattle.oe_values.specs.Text.{IsText};
 ghost use Rattle.oe_image.specs.Columns.{text, flag, balance, credit, ten_texts};
 ghost use Rattle.oe_decode.specs.Fronts.{ranged_at};
-ghost use Rattle.oe_decode.specs.ColumnFronts.{text_at, stamp_at, balance_at, flag_at, credit_at, ten_texts_at, checked};
+ghost use Rattle.oe_decode.specs.ColumnFronts.{text_at, stamp_at, balance_at, flag_at, credit_at, ten_texts_at, text_within};
 ghost use Rattle.oe_decode.specs.Codec.{IsWidth};
 ghost use Rattle.oe_decode.specs.FrontFacts.{ranged_law};
 ghost use Rattle.oe_decode.specs.ColumnFacts.{upto_law, stamp_law, balance_law, text_law, flag_law, credit_law, AreTen, ten_texts_law};
@@ -238,7 +238,7 @@ pub(crate) fn read_ranged<const LOW: u32, const HIGH: u32>(
 /// Reads the text of these bytes, where they are one.
 #[inline]
 fn checked_text<const LEAST: usize, const MOST: usize>(bytes: &[u8]) -> Option<Text<LEAST, MOST>>
-    ensures { result ≡ checked LEAST MOST bytes.now }
+    ensures { result ≡ text_within LEAST MOST bytes.now }
 {
     Text::read_bytes(bytes)
 }

@@ -20,18 +20,18 @@ no_counts = record {
 }
 
 -- one more of the name's kind
-abbrev pub noted : Name → BusyCounts → BusyCounts
-noted (name.Warehouse k) c = record c { warehouses = together c.warehouses 1 }
-noted (name.District k) c = record c { districts = together c.districts 1 }
-noted (name.Customer k) c = record c { customers = together c.customers 1 }
-noted (name.Order k) c = record c { orders = together c.orders 1 }
-noted (name.Queue k) c = record c { queues = together c.queues 1 }
-noted (name.Stock k) c = record c { stocks = together c.stocks 1 }
-noted (name.Names k last) c = record c { names = together c.names 1 }
+abbrev pub count_with : Name → BusyCounts → BusyCounts
+count_with (name.Warehouse k) c = record c { warehouses = together c.warehouses 1 }
+count_with (name.District k) c = record c { districts = together c.districts 1 }
+count_with (name.Customer k) c = record c { customers = together c.customers 1 }
+count_with (name.Order k) c = record c { orders = together c.orders 1 }
+count_with (name.Queue k) c = record c { queues = together c.queues 1 }
+count_with (name.Stock k) c = record c { stocks = together c.stocks 1 }
+count_with (name.Names k last) c = record c { names = together c.names 1 }
 
 -- both counts of each kind
-abbrev pub added : BusyCounts → BusyCounts → BusyCounts
-added a b = record {
+abbrev pub count_sums : BusyCounts → BusyCounts → BusyCounts
+count_sums a b = record {
   warehouses = together a.warehouses b.warehouses;
   districts = together a.districts b.districts;
   customers = together a.customers b.customers;

@@ -6,12 +6,12 @@ use Rattle.oe_lines.specs.Grammar.{request_words}
 use Rattle.oe_lines.specs.declared.commands.Command.TheVariants as asks
 use Rattle.oe_requests.specs.declared.replies.Reply.{Reply}
 use Rattle.oe_texts.specs.Reply.{reply_text}
-use Rattle.oe_lines.specs.Texts.{joined, line_text}
+use Rattle.oe_lines.specs.Texts.{line_of_words, line_text}
 use Rattle.oe_deeds.specs.declared.commits.Commit.{Commit}
 
 -- a terminal and the words of its request, and what parts them from the reply
 abbrev pub asked_text : Commit → List ℕ
-asked_text c = decimal c.terminal ++ codes " " ++ joined (request_words c.request) ++ codes " => "
+asked_text c = decimal c.terminal ++ codes " " ++ line_of_words (request_words c.request) ++ codes " => "
 
 -- what an answer has before its reply
 abbrev pub commit_front : ℕ → List ℕ

@@ -1,6 +1,6 @@
 //! How often transactions were answered `Busy`, by the kind of the lock's name.
 ghost use Rattle.std.specs.Prelude.{◌≡◌};
-ghost use Rattle.oe_deeds.specs.Busy.{no_counts, noted, added, together};
+ghost use Rattle.oe_deeds.specs.Busy.{no_counts, count_with, count_sums, together};
 
 use oe_rows::Name;
 
@@ -41,7 +41,7 @@ impl BusyCounts {
 
     /// Counts a name that was in the way.
     pub fn note(&mut self, name: &Name)
-        ensures { self.new ≡ noted name.now self.old }
+        ensures { self.new ≡ count_with name.now self.old }
     {
         match name {
             Name::Warehouse(_) => count(&mut self.warehouses),
@@ -56,7 +56,7 @@ impl BusyCounts {
 
     /// Adds the counts of another.
     pub fn add(&mut self, other: &BusyCounts)
-        ensures { self.new ≡ added self.old other.now }
+        ensures { self.new ≡ count_sums self.old other.now }
     {
         *self = BusyCounts {
             warehouses: self.warehouses.saturating_add(other.warehouses),

@@ -25,14 +25,15 @@ use Rattle.oe_requests.specs.declared.replies.DistrictDelivery.TheVariants.{Skip
 use Rattle.oe_requests.specs.declared.refusals.Column.{Column}
 use Rattle.oe_requests.specs.declared.refusals.Refusal.TheVariants.{NoSuchRow}
 use Rattle.oe_change.specs.declared.writes.Write.TheVariants as write
-use Rattle.oe_formulas.specs.Checks.{checked}
+use Rattle.oe_formulas.specs.Checks.{row_in_ranges}
 use Rattle.oe_model.specs.Rows.{Rows}
 use Rattle.oe_model.specs.Keys.{customer_in, order_in, new_order_in, line_in}
 use Rattle.oe_model.specs.Changes.{Change, DeleteNewOrder, UpdateOrder, UpdateOrderLine, UpdateCustomer}
-use Rattle.oe_model.specs.Effects.{Doing, given, within}
+use Rattle.oe_model.specs.Effects.{Doing, with_value, within}
 use Rattle.oe_model.specs.Positions.{DeliveryPosition, DeliveryQueue, DeliveryNothing, DeliveryOrder, DeliveryLine}
 use Rattle.oe_model.specs.Positions.{DeliveryEnd, InDelivery}
-use Rattle.oe_model.specs.Delivery.{oldest, lines_of, carried, dated, delivered_to, delivered_out, delivered}
+use Rattle.oe_model.specs.Delivery.{oldest, lines_of, with_carrier, with_date, delivered_to, delivered_out}
+use Rattle.oe_model.specs.Delivery.{delivery_of_order}
 use Rattle.oe_model.specs.Delivery.{delivery_ask, delivery_act, delivery_taken}
 use Rattle.oe_engine.specs.View.{EngineState, View, view_of, Handle, IsOpen}
 use Rattle.oe_engine.specs.Stages.{HoldsAll}
@@ -47,7 +48,7 @@ use Rattle.oe_delivery.specs.declared.programs.Program.{Program}
 
 -- a row whose columns are in their ranges goes on with the stage after it
 goes_within : {A : Type 0} (out : A → Option Column) (x : A) (d : A → Doing) (after : A)
-    → ◌≡◌ {A = Result A Column} (Ok after) (checked out x) → within (out x) (d x) ≡ d after
+    → ◌≡◌ {A = Result A Column} (Ok after) (row_in_ranges out x) → within (out x) (d x) ≡ d after
 goes_within {A} out x d after e = go (out x) e
   where
     go : (o : Option Column) → ◌≡◌ {A = Result A Column} (Ok after) (elim o [ None ↦ Ok x | Some c ↦ Err c ])
@@ -90,7 +91,7 @@ module _ (s : EngineState) (x : Handle) (q : DeliveryRequest) where
     own = order_in q.district o
 
     abbrev do_order : Order → Doing
-    do_order z = Go (Some (UpdateOrder own (carried q.carrier z)))
+    do_order z = Go (Some (UpdateOrder own (with_carrier q.carrier z)))
         (InDelivery q (DeliveryLine o z.customer (map (λ e. e.0.number) (lines_of own here.order_lines)) 0))
 
     carrier_own : (l : Left) (v : Option Order) → get here.orders own ≡ v
@@ -98,11 +99,12 @@ module _ (s : EngineState) (x : Handle) (q : DeliveryRequest) where
     carrier_own l None e is = let no : ⊥ = cc in absurd no
     carrier_own l (Some z) e is =
         let same : l ≡ remainder_of own here z = cc in (
-          UpdateOrder own (carried q.carrier z),
-          ap (option_map (λ y. UpdateOrder own (carried q.carrier y))) e,
+          UpdateOrder own (with_carrier q.carrier z),
+          ap (option_map (λ y. UpdateOrder own (with_carrier q.carrier y))) e,
           refl,
-          ap (λ v. given (NoSuchRow (key.Order own)) v do_order) e
-              ∙ ap (λ (y : Left). Go (Some (UpdateOrder own (carried q.carrier z))) (InDelivery q (line_position y)))
+          ap (λ v. with_value (NoSuchRow (key.Order own)) v do_order) e
+              ∙ ap (λ (y : Left). Go (Some (UpdateOrder own (with_carrier q.carrier z)))
+              (InDelivery q (line_position y)))
               (sym same),
         )
 
@@ -126,22 +128,22 @@ module _ (s : EngineState) (x : Handle) (q : DeliveryRequest) where
       after_line z = DeliveryLine l.order l.customer (drop 1 l.numbers) (l.sum + z.amount)
 
       abbrev do_line : OrderLine → Doing
-      do_line z = Go (Some (UpdateOrderLine line (dated q.stamp z))) (InDelivery q (after_line z))
+      do_line z = Go (Some (UpdateOrderLine line (with_date q.stamp z))) (InDelivery q (after_line z))
 
       line_own : (z : OrderLine) → get here.order_lines line ≡ Some z
           → act_here s x (request.Delivery q) (InDelivery q (line_position l)) ≡ Go
-          (Some (UpdateOrderLine line (dated q.stamp z))) (InDelivery q (after_line z))
+          (Some (UpdateOrderLine line (with_date q.stamp z))) (InDelivery q (after_line z))
       line_own z e =
           ap (λ ns. delivery_act q (DeliveryLine l.order l.customer ns l.sum) here) next
-          ∙ ap (λ v. given (NoSuchRow (key.OrderLine line)) v do_line) e
+          ∙ ap (λ v. with_value (NoSuchRow (key.OrderLine line)) v do_line) e
 
       pub line_does : (k : OrderLineKey) → k ≡ line → (z : OrderLine) → get here.order_lines k ≡ Some z
           → act_here s x (request.Delivery q) (InDelivery q (line_position l)) ≡ Go
-          (Some (UpdateOrderLine k (dated q.stamp z)))
+          (Some (UpdateOrderLine k (with_date q.stamp z)))
           (InDelivery q (DeliveryLine l.order l.customer (drop 1 l.numbers) (l.sum + z.amount)))
       line_does k is z e =
           line_own z (subst (λ (j : OrderLineKey). get here.order_lines j ≡ Some z) is e)
-          ∙ ap (λ (j : OrderLineKey). Go (Some (UpdateOrderLine j (dated q.stamp z))) (InDelivery q (after_line z)))
+          ∙ ap (λ (j : OrderLineKey). Go (Some (UpdateOrderLine j (with_date q.stamp z))) (InDelivery q (after_line z)))
           (sym is)
 
     -- CUSTOMER
@@ -162,15 +164,15 @@ module _ (s : EngineState) (x : Handle) (q : DeliveryRequest) where
       do_customer z = within (delivered_out (delivered_to l.sum z)) (on_customer (delivered_to l.sum z))
 
       customer_own : (z : Customer) (a : Account) → get here.customers payer ≡ Some z
-          → Ok (record z { account = a }) ≡ checked delivered_out (delivered_to l.sum z)
+          → Ok (record z { account = a }) ≡ row_in_ranges delivered_out (delivered_to l.sum z)
           → act_here s x (request.Delivery q) (InDelivery q (line_position l)) ≡ on_customer (record z { account = a })
       customer_own z a e fits =
           ap (λ ns. delivery_act q (DeliveryLine l.order l.customer ns l.sum) here) last
-          ∙ ap (λ v. given (NoSuchRow (key.Customer payer)) v do_customer) e
+          ∙ ap (λ v. with_value (NoSuchRow (key.Customer payer)) v do_customer) e
           ∙ goes_within delivered_out (delivered_to l.sum z) on_customer (record z { account = a }) fits
 
       pub customer_does : (k : CustomerKey) → k ≡ payer → (z : Customer) (a : Account) → get here.customers k ≡ Some z
-          → Ok (record z { account = a }) ≡ checked delivered_out (delivered_to l.sum z)
+          → Ok (record z { account = a }) ≡ row_in_ranges delivered_out (delivered_to l.sum z)
           → act_here s x (request.Delivery q) (InDelivery q (line_position l)) ≡ Go
           (Some (UpdateCustomer k (record z { account = a }))) (InDelivery q (DeliveryEnd l.order l.customer l.sum))
       customer_does k is z a e fits =
@@ -215,7 +217,7 @@ pub is_ready : (s : EngineState) (x : Handle) (q : DeliveryRequest) (p : Deliver
     → (y : Reply) × IsReady s x (request.Delivery q) (InDelivery q p) y
 is_ready s x q DeliveryNothing o h = (reply.Delivery Skipped, record { is_open = o; free = tt; does = refl })
 is_ready s x q (DeliveryEnd n c sum) o h =
-    (reply.Delivery (delivered n c sum), record { is_open = o; free = tt; does = refl })
+    (reply.Delivery (delivery_of_order n c sum), record { is_open = o; free = tt; does = refl })
 is_ready s x q DeliveryQueue o h = let no : ⊥ = cc in absurd no
 is_ready s x q (DeliveryOrder n) o h = let no : ⊥ = cc in absurd no
 is_ready s x q (DeliveryLine n c ns sum) o h = let no : ⊥ = cc in absurd no

@@ -22,10 +22,11 @@ use Rattle.oe_requests.specs.declared.refusals.Refusal.TheVariants.{Future, NotQ
 use Rattle.oe_model.specs.Rows.{Rows}
 use Rattle.oe_model.specs.Keys.{customer_in, order_in, new_order_in, line_in}
 use Rattle.oe_model.specs.Changes.{Change, DeleteNewOrder, UpdateOrder, UpdateOrderLine, UpdateCustomer}
-use Rattle.oe_model.specs.Effects.{Doing, given, within}
+use Rattle.oe_model.specs.Effects.{Doing, with_value, within}
 use Rattle.oe_model.specs.Positions.{Position, DeliveryPosition, DeliveryQueue, DeliveryNothing, DeliveryOrder}
 use Rattle.oe_model.specs.Positions.{DeliveryLine, DeliveryEnd, InDelivery, InDeliveries, DeliveriesEnd}
-use Rattle.oe_model.specs.Delivery.{Setting, alone, district_act, oldest, lines_of, carried, dated, delivered_to}
+use Rattle.oe_model.specs.Delivery.{Setting, alone, district_act, oldest, lines_of, with_carrier, with_date}
+use Rattle.oe_model.specs.Delivery.{delivered_to}
 use Rattle.oe_model.specs.Delivery.{delivered_out}
 use Rattle.oe_model.specs.Deliveries.{at_hand, after_done, among_ten}
 use Rattle.oe_model.specs.System.{system, yields}
@@ -46,7 +47,7 @@ Same (Ready y) (Ready z) = Unit {0}
 Same _ _ = ⊥
 
 given_same : {A : Type 0} (e : Refusal) (o : Option A) (f g : A → Doing) → ((a : A) → Same (f a) (g a))
-    → Same (given e o f) (given e o g)
+    → Same (with_value e o f) (with_value e o g)
 given_same e None f g h = refl
 given_same e (Some a) f g h = h a
 
@@ -117,7 +118,7 @@ module _ (t : Setting) (q : DeliveryRequest) where
 
   given_on : {A : Type 0} (e : Refusal) (o : Option A) (f g : A → Doing) (c : Option Change) (p' : DeliveryPosition)
       → ((a : A) → f a ≡ Go c (InDelivery q p') → g a ≡ Go c (onward t p'))
-      → given e o f ≡ Go c (InDelivery q p') → given e o g ≡ Go c (onward t p')
+      → with_value e o f ≡ Go c (InDelivery q p') → with_value e o g ≡ Go c (onward t p')
   given_on e None f g c p' k h = let no : ⊥ = cc in absurd no
   given_on e (Some a) f g c p' k h = k a h
 
@@ -147,12 +148,12 @@ module _ (t : Setting) (q : DeliveryRequest) where
   acts_on DeliveryNothing r c p' h = let no : ⊥ = cc in absurd no
   acts_on (DeliveryOrder o) r c p' h =
       given_on (NoSuchRow (key.Order (order_in q.district o))) (get r.orders (order_in q.district o)) _ _ c p' (λ x e.
-      goes_to c (Some (UpdateOrder (order_in q.district o) (carried q.carrier x)))
+      goes_to c (Some (UpdateOrder (order_in q.district o) (with_carrier q.carrier x)))
       (DeliveryLine o x.customer (map (λ e. e.0.number) (lines_of (order_in q.district o) r.order_lines)) 0) p' e) h
   acts_on (DeliveryLine o b (n ∷ ns) sum) r c p' h =
       given_on (NoSuchRow (key.OrderLine (line_in (order_in q.district o) n)))
       (get r.order_lines (line_in (order_in q.district o) n)) _ _ c p' (λ x e.
-      goes_to c (Some (UpdateOrderLine (line_in (order_in q.district o) n) (dated q.stamp x)))
+      goes_to c (Some (UpdateOrderLine (line_in (order_in q.district o) n) (with_date q.stamp x)))
       (DeliveryLine o b ns (sum + x.amount)) p' e) h
   acts_on (DeliveryLine o b [] sum) r c p' h =
       given_on (NoSuchRow (key.Customer (customer_in q.district b))) (get r.customers (customer_in q.district b)) _ _ c

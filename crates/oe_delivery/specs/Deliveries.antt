@@ -6,7 +6,7 @@ use Rattle.oe_requests.specs.declared.requests.Request.TheVariants as request
 use Rattle.oe_requests.specs.declared.replies.DistrictDelivery.{DistrictDelivery}
 use Rattle.oe_model.specs.Positions.{Position, DeliveryPosition, InDeliveries, DeliveriesEnd}
 use Rattle.oe_model.specs.Deliveries.{at_hand}
-use Rattle.oe_model.specs.System.{taken}
+use Rattle.oe_model.specs.System.{locks_before}
 use Rattle.oe_engine.specs.View.{EngineState, view_of, Handle}
 use Rattle.oe_engine.specs.Stages.{HoldsAll}
 use Rattle.oe_engine.specs.Programs.{tx_of}
@@ -26,4 +26,4 @@ next_district q c = cond (length c.done == 10) None (Some (at_hand q c.done))
 
 -- the names that are taken on the way to this position are held
 abbrev pub HoldsNames : DeliveriesRequest → Handle → EngineState → Course → Type 0
-HoldsNames q x s c = HoldsAll (view_of s) x.terminal (taken (tx_of s x (request.Deliveries q)) (place_of q c))
+HoldsNames q x s c = HoldsAll (view_of s) x.terminal (locks_before (tx_of s x (request.Deliveries q)) (place_of q c))

@@ -10,7 +10,7 @@ ghost use Rattle.oe_theory.specs.Machine as theory;
 ghost use Rattle.oe_model.specs.Rows.{Rows};
 ghost use Rattle.oe_model.specs.System.{ask, marks};
 ghost use Rattle.oe_engine.specs.View.{IsOpen};
-ghost use Rattle.oe_engine.specs.Programs.{Progresses, hold_of, reply_at, wanted};
+ghost use Rattle.oe_engine.specs.Programs.{Progresses, hold_of, reply_at, lock_asked};
 ghost use Rattle.oe_delivery.specs.Deliveries.{place_of, next_district, HoldsNames};
 
 use crate::programs::Program;
@@ -104,7 +104,7 @@ impl Deliveries {
     /// Gives the lock that the next stage asks for; none where it asks for none.
     pub fn wanted(&self, request: &DeliveriesRequest) -> Option<Lock>
         ensures { (x : theory.Tx Request) (r : Rows) → option_map hold_of result
-            ≡ wanted (ask x (place_of request.now self.now) r) }
+            ≡ lock_asked (ask x (place_of request.now self.now) r) }
     {
         let district = self.at_hand(request)?;
         self.program.wanted(&district)

@@ -10,7 +10,7 @@ ghost use Rattle.oe_model.specs.Delivery.{delivery_ask};
 ghost use Rattle.oe_requests.specs.declared.requests.Request.{Request};
 ghost use Rattle.oe_model.specs.Positions.{InDelivery};
 ghost use Rattle.oe_engine.specs.View.{IsOpen};
-ghost use Rattle.oe_engine.specs.Programs.{Progresses, district_reply, hold_of, wanted};
+ghost use Rattle.oe_engine.specs.Programs.{Progresses, district_reply, hold_of, lock_asked};
 ghost use Rattle.oe_delivery.specs.Program.{position_of, HasLine, HasNoLine};
 ghost use Rattle.oe_delivery.specs.Stages.{Advances, HoldsTaken};
 
@@ -81,7 +81,7 @@ impl Program {
     /// Gives the lock that the next stage asks for; none where it asks for none.
     pub fn wanted(&self, request: &DeliveryRequest) -> Option<Lock>
         ensures { (r : Rows) → option_map hold_of result
-            ≡ wanted (delivery_ask request.now (position_of self.now) r) }
+            ≡ lock_asked (delivery_ask request.now (position_of self.now) r) }
     {
         let district = request.district;
         match self {

@@ -2,7 +2,7 @@
 use Rattle.std.proofs.Common.{◌≡◌, List, [], map, subst, ◌∙◌, IfOk}
 use Rattle.std.specs.Prelude.{Result, Ok, Err}
 use Rattle.oe_theory.specs.World.{newest}
-use Rattle.oe_theory.specs.Theorems.{opened}
+use Rattle.oe_theory.specs.Theorems.{world_at_opening}
 use Rattle.oe_numbers.specs.declared.drives.DriveNumbers.{DriveNumbers}
 use Rattle.oe_requests.specs.declared.requests.Errand.{Errand}
 use Rattle.oe_rows.specs.declared.layouts.Layout.{Layout}
@@ -24,7 +24,7 @@ pub left_here : {E : Type 0} (n : DriveNumbers) (r : Result Driven E) (ps : List
     → y ≡ layout.ChangedColumns → IsPopulated n.scale base → IfOk r (λ d. open_count (world_of d.core) ≡ 0)
     → IfOk r (λ d. newest system (world_of d.core) ≡ d.counted.committed)
     → IfOk r (λ d. (world_of d.core).layout ≡ y)
-    → IfOk r (λ d. IsHistory (opened system base n.extents y) d.history.log (world_of d.core))
+    → IfOk r (λ d. IsHistory (world_at_opening system base n.extents y) d.history.log (world_of d.core))
     → IfOk r (λ d. calls_by 0 d.history.log ≡ [])
     → IfOk r (λ d. ArePlansCarriedOut d.history.log (map errands_in ps)) → map errands_in ps ≡ plans_of n
     → IfOk r (λ d. IsLeft n (world_of d.core) d.counted.committed)
@@ -33,7 +33,8 @@ left_here n (Ok d) ps base y same populated quiet committed kept run unpurged ca
     base,
     d.history.log,
     populated,
-    subst (λ (z : Layout). IsHistory (opened system base n.extents z) d.history.log (world_of d.core)) same run,
+    subst (λ (z : Layout). IsHistory (world_at_opening system base n.extents z) d.history.log
+        (world_of d.core)) same run,
     unpurged,
     subst (λ (es : List (List Errand)). ArePlansCarriedOut d.history.log es) drawn carried,
   );

@@ -12,7 +12,7 @@ use Rattle.oe_theory.specs.Next.{purges}
 use Rattle.oe_theory.specs.Next.{rewinds, stops, fails, is_busy, is_full, is_rejected, is_open, number_is_rejected}
 use Rattle.oe_theory.specs.Next.{query_is_rejected, misses, not_open, too_old, future, not_quiet, lacks_memory_at_begin}
 use Rattle.oe_theory.specs.Next.{lacks_memory, moment, works_on}
-use Rattle.oe_theory.specs.Theorems.{opened}
+use Rattle.oe_theory.specs.Theorems.{world_at_opening}
 use Rattle.oe_requests.specs.declared.steps.Step.{Step}
 use Rattle.oe_requests.specs.declared.steps.Step.TheVariants as step
 use Rattle.oe_numbers.specs.declared.drives.DriveNumbers.{DriveNumbers}
@@ -122,7 +122,7 @@ pub gives_back : (d : DriveNumbers) (w : World system) (left fresh : Rows) → I
     → IsRewoundToBase w left → IsPopulated d.scale fresh → left ≡ fresh
 gives_back d w left fresh driven quiet back populated =
     let (base, log, of_scale, history, unpurged, carried) = driven in
-    let first = opened system base d.extents layout.ChangedColumns in
+    let first = world_at_opening system base d.extents layout.ChangedColumns in
     let same = all_stay first w log history.run history.own unpurged in
     let whole : horizon system w ≡ 0 =
     ap (λ (c : ℕ → ℕ). total terminal_limit c) same.1

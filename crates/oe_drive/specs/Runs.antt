@@ -3,7 +3,7 @@ use Rattle.std.specs.Prelude.{◌≡◌, ℕ, true, List, [], codes, Option, Non
 use Rattle.oe_theory.specs.World.{World, newest, latest, tables}
 use Rattle.oe_theory.specs.Next as theory
 use Rattle.oe_theory.specs.Next.{Next}
-use Rattle.oe_theory.specs.Theorems.{opened}
+use Rattle.oe_theory.specs.Theorems.{world_at_opening}
 use Rattle.oe_numbers.specs.declared.drives.DriveNumbers.{DriveNumbers}
 use Rattle.oe_rows.specs.declared.scales.Scale.{Scale}
 use Rattle.oe_rows.specs.declared.layouts.Layout.TheVariants as layout
@@ -38,7 +38,7 @@ IsEndOfDrive s w e =
 abbrev pub IsDriven : DriveNumbers → World system → Type 0
 IsDriven d w =
     (base : Rows) × (log : List Entry) × IsPopulated d.scale base
-    × IsHistory (opened system base d.extents layout.ChangedColumns) log w × (calls_by 0 log ≡ [])
+    × IsHistory (world_at_opening system base d.extents layout.ChangedColumns) log w × (calls_by 0 log ≡ [])
     × ArePlansCarriedOut log (plans_of d)
 
 -- so it is; nothing is open, `committed` commits have led there, and undo records keep changed columns

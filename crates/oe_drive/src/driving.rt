@@ -7,7 +7,7 @@ ghost use Rattle.oe_history.specs.Views.{calls_by};
 ghost use Rattle.oe_history.specs.declared.views.Entry.{Entry};
 ghost use Rattle.oe_hall.specs.Histories.{IsHistory};
 ghost use Rattle.oe_hall.specs.Turns.{open_count};
-ghost use Rattle.oe_hall.specs.Counts.{untold};
+ghost use Rattle.oe_hall.specs.Counts.{tally_of};
 ghost use Rattle.oe_hall.specs.Desks.{TheDesk, seat_for, AreKnown};
 ghost use Rattle.oe_moments.specs.Pins.{is_pinned};
 ghost use Rattle.oe_drive.specs.Ends.{AreFree, HaveEnded};
@@ -200,7 +200,7 @@ fn left(closed: Closed, deeds: Deeds, is_whole: bool) -> Result<Driven, NoMemory
 // Takes the desk of a terminal that has none.
 fn take_desk<J: Naming>(shop: &mut Shop<J>, terminal: Terminal) -> Desk<J>
     requires { seat_for shop.old terminal ≢ Some None }
-    ensures told { result.told ≡ untold 1 }
+    ensures told { result.told ≡ tally_of 1 }
     ensures free { is_pinned result.seat.notes.pin ≡ false }
     ensures silent { result.calls.mine ≡ [] }
     ensures terminal { (result.seat.terminal ≡ terminal) × (result.calls.by ≡ terminal) }

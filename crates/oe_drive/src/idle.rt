@@ -5,7 +5,7 @@
 //! may wait for the hall's lock; none takes memory.
 ghost use Rattle.std.specs.Prelude.{◌≡◌, ◌+◌, ◌<◌, ◌≤◌, ◌++◌, ◌∷◌, [], true, false};
 ghost use Rattle.oe_moments.specs.Pins.{is_pinned};
-ghost use Rattle.oe_hall.specs.Counts.{untold, told_rolled_back};
+ghost use Rattle.oe_hall.specs.Counts.{tally_of, tally_with_rollback};
 ghost use Rattle.oe_hall.specs.Histories.{is_open};
 ghost use Rattle.oe_hall.specs.Desks.{TheDesk, IsOwn, with_told, with_calls, most_begun};
 ghost use Rattle.oe_drive.specs.Errands.{HasCalled, IsTransaction, IsRead, IsEnded, is_busy, most_busy, rollback};
@@ -48,7 +48,7 @@ impl<J: Naming> Model for Idle<J> {
 impl<J: Naming> Idle<J> {
     /// Makes an idle desk of one that was told nothing.
     pub fn new(desk: Desk<J>) -> Idle<J>
-        requires told { desk.told ≡ untold 1 }
+        requires told { desk.told ≡ tally_of 1 }
         requires free { is_pinned desk.seat.notes.pin ≡ false }
         ensures { result ≡ desk }
     {
@@ -246,7 +246,7 @@ fn give_up<J: Naming, W: Wait, G: Gate>(
     requires open { is_open desk.old.calls.mine ≡ true }
     requires own { IsOwn desk.old.seat work }
     ensures desk { desk.new ≡ with_calls desk.new.calls
-        (with_told (told_rolled_back desk.old.told) desk.old) }
+        (with_told (tally_with_rollback desk.old.told) desk.old) }
     ensures called { desk.new.calls.mine
         ≡ desk.old.calls.mine ++ rollback desk.old.seat.terminal ∷ [] }
     ensures by { desk.new.calls.by ≡ desk.old.calls.by }

@@ -2,14 +2,14 @@
 ghost use Rattle.std.specs.Prelude.{◌≡◌, ◌+◌, ◌≤◌, [], IfOk, map, vec_len};
 ghost use Rattle.oe_core.specs.Core.{world_of};
 ghost use Rattle.oe_theory.specs.World.{newest};
-ghost use Rattle.oe_theory.specs.Theorems.{opened};
+ghost use Rattle.oe_theory.specs.Theorems.{world_at_opening};
 ghost use Rattle.oe_model.specs.Conditions.{IsPopulation};
 ghost use Rattle.oe_model.specs.Population.{IsPopulated};
 ghost use Rattle.oe_model.specs.System.{system};
 ghost use Rattle.oe_store.specs.Places.{rows};
 ghost use Rattle.oe_history.specs.Views.{calls_by};
 ghost use Rattle.oe_hall.specs.Histories.{IsHistory};
-ghost use Rattle.oe_hall.specs.Naming.{named};
+ghost use Rattle.oe_hall.specs.Naming.{names_at_opening};
 ghost use Rattle.oe_hall.specs.Turns.{open_count};
 ghost use Rattle.oe_drive.specs.Plans.{errands_in, ArePlansCarriedOut};
 
@@ -52,15 +52,15 @@ pub(crate) fn driven<J: Naming + Send + Sync, H: Threads + Wait + Sync, G: Gate 
 ) -> Result<Driven, NoMemory>
     requires plans { (1 ≤ vec_len plans) × (vec_len plans ≤ 63) }
     requires population { IsPopulation (rows tables) }
-    requires names { named seats.names
-        (opened system (rows tables) numbers.now.extents seats.names.layout) ≡ J.names }
+    requires names { names_at_opening seats.names
+        (world_at_opening system (rows tables) numbers.now.extents seats.names.layout) ≡ J.names }
     ensures ended { IfOk result (λ d.
         d.counted.begun ≡ d.counted.committed + d.counted.rolled_back) }
     ensures quiet { IfOk result (λ d. open_count (world_of d.core) ≡ 0) }
     ensures newest { IfOk result (λ d. newest system (world_of d.core) ≡ d.counted.committed) }
     ensures layout { IfOk result (λ d. (world_of d.core).layout ≡ seats.names.layout) }
     ensures run { IfOk result (λ d. IsHistory
-        (opened system (rows tables) numbers.now.extents seats.names.layout)
+        (world_at_opening system (rows tables) numbers.now.extents seats.names.layout)
         d.history.log (world_of d.core)) }
     ensures unpurged { IfOk result (λ d. calls_by 0 d.history.log ≡ []) }
     ensures carried { IfOk result (λ d.

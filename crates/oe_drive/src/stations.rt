@@ -4,7 +4,7 @@
 //! carried out there. A thread takes a station and gives it back.
 ghost use Rattle.std.specs.Prelude.{◌≡◌, ◌+◌, ◌<◌, ◌≤◌, [], length, IsTrue, false};
 ghost use Rattle.oe_moments.specs.Pins.{is_pinned};
-ghost use Rattle.oe_hall.specs.Counts.{untold};
+ghost use Rattle.oe_hall.specs.Counts.{tally_of};
 ghost use Rattle.oe_hall.specs.Desks.{TheDesk, most_begun};
 ghost use Rattle.oe_drive.specs.Errands.{HasCalled, IsCarriedOut};
 ghost use Rattle.oe_drive.specs.Stations.{TheStation, IsOnPlan, IsWhole, KeepsPlan};
@@ -127,7 +127,7 @@ impl<J: Naming> Station<J> {
     /// Makes the station of a desk that was told nothing and has called nothing, with its sender,
     /// its plan, and what is done there.
     pub(crate) fn new(desk: Desk<J>, sender: Sender, plan: Plan, deeds: Deeds) -> Station<J>
-        requires told { desk.told ≡ untold 1 }
+        requires told { desk.told ≡ tally_of 1 }
         requires free { is_pinned desk.seat.notes.pin ≡ false }
         requires silent { desk.calls.mine ≡ [] }
         requires caller { desk.calls.by ≡ desk.seat.terminal }
@@ -221,7 +221,7 @@ impl<J: Naming> Station<J> {
 impl<J: Naming> Bench<J> {
     /// Makes the station of a desk that was told nothing, with the taker of that number of senders.
     pub(crate) fn new(desk: Desk<J>, taker: Taker, terminals: u32, deeds: Deeds) -> Bench<J>
-        requires told { desk.told ≡ untold 1 }
+        requires told { desk.told ≡ tally_of 1 }
         requires free { is_pinned desk.seat.notes.pin ≡ false }
         ensures { result ≡ desk }
     {

@@ -7,7 +7,7 @@ use Rattle.oe_facts.specs.declared.keys.CustomerId.{CustomerId}
 use Rattle.oe_facts.specs.declared.keys.StockId.{StockId}
 use Rattle.oe_facts.specs.declared.tables.Fact.{Fact}
 use Rattle.oe_facts.specs.declared.tables.Fact.TheVariants as fact
-use Rattle.oe_ledgers.specs.Columns.{capped}
+use Rattle.oe_ledgers.specs.Columns.{sum_up_to}
 use Rattle.oe_earlier.specs.declared.traces.Trace.{Trace}
 use Rattle.oe_earlier.specs.declared.traces.Residue.{Residue}
 
@@ -17,7 +17,7 @@ trace_of print = record { print = print; rows = 1 }
 
 -- the greatest print, and how many rows there are
 abbrev pub traces_joined : Trace → Trace → Trace
-traces_joined a b = record { print = max a.print b.print; rows = capped (2 ^ 32 - 1) a.rows b.rows }
+traces_joined a b = record { print = max a.print b.print; rows = sum_up_to (2 ^ 32 - 1) a.rows b.rows }
 
 -- (S_QUANTITY + S_YTD) mod 91
 abbrev pub residue_of : StockFact → Residue

@@ -5,10 +5,10 @@ ghost use Rattle.std.specs.Prelude.{◌≡◌, IfOk, List, pos};
 ghost use Rattle.std.specs.Option.{option_map};
 ghost use Rattle.oe_tally.specs.Tallies.{IsSettled, SameTotals};
 ghost use Rattle.oe_tally.specs.Walks.{AreAll};
-ghost use Rattle.oe_checks.specs.Comparing.{orphaned, single};
+ghost use Rattle.oe_checks.specs.Comparing.{orphans_apart, single};
 ghost use Rattle.oe_ledgers.specs.Keys.{same_stock, stock_cmp};
 ghost use Rattle.oe_earlier.specs.Traces.{traces_joined, residues_joined};
-ghost use Rattle.oe_earlier.specs.Changes.{gone, changed, moved};
+ghost use Rattle.oe_earlier.specs.Changes.{loss_apart, change_apart, residue_apart};
 ghost use Rattle.oe_earlier.specs.declared.traces.Trace.{Trace};
 ghost use Rattle.oe_earlier.specs.declared.traces.Residue.{Residue};
 ghost use Rattle.oe_facts.specs.declared.keys.StockId.{StockId};
@@ -27,13 +27,13 @@ impl Check<Trace, Trace> for IsGone {
 
     type Wrong = Apart;
 
-    ghost judged = { λ _ row now. orphaned (option_map (λ s. pos s.rows) row)
+    ghost judged = { λ _ row now. orphans_apart (option_map (λ s. pos s.rows) row)
         (option_map (λ s. pos s.rows) now) };
 
     ghost nothing = { λ _. refl };
 
     fn judge(&self, row: Option<Trace>, now: Option<Trace>) -> Option<Apart>
-        ensures { result ≡ orphaned (option_map (λ s. pos s.rows) row)
+        ensures { result ≡ orphans_apart (option_map (λ s. pos s.rows) row)
             (option_map (λ s. pos s.rows) now) }
     {
         let Some(row) = row else {
@@ -60,7 +60,7 @@ pub fn gone<K: Ord + Copy>(
     ensures { (of_before of_now : List (K × Trace))
         → SameTotals K.eq traces_joined of_before before.now
         → SameTotals K.eq traces_joined of_now now.now
-        → IfOk result (λ found. AreAll K.cmp K.eq (gone K.eq of_before of_now) found.items) }
+        → IfOk result (λ found. AreAll K.cmp K.eq (loss_apart K.eq of_before of_now) found.items) }
 {
     findings(alloc, &IsGone, before, now)
 }
@@ -105,7 +105,7 @@ pub fn changed<K: Ord + Copy>(
     ensures { (of_before of_now : List (K × Trace))
         → SameTotals K.eq traces_joined of_before before.now
         → SameTotals K.eq traces_joined of_now now.now
-        → IfOk result (λ found. AreAll K.cmp K.eq (changed K.eq of_before of_now) found.items) }
+        → IfOk result (λ found. AreAll K.cmp K.eq (change_apart K.eq of_before of_now) found.items) }
 {
     findings(alloc, &IsChanged, before, now)
 }
@@ -149,7 +149,7 @@ pub fn moved(
     ensures { (of_before of_now : List (StockId × Residue))
         → SameTotals same_stock residues_joined of_before before.now
         → SameTotals same_stock residues_joined of_now now.now
-        → IfOk result (λ found. AreAll stock_cmp same_stock (moved of_before of_now) found.items) }
+        → IfOk result (λ found. AreAll stock_cmp same_stock (residue_apart of_before of_now) found.items) }
 {
     findings(alloc, &IsMoved, before, now)
 }

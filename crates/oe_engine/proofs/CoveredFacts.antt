@@ -25,7 +25,8 @@ use Rattle.oe_model.specs.Rows.{Rows, is_key, row_at, as_warehouse, as_district,
 use Rattle.oe_model.specs.Rows.{as_stock}
 use Rattle.oe_model.specs.Changes.{Change, InsertHistory, InsertNewOrder, InsertOrder, InsertOrderLine, UpdateWarehouse}
 use Rattle.oe_model.specs.Changes.{UpdateDistrict, UpdateCustomer, UpdateOrder, UpdateOrderLine, UpdateStock}
-use Rattle.oe_model.specs.Changes.{DeleteNewOrder, key_of, row_of, changed, Record, InsertedHistory, InsertedNewOrder}
+use Rattle.oe_model.specs.Changes.{DeleteNewOrder, key_of, row_of, rows_after, Record, InsertedHistory}
+use Rattle.oe_model.specs.Changes.{InsertedNewOrder}
 use Rattle.oe_model.specs.Changes.{InsertedOrder, InsertedOrderLine, UpdatedWarehouse, UpdatedDistrict, UpdatedCustomer}
 use Rattle.oe_model.specs.Changes.{UpdatedOrder, UpdatedOrderLine, UpdatedStock, DeletedNewOrder, record_key}
 use Rattle.oe_model.specs.Changes.{restore, put_back, record_in, columns_before, with_columns}
@@ -52,7 +53,7 @@ is_other a b ne = go (is_key a b) refl
     go true e = absurd (ne (key_true a b e))
     go false e = e
 
-at_other_changed : (c : Change) (r : Rows) (k : Key) → k ≢ key_of c → row_at (changed c r) k ≡ row_at r k
+at_other_changed : (c : Change) (r : Rows) (k : Key) → k ≢ key_of c → row_at (rows_after c r) k ≡ row_at r k
 at_other_changed c r k ne = at_changed c r k ∙ ap (λ z. cond z (row_of c) (row_at r k)) (is_other k (key_of c) ne)
 
 pub at_other_put_back : (b : Record) (r : Rows) (k : Key) → k ≢ record_key b → row_at (put_back b r) k ≡ row_at r k
@@ -61,9 +62,9 @@ at_other_put_back b r k ne = at_put_back b r k ∙ ap (λ z. cond z (restore b (
 
 -- a change and the undo of another row's change come in any order
 pub commutes : (b : Record) (c : Change) (r : Rows) → record_key b ≢ key_of c
-    → put_back b (changed c r) ≡ changed c (put_back b r)
+    → put_back b (rows_after c r) ≡ rows_after c (put_back b r)
 commutes b c r ne = same_rows _ _ (λ k.
-    at_put_back b (changed c r) k
+    at_put_back b (rows_after c r) k
     ∙ ap (λ o. cond (is_key k (record_key b)) (restore b o) o) (at_changed c r k)
     ∙ go k (is_key k (record_key b)) (is_key k (key_of c)) refl refl
     ∙ sym (ap (cond (is_key k (key_of c)) (row_of c)) (at_put_back b r k))
@@ -98,9 +99,9 @@ stands_same (ChangedOrder k v) r s e h = subst (λ (o : Option Row). IsSome o) e
 stands_same (ChangedOrderLine k v) r s e h = subst (λ (o : Option Row). IsSome o) e h
 stands_same (ChangedStock k v) r s e h = subst (λ (o : Option Row). IsSome o) e h
 
-pub stands_made : (l : Layout) (c : Change) (r : Rows) → Stands (record_on system l c r) (changed c r)
+pub stands_made : (l : Layout) (c : Change) (r : Rows) → Stands (record_on system l c r) (rows_after c r)
 stands_made l c r =
-    stands l c (row_at r (key_of c)) (changed c r)
+    stands l c (row_at r (key_of c)) (rows_after c r)
     (at_changed c r (key_of c) ∙ ap (λ z. cond z (row_of c) (row_at r (key_of c))) (key_refl (key_of c)))
 
 -- an accepted update has its row before
@@ -277,12 +278,12 @@ apart_below c [] p = tt
 apart_below c (b ∷ bs) p = p.1
 
 finds_under : (c : Change) (bs : List Record) (r : Rows) → AreApart c bs → FindsNewest bs r
-    → FindsNewest bs (changed c r)
+    → FindsNewest bs (rows_after c r)
 finds_under c [] r p h = tt
-finds_under c (b ∷ bs) r p h = stands_same b r (changed c r) (sym (at_other_changed c r (record_key b) p.0.other)) h
+finds_under c (b ∷ bs) r p h = stands_same b r (rows_after c r) (sym (at_other_changed c r (record_key b) p.0.other)) h
 
 put_under : (c : Change) (bs : List Record) (r : Rows) → AreApart c bs
-    → put_newest bs (changed c r) ≡ changed c (put_newest bs r)
+    → put_newest bs (rows_after c r) ≡ rows_after c (put_newest bs r)
 put_under c [] r p = refl
 put_under c (b ∷ bs) r p = commutes b c r p.0.other
 
@@ -311,20 +312,20 @@ module _ (ss : List (List Record)) where
   abbrev MadeUnwinds : Layout → Change → ℕ → List ℕ → Type 0
   MadeUnwinds l c t ts =
       (f : ℕ → List Record) (r : Rows) → Accepts c r → ((u : ℕ) → u ≢ t → AreApart c (f u)) → UnwindsAll f r
-      → Unwinds ss (set t (record_on system l c r ∷ f t) f) (changed c r) ts
+      → Unwinds ss (set t (record_on system l c r ∷ f t) f) (rows_after c r) ts
 
   made_own : (l : Layout) (c : Change) (t : ℕ) (ts : List ℕ) (f : ℕ → List Record) (r : Rows) → UnwindsAll f r
-      → Unwinds ss (set t (record_on system l c r ∷ f t) f) (changed c r) (t ∷ ts)
+      → Unwinds ss (set t (record_on system l c r ∷ f t) f) (rows_after c r) (t ∷ ts)
   made_own l c t ts f r h =
       let there : set t (record_on system l c r ∷ f t) f t ≡ record_on system l c r ∷ f t =
       set_at t (record_on system l c r ∷ f t) f in
       let same : set t (f t) (set t (record_on system l c r ∷ f t) f) ≡ f =
       set_twice t (f t) (record_on system l c r ∷ f t) f ∙ set_own t f in
       at_head ss (set t (record_on system l c r ∷ f t) f) t (record_on system l c r ∷ f t)
-      (changed c r) ts
+      (rows_after c r) ts
       there
       (stands_made l c r)
-      (subst (λ (z : ℕ → List Record). Unwinds ss z (put_back (record_on system l c r) (changed c r)) ts)
+      (subst (λ (z : ℕ → List Record). Unwinds ss z (put_back (record_on system l c r) (rows_after c r)) ts)
       (sym same)
       (subst (λ (z : Rows). Unwinds ss f z ts) (sym (undone l c r)) (h ts)))
 
@@ -344,7 +345,7 @@ module _ (ss : List (List Record)) where
       ≡ f u = set_other t (record_on system l c r ∷ f t) f u ne in
       let next : Unwinds ss
       (set t (record_on system l c (put_newest (f u) r) ∷ set u (drop 1 (f u)) f t) (set u (drop 1 (f u)) f))
-      (changed c (put_newest (f u) r)) ts =
+      (rows_after c (put_newest (f u) r)) ts =
       below (set u (drop 1 (f u)) f) (put_newest (f u) r) (accepts_under c (f u) r q a) (apart_then c t u f p ne)
       (λ us. (h (u ∷ us)).1) in
       let records : record_on system l c (put_newest (f u) r) ∷ set u (drop 1 (f u)) f t
@@ -354,19 +355,19 @@ module _ (ss : List (List Record)) where
       (set u (drop 1 (f u)) f) ≡ set u (drop 1 (f u)) (set t (record_on system l c r ∷ f t) f) =
       ap (λ (z : List Record). set t z (set u (drop 1 (f u)) f)) records
       ∙ set_swap t u (record_on system l c r ∷ f t) (drop 1 (f u)) f ne in
-      at_head ss (set t (record_on system l c r ∷ f t) f) u (f u) (changed c r) ts there
+      at_head ss (set t (record_on system l c r ∷ f t) f) u (f u) (rows_after c r) ts there
       (finds_under c (f u) r q (h (u ∷ [])).0)
       (subst (λ (z : Rows). Unwinds ss (set u (drop 1 (f u)) (set t (record_on system l c r ∷ f t) f)) z ts)
       (sym (put_under c (f u) r q))
-      (subst (λ (z : ℕ → List Record). Unwinds ss z (changed c (put_newest (f u) r)) ts) logs next))
+      (subst (λ (z : ℕ → List Record). Unwinds ss z (rows_after c (put_newest (f u) r)) ts) logs next))
 
   made_step : (l : Layout) (c : Change) (t : ℕ) (ts : List ℕ) → MadeUnwinds l c t ts → (u : ℕ)
       → MadeUnwinds l c t (u ∷ ts)
   made_step l c t ts below u f r a p h = go (cases_eq u t)
     where
-      go : (u ≡ t) ⊎ (u ≢ t) → Unwinds ss (set t (record_on system l c r ∷ f t) f) (changed c r) (u ∷ ts)
+      go : (u ≡ t) ⊎ (u ≢ t) → Unwinds ss (set t (record_on system l c r ∷ f t) f) (rows_after c r) (u ∷ ts)
       go (inl e) = subst
-          (λ (z : ℕ). Unwinds ss (set t (record_on system l c r ∷ f t) f) (changed c r) (z ∷ ts)) (sym e)
+          (λ (z : ℕ). Unwinds ss (set t (record_on system l c r ∷ f t) f) (rows_after c r) (z ∷ ts)) (sym e)
           (made_own l c t ts f r h)
       go (inr ne) = made_other l c t ts below u ne f r a p h
 
@@ -379,7 +380,7 @@ module _ (ss : List (List Record)) where
 
   pub made_unwinds : (l : Layout) (c : Change) (t : ℕ) (ts : List ℕ) (f : ℕ → List Record) (r : Rows) → Accepts c r
       → ((u : ℕ) → u ≢ t → AreApart c (f u)) → UnwindsAll f r
-      → Unwinds ss (set t (record_on system l c r ∷ f t) f) (changed c r) ts
+      → Unwinds ss (set t (record_on system l c r ∷ f t) f) (rows_after c r) ts
   made_unwinds l c t [] f r a p h =
       (accepted_meets c r a (h []).0, λ none. absurd (not_none t (record_on system l c r) (f t) f none))
   made_unwinds l c t (u ∷ ts) f r a p h = made_step l c t ts (λ g s b q k. made_unwinds l c t ts g s b q k) u f r a p h

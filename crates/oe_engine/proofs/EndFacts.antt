@@ -11,7 +11,7 @@ use Rattle.oe_model.specs.System.{system}
 use Rattle.oe_store.specs.Places.{rows}
 use Rattle.oe_store.specs.Places as tables
 use Rattle.oe_log.specs.Records.{Logged}
-use Rattle.oe_log.specs.Log.{SegmentLog, active_at, records_at, count_at, dropped}
+use Rattle.oe_log.specs.Log.{SegmentLog, active_at, records_at, count_at, without_segment}
 use Rattle.oe_log.specs.Stands.{model_records, undo_of}
 use Rattle.oe_log.proofs.LawFacts as stands
 use Rattle.oe_log.proofs.StateFacts.{seen_same}
@@ -22,7 +22,7 @@ use Rattle.oe_journal.specs.Named.{AreNeeded}
 use Rattle.oe_journal.proofs.NamedFacts.{active_placed, history_placed}
 use Rattle.oe_theory.proofs.Sets.{set_other}
 use Rattle.oe_engine.specs.Kept.{IsKept}
-use Rattle.oe_engine.specs.Calls.{back_at, rolled_back}
+use Rattle.oe_engine.specs.Calls.{back_at, after_rollback}
 use Rattle.oe_journal.specs.Unwinds.{TakesBack}
 use Rattle.oe_engine.proofs.LockFacts.{held_of, released_is}
 use Rattle.oe_engine.proofs.LogFacts.{active_set}
@@ -53,19 +53,21 @@ taken_kept ts ts' u u' ls t n h k =
 -- and after an empty segment was dropped, and its terminal's names were let go of
 pub dropped_kept : (ts : tables.Places) (u : SegmentLog) (ls ls' : Holdings) (t : ℕ) → t < length u.terminals
     → records_at u t ≡ []
-    → HoldsNothing ls' t → OthersKeep ls ls' t → IsKept ts u ls → IsKept ts (dropped u t) ls'
+    → HoldsNothing ls' t → OthersKeep ls ls' t → IsKept ts u ls → IsKept ts (without_segment u t) ls'
 dropped_kept ts u ls ls' t within empty own others k =
     let s = stands.drops u t empty in
-    let open_is : (x : ℕ) → is_some (active_at (dropped u t) x) ≡ world.set t false (λ y. is_some (active_at u y)) x =
+    let open_is : (x : ℕ) → is_some (active_at (without_segment u t) x)
+    ≡ world.set t false (λ y. is_some (active_at u y)) x =
     active_set u t (record { count = count_at u t; active = None }) within in
-    let counts : (x : ℕ) → count_at (dropped u t) x ≡ count_at u x =
+    let counts : (x : ℕ) → count_at (without_segment u t) x ≡ count_at u x =
     seen_same (λ z. z.count) u.terminals t (record { count = count_at u t; active = None }) refl in
     record {
       size = length-set u.terminals t _ ∙ k.size;
       active = λ x. subst (λ z. HavePlaces ts (z.active x)) (sym s.undo) (k.active x);
       history = subst (λ z. AllHavePlaces ts z.history) (sym s.undo) k.history;
       needed = subst (AreNeeded ts) (sym s.undo) k.needed;
-      idle = released_idle ls ls' t (λ x. is_some (active_at u x)) (λ x. is_some (active_at (dropped u t) x)) open_is
+      idle = released_idle ls ls' t (λ x. is_some (active_at u x))
+          (λ x. is_some (active_at (without_segment u t) x)) open_is
           own others k.idle;
       counted = λ x e. elim (cases_eq x t) [
         | inl same ↦ absurd (true≢false
@@ -116,7 +118,7 @@ none_is_left ts ts' u u' t n is h =
 pub rolled_back_is : (ts ts' : tables.Places) (u u' : SegmentLog) (ls ls' : Holdings) (t n : ℕ)
     → n ≡ length (records_at u t) → t < length u.terminals
     → TakesBack ts u t n ts' u' → HoldsNothing ls' t → OthersKeep ls ls' t
-    → view_from ts' (dropped u' t) ls' ≡ rolled_back t (view_from ts u ls)
+    → view_from ts' (without_segment u' t) ls' ≡ after_rollback t (view_from ts u ls)
 unfolding view_from
 rolled_back_is ts ts' u u' ls ls' t n is within h own others =
     let w = h.others in
@@ -126,10 +128,10 @@ rolled_back_is ts ts' u u' ls ls' t n is within h own others =
     let all : take n ((undo_of u).active t) ≡ (undo_of u).active t = take_all n ((undo_of u).active t) (omega arith) in
     let rows_is : rows ts' ≡ unwind system ((undo_of u).active t) (rows ts) = h.rows
     ∙ ap (λ bs. unwind system bs (rows ts)) all in
-    let undo_is : undo_of (dropped u' t) ≡ put_records system t [] (undo_of u) =
+    let undo_is : undo_of (without_segment u' t) ≡ put_records system t [] (undo_of u) =
     s.undo ∙ w.undo ∙ ap (λ rs. put_records system t (model_records rs) (undo_of u)) empty in
     let there : t < length u'.terminals = subst (λ m. t < m) (sym w.size) within in
-    let opens : (λ (x : ℕ). is_some (active_at (dropped u' t) x)) ≡ world.set t false
+    let opens : (λ (x : ℕ). is_some (active_at (without_segment u' t) x)) ≡ world.set t false
     (λ (x : ℕ). is_some (active_at u x)) =
     fun_ext (active_set u' t (record { count = count_at u' t; active = None }) there)
     ∙ ap (world.set t false) (fun_ext w.is_open) in

@@ -9,7 +9,7 @@ use Rattle.oe_rows.specs.declared.layouts.Layout.{Layout}
 use Rattle.oe_rows.specs.declared.keys.Key.{Key}
 use Rattle.oe_rows.specs.declared.locks.Name.{Name}
 use Rattle.oe_model.specs.Rows.{Rows, row_at, is_key}
-use Rattle.oe_model.specs.Changes.{Change, key_of, row_of, changed, Record, record_key, restore, put_back}
+use Rattle.oe_model.specs.Changes.{Change, key_of, row_of, rows_after, Record, record_key, restore, put_back}
 use Rattle.oe_model.specs.Locks.{is_name, Facet, part, facet_key, governs_part}
 use Rattle.oe_model.specs.System.{system}
 use Rattle.oe_model.proofs.RowFacts.{key_true, at_changed, at_put_back, same_rows, undone}
@@ -61,17 +61,17 @@ left_if_lower held n b r ne own f g = go (own f n g)
 -- ---- a change of the transaction's own
 
 pub made_parts : (held : Holding) (l : Layout) (c : Change) (bs : List Record) (r : Rows)
-    → OwnsParts held r (changed c r) → OwnAllParts held bs r
-    → OwnAllParts held (record_on system l c r ∷ bs) (changed c r)
+    → OwnsParts held r (rows_after c r) → OwnAllParts held bs r
+    → OwnAllParts held (record_on system l c r ∷ bs) (rows_after c r)
 made_parts held l c bs r own h = (
-  subst (λ (s : Rows). OwnsParts held s (changed c r)) (sym (undone l c r)) own,
+  subst (λ (s : Rows). OwnsParts held s (rows_after c r)) (sym (undone l c r)) own,
   subst (λ (s : Rows). OwnAllParts held bs s) (sym (undone l c r)) h,
 )
 
 -- ---- a change of another row
 
 under_change : (c : Change) (b : Record) (r : Rows) (f : Facet) → record_key b ≢ key_of c → SamePart f (put_back b r) r
-    → SamePart f (put_back b (changed c r)) (changed c r)
+    → SamePart f (put_back b (rows_after c r)) (rows_after c r)
 under_change c b r f ne same =
     ap (λ (s : Rows). part f (row_at s (facet_key f))) (commutes b c r ne)
     ∙ ap (part f) (at_changed c (put_back b r) (facet_key f))
@@ -84,7 +84,7 @@ under_change c b r f ne same =
     go false = same
 
 pub parts_under : (held : Holding) (c : Change) (bs : List Record) (r : Rows) → AreApart c bs → OwnAllParts held bs r
-    → OwnAllParts held bs (changed c r)
+    → OwnAllParts held bs (rows_after c r)
 parts_under held c [] r p h = tt
 parts_under held c (b ∷ bs) r p h = (
   λ f n g. same_or (under_change c b r f p.0.other) (h.0 f n g),

@@ -15,7 +15,7 @@ use Rattle.oe_rows.specs.declared.customers.CustomerName.{CustomerName}
 use Rattle.oe_rows.specs.declared.locks.Name.{Name}
 use Rattle.oe_rows.specs.declared.rows.Row.TheVariants as row
 use Rattle.oe_model.specs.Rows.{Rows, is_key, row_at, as_customer}
-use Rattle.oe_model.specs.Changes.{Change, UpdateCustomer, row_of, changed}
+use Rattle.oe_model.specs.Changes.{Change, UpdateCustomer, row_of, rows_after}
 use Rattle.oe_model.specs.Choice.{name_in, name_at}
 use Rattle.oe_model.specs.Locks.{WarehouseThere, DistrictThere, CustomerThere, CustomerNamed, StockThere, WholeItem}
 use Rattle.oe_model.specs.Locks.{First, first_if_named, part}
@@ -24,7 +24,7 @@ use Rattle.oe_model.proofs.MapFacts.{is_same}
 use Rattle.oe_model.proofs.RowFacts.{key_true, key_refl, at_changed}
 use Rattle.oe_change.specs.declared.writes.Write.{Write}
 use Rattle.oe_change.specs.declared.writes.Write.TheVariants as writes
-use Rattle.oe_change.specs.Writes.{written}
+use Rattle.oe_change.specs.Writes.{change_of}
 use Rattle.oe_engine.specs.Covered.{SamePart, OwnsParts}
 use Rattle.oe_writes.specs.Kinds.{is_rename}
 use Rattle.oe_engine.specs.Writes.{HoldsBeside}
@@ -75,9 +75,9 @@ of_named held r s h (WholeItem k) n g = let no : ⊥ = cc in absurd no
 
 -- a write other than a rename leaves all names
 kept : (w : Write) (r : Rows) (held : Name → Option theory.Mode) (c : Change) → is_rename w ≡ false
-    → written w r ≡ Some c → OwnsParts held r (changed c r)
-kept w r held c n e = of_named held r (changed c r) (λ k last.
-    inl (same_by_name k last r (changed c r) (sym (changed_named c r (same_name w r c n e) k))))
+    → change_of w r ≡ Some c → OwnsParts held r (rows_after c r)
+kept w r held c n e = of_named held r (rows_after c r) (λ k last.
+    inl (same_by_name k last r (rows_after c r) (sym (changed_named c r (same_name w r c n e) k))))
 
 module _ (k : CustomerKey) (l f : List ℕ) (x : Customer) (r : Rows) (held : Name → Option theory.Mode)
     (there : get r.customers k ≡ Some x) (new : held (names_of k l) ≡ Some theory.Exclusive)
@@ -86,7 +86,7 @@ module _ (k : CustomerKey) (l f : List ℕ) (x : Customer) (r : Rows) (held : Na
   renaming = UpdateCustomer k (with_names l f x)
 
   abbrev after : Rows
-  after = changed renaming r
+  after = rows_after renaming r
 
   was : name_at r k ≡ Some x.name
   was = ap (λ v. name_in (option_map row.Customer v)) there
@@ -126,10 +126,10 @@ module _ (k : CustomerKey) (l f : List ℕ) (x : Customer) (r : Rows) (held : Na
   renamed : OwnsParts held r after
   renamed = of_named held r after each
 
-pub parts_held : (w : Write) (r : Rows) (held : Name → Option theory.Mode) (c : Change) → written w r ≡ Some c
-    → HoldsBeside r held w → OwnsParts held r (changed c r)
+pub parts_held : (w : Write) (r : Rows) (held : Name → Option theory.Mode) (c : Change) → change_of w r ≡ Some c
+    → HoldsBeside r held w → OwnsParts held r (rows_after c r)
 parts_held (writes.CustomerNames k l f) r held c e beside =
-    of_row (λ d. OwnsParts held r (changed d r)) _ (get r.customers k) c
+    of_row (λ d. OwnsParts held r (rows_after d r)) _ (get r.customers k) c
     (λ x at. renamed k l f x r held at beside.0 (beside.1 x at)) e
 parts_held (writes.WarehouseYtd k y) r held c e beside = kept (writes.WarehouseYtd k y) r held c refl e
 parts_held (writes.DistrictYtd k y) r held c e beside = kept (writes.DistrictYtd k y) r held c refl e

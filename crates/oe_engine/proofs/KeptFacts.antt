@@ -16,8 +16,9 @@ use Rattle.oe_model.specs.Changes.{Record}
 use Rattle.oe_model.specs.System.{system}
 use Rattle.oe_store.specs.Places.{rows, HasPlace}
 use Rattle.oe_store.specs.Places as tables
-use Rattle.oe_log.specs.Log.{SegmentLog, TerminalState, idle, active_at, count_at, no_segments, idle_terminals, opened}
-use Rattle.oe_log.specs.Log.{sealed}
+use Rattle.oe_log.specs.Log.{SegmentLog, TerminalState, idle, active_at, count_at, no_segments, idle_terminals}
+use Rattle.oe_log.specs.Log.{with_segment}
+use Rattle.oe_log.specs.Log.{after_seal}
 use Rattle.oe_log.specs.Stands.{undo_of}
 use Rattle.oe_log.proofs.LawFacts as stands
 use Rattle.oe_log.proofs.LawFacts.{idle_at}
@@ -69,14 +70,15 @@ first_kept ts n l ls live quiet =
 -- a segment was opened
 pub opened_kept : (ts : tables.Places) (u : SegmentLog) (ls : Holdings) (t : ℕ) → t < length u.terminals
     → active_at u t ≡ None
-    → count_at u t < 4_294_967_295 → IsKept ts u ls → IsKept ts (opened u t) ls
+    → count_at u t < 4_294_967_295 → IsKept ts u ls → IsKept ts (with_segment u t) ls
 opened_kept ts u ls t within closed below k =
     let s = stands.opens u t closed in
-    let open_is : (x : ℕ) → is_some (active_at (opened u t) x) ≡ world.set t true (λ y. is_some (active_at u y)) x =
+    let open_is : (x : ℕ) → is_some (active_at (with_segment u t) x)
+    ≡ world.set t true (λ y. is_some (active_at u y)) x =
     active_set u t (record
     { count = count_at u t; active = Some (record { terminal = t; number = suc (count_at u t); records = [] }) })
     within in
-    let counts : (x : ℕ) → count_at (opened u t) x ≡ count_at u x =
+    let counts : (x : ℕ) → count_at (with_segment u t) x ≡ count_at u x =
     seen_same (λ z. z.count) u.terminals t
     (record {
       count = count_at u t;
@@ -88,7 +90,8 @@ opened_kept ts u ls t within closed below k =
       active = λ x. subst (λ z. HavePlaces ts (z.active x)) (sym s.undo) (k.active x);
       history = subst (λ z. AllHavePlaces ts z.history) (sym s.undo) k.history;
       needed = subst (AreNeeded ts) (sym s.undo) k.needed;
-      idle = idle_set (HoldsNothing ls) (λ y. is_some (active_at u y)) (λ y. is_some (active_at (opened u t) y)) t true
+      idle = idle_set (HoldsNothing ls) (λ y. is_some (active_at u y))
+          (λ y. is_some (active_at (with_segment u t) y)) t true
           open_is (λ e. absurd (true≢false e)) (λ x ne e. k.idle x e);
       counted = λ x e. elim (cases_eq x t) [
         | inl same ↦ subst (λ n. n < 4_294_967_295) (sym (counts x ∙ ap (count_at u) same)) below
@@ -134,11 +137,12 @@ sealed_names d t k none = (at, λ has. none.1 (inr has))
 -- a segment was sealed, and its terminal's names were let go of
 pub sealed_kept : (ts : tables.Places) (u : SegmentLog) (ls ls' : Holdings) (t : ℕ) (q : Request) (y : Reply)
     → t < length u.terminals → is_some (active_at u t) ≡ true
-    → HoldsNothing ls' t → OthersKeep ls ls' t → IsKept ts u ls → IsKept ts (sealed u t q y) ls'
+    → HoldsNothing ls' t → OthersKeep ls ls' t → IsKept ts u ls → IsKept ts (after_seal u t q y) ls'
 sealed_kept ts u ls ls' t q y within is own others k =
     let o = some_of (active_at u t) is in
     let s = stands.seals u t o.0 q y o.1 in
-    let open_is : (x : ℕ) → is_some (active_at (sealed u t q y) x) ≡ world.set t false (λ y. is_some (active_at u y))
+    let open_is : (x : ℕ) → is_some (active_at (after_seal u t q y) x)
+    ≡ world.set t false (λ y. is_some (active_at u y))
     x =
     active_set u t (record { count = suc (count_at u t); active = None }) within in
     record {
@@ -147,7 +151,8 @@ sealed_kept ts u ls ls' t q y within is own others k =
           (places_set ts t [] (undo_of u).active tt k.active x);
       history = subst (λ z. AllHavePlaces ts z.history) (sym s.undo) (k.active t, k.history);
       needed = subst (AreNeeded ts) (sym s.undo) (λ j p none. k.needed j p (sealed_names (undo_of u) t j none));
-      idle = released_idle ls ls' t (λ x. is_some (active_at u x)) (λ x. is_some (active_at (sealed u t q y) x)) open_is
+      idle = released_idle ls ls' t (λ x. is_some (active_at u x))
+          (λ x. is_some (active_at (after_seal u t q y) x)) open_is
           own others k.idle;
       counted = λ x e. elim (cases_eq x t) [
         | inl same ↦ absurd (true≢false

@@ -15,7 +15,7 @@ use Rattle.oe_model.specs.Locks.{mode_of, is_name}
 use Rattle.oe_model.specs.System.{system}
 use Rattle.oe_model.proofs.SystemLaws as model
 use Rattle.oe_locks.specs.Held as locks
-use Rattle.oe_locks.specs.Held.{Holdings, held, Takes, GivesBack, OthersKeep, HoldsNothing}
+use Rattle.oe_locks.specs.Held.{Holdings, mode_held, Takes, GivesBack, OthersKeep, HoldsNothing}
 use Rattle.oe_locks.specs.Listed.{stands, IsListed}
 use Rattle.oe_locks.proofs.NameFacts as names
 
@@ -40,7 +40,8 @@ same_together Exclusive (Some Shared) = refl
 same_together Exclusive (Some Exclusive) = refl
 
 -- and rise alike
-same_risen : (m : Mode) (o : Option Mode) → mode_of (locks.risen m o) ≡ world.risen (mode_of m) (option_map mode_of o)
+same_risen : (m : Mode) (o : Option Mode) → mode_of (locks.greater_mode m o)
+    ≡ world.greater_mode (mode_of m) (option_map mode_of o)
 same_risen Shared None = refl
 same_risen Exclusive None = refl
 same_risen Shared (Some Shared) = refl
@@ -50,7 +51,7 @@ same_risen Exclusive (Some Exclusive) = refl
 
 -- what all terminals hold, in the theory's words
 abbrev pub held_of : Holdings → ℕ → Name → Option theory.Mode
-held_of ls t n = option_map mode_of (held ls t n)
+held_of ls t n = option_map mode_of (mode_held ls t n)
 
 -- one terminal's names have changed
 one_changed : (old new : Holdings) (t : ℕ) (f : Name → Option theory.Mode) → OthersKeep old new t
@@ -78,9 +79,9 @@ pub taken_is : (old new : Holdings) (t : ℕ) (n : Name) (m : Mode) → Takes ol
 taken_is old new t n m own others =
     one_changed old new t _ others
     (λ q. ap (option_map mode_of) (own q)
-    ∙ cond_map (locks.is_name q n) (Some (locks.risen m (held old t q))) (held old t q)
-    ∙ ap (λ b. cond b (Some (mode_of (locks.risen m (held old t q)))) (held_of old t q)) (same_name q n)
-    ∙ ap (λ k. cond (is_name q n) (Some k) (held_of old t q)) (same_risen m (held old t q)))
+    ∙ cond_map (locks.is_name q n) (Some (locks.greater_mode m (mode_held old t q))) (mode_held old t q)
+    ∙ ap (λ b. cond b (Some (mode_of (locks.greater_mode m (mode_held old t q)))) (held_of old t q)) (same_name q n)
+    ∙ ap (λ k. cond (is_name q n) (Some k) (held_of old t q)) (same_risen m (mode_held old t q)))
 
 -- a name was put into a mode, or let go of
 pub put_is : (old new : Holdings) (t : ℕ) (n : Name) (m : Option Mode) → GivesBack old new t n m → OthersKeep old new t
@@ -88,7 +89,7 @@ pub put_is : (old new : Holdings) (t : ℕ) (n : Name) (m : Option Mode) → Giv
 put_is old new t n m own others =
     one_changed old new t _ others
     (λ q. ap (option_map mode_of) (own q)
-    ∙ cond_map (locks.is_name q n) m (held old t q)
+    ∙ cond_map (locks.is_name q n) m (mode_held old t q)
     ∙ ap (λ b. cond b (option_map mode_of m) (held_of old t q)) (same_name q n))
 
 -- all names were let go of
@@ -118,7 +119,7 @@ pub put_taken : (f : Name → Option theory.Mode) (n : Name) (m : theory.Mode) (
     → cond (is_name q n) (f n) (held_after system (Take n m) f q) ≡ f q
 put_taken f n m q = go (is_name q n) refl
   where
-    go : (b : Bool) → is_name q n ≡ b → cond b (f n) (cond b (Some (world.risen m (f q))) (f q)) ≡ f q
+    go : (b : Bool) → is_name q n ≡ b → cond b (f n) (cond b (Some (world.greater_mode m (f q))) (f q)) ≡ f q
     go true e = ap f (sym (model.name_true q n e))
     go false e = refl
 
@@ -130,7 +131,7 @@ nothing_listed (x ∷ xs) none = absurd (false≢true (sym (none x) ∙ ap (λ b
 -- the terminal's list, in the theory's words
 pub listed_held : (ls : Holdings) (t : ℕ) (xs : List Name) → IsListed ls t xs → (q : Name)
     → stands xs q ≡ is_some (held_of ls t q)
-listed_held ls t xs listed q = listed q ∙ go (held ls t q)
+listed_held ls t xs listed q = listed q ∙ go (mode_held ls t q)
   where
     go : (o : Option Mode) → is_some o ≡ is_some (option_map mode_of o)
     go None = refl

@@ -13,13 +13,13 @@ use Rattle.oe_model.specs.Locks.{mode_of}
 use Rattle.oe_store.specs.Places.{rows}
 use Rattle.oe_store.specs.Places as tables
 use Rattle.oe_log.specs.Log.{SegmentLog, TerminalState, Open, idle, active_at, count_at, no_segments, idle_terminals}
-use Rattle.oe_log.specs.Log.{with_state, opened, sealed}
+use Rattle.oe_log.specs.Log.{with_state, with_segment, after_seal}
 use Rattle.oe_log.proofs.LawFacts as stands
 use Rattle.oe_log.proofs.LawFacts.{idle_at}
 use Rattle.oe_log.proofs.StateFacts.{some_of}
 use Rattle.oe_locks.specs.Held.{Holdings, OthersKeep, HoldsNothing, IsIdle}
 use Rattle.oe_engine.specs.View.{view_from, opened_view}
-use Rattle.oe_engine.specs.Calls.{begun, committed}
+use Rattle.oe_engine.specs.Calls.{after_begin, after_commit}
 use Rattle.oe_engine.proofs.LockFacts.{held_of, released_is}
 
 -- whether a terminal's segment is open, where its state was replaced
@@ -64,15 +64,17 @@ first_is ts n l ls quiet =
 -- a segment was opened
 pub opened_is : (ts : tables.Places) (u : SegmentLog) (ls : Holdings) (t : ℕ) → t < length u.terminals
     → active_at u t ≡ None
-    → view_from ts (opened u t) ls ≡ begun t (view_from ts u ls)
+    → view_from ts (with_segment u t) ls ≡ after_begin t (view_from ts u ls)
 unfolding view_from
 opened_is ts u ls t within closed =
     let s = stands.opens u t closed in
-    let open_is : (x : ℕ) → is_some (active_at (opened u t) x) ≡ world.set t true (λ y. is_some (active_at u y)) x =
+    let open_is : (x : ℕ) → is_some (active_at (with_segment u t) x)
+    ≡ world.set t true (λ y. is_some (active_at u y)) x =
     active_set u t (record
     { count = count_at u t; active = Some (record { terminal = t; number = suc (count_at u t); records = [] }) })
     within in
-    let opens : (λ (x : ℕ). is_some (active_at (opened u t) x)) ≡ world.set t true (λ y. is_some (active_at u y)) =
+    let opens : (λ (x : ℕ). is_some (active_at (with_segment u t) x))
+    ≡ world.set t true (λ y. is_some (active_at u y)) =
     fun_ext open_is in
     λ i. record {
       rows = rows ts;
@@ -88,12 +90,14 @@ opened_is ts u ls t within closed =
 -- a segment was sealed, and its terminal's names were let go of
 pub sealed_is : (ts : tables.Places) (u : SegmentLog) (ls ls' : Holdings) (t : ℕ) (q : Request) (y : Reply)
     → t < length u.terminals → is_some (active_at u t) ≡ true
-    → HoldsNothing ls' t → OthersKeep ls ls' t → view_from ts (sealed u t q y) ls' ≡ committed t q y (view_from ts u ls)
+    → HoldsNothing ls' t → OthersKeep ls ls' t → view_from ts (after_seal u t q y) ls'
+    ≡ after_commit t q y (view_from ts u ls)
 unfolding view_from
 sealed_is ts u ls ls' t q y within is own others =
     let o = some_of (active_at u t) is in
     let s = stands.seals u t o.0 q y o.1 in
-    let opens : (λ (x : ℕ). is_some (active_at (sealed u t q y) x)) ≡ world.set t false (λ x. is_some (active_at u x)) =
+    let opens : (λ (x : ℕ). is_some (active_at (after_seal u t q y) x))
+    ≡ world.set t false (λ x. is_some (active_at u x)) =
     fun_ext (active_set u t (record { count = suc (count_at u t); active = None }) within) in
     let names : held_of ls' ≡ world.set t (λ _. None) (held_of ls) = released_is ls ls' t own others in
     λ i. record {

@@ -21,13 +21,13 @@ use Rattle.oe_journal.proofs.PurgeFacts.{all_more_places}
 use Rattle.oe_locks.specs.Held.{Holdings}
 use Rattle.oe_engine.specs.View.{view_from}
 use Rattle.oe_engine.specs.Kept.{IsKept}
-use Rattle.oe_engine.specs.Calls.{made}
+use Rattle.oe_engine.specs.Calls.{after_change}
 use Rattle.oe_engine.proofs.LockFacts.{held_of}
 use Rattle.oe_engine.proofs.KeptFacts.{places_set}
 
 module _ (ts ts' : tables.Places) (u x : UndoState) (ls : Holdings) (t : ℕ) (c : Change)
     (h : IsRecorded c ts ts' u x t) where
-  pub change_view : view_from ts' x.log ls ≡ made t c (view_from ts u.log ls)
+  pub change_view : view_from ts' x.log ls ≡ after_change t c (view_from ts u.log ls)
   unfolding view_from
   change_view =
       let opens : (λ (y : ℕ). is_some (active_at x.log y)) ≡ (λ (y : ℕ). is_some (active_at u.log y)) =

@@ -16,7 +16,7 @@ use Rattle.oe_theory.specs.Machine.{Plain, Take}
 use Rattle.oe_theory.specs.World as world
 use Rattle.oe_theory.specs.Next.{held_after, record_on}
 use Rattle.oe_theory.specs.Undo.{put_records}
-use Rattle.oe_model.specs.Changes.{Change, changed}
+use Rattle.oe_model.specs.Changes.{Change, rows_after}
 use Rattle.oe_model.specs.Locks.{mode_of, is_name}
 use Rattle.oe_model.specs.System.{system}
 use Rattle.oe_model.proofs.SystemLaws as model
@@ -24,18 +24,19 @@ use Rattle.oe_store.specs.Places.{rows}
 use Rattle.oe_store.specs.Places as tables
 use Rattle.oe_change.specs.Applies.{Refuses}
 use Rattle.oe_locks.specs.Held as locks
-use Rattle.oe_locks.specs.Held.{Holdings, held}
+use Rattle.oe_locks.specs.Held.{Holdings, mode_held}
 use Rattle.oe_log.specs.Log as undo
 use Rattle.oe_log.specs.Log.{active_at}
 use Rattle.oe_engine.specs.View.{View, view_from}
 use Rattle.oe_engine.specs.Kept.{IsKept}
-use Rattle.oe_engine.specs.Calls.{IsFree, IsInTheWay, IsBelow, locked, made, put_mode, LockRefused, ChangeRefused}
-use Rattle.oe_engine.specs.Calls.{stage_done}
+use Rattle.oe_engine.specs.Calls.{IsFree, IsInTheWay, IsBelow, with_lock, after_change, put_mode, LockRefused}
+use Rattle.oe_engine.specs.Calls.{ChangeRefused}
+use Rattle.oe_engine.specs.Calls.{after_stage}
 use Rattle.oe_engine.proofs.LockFacts.{held_of, same_together, taken_is, put_is, set_own, set_at, set_twice, put_taken}
 
-pub change_done : (t : ℕ) (c : Change) (v : View) → stage_done t Plain (Some c) v ≡ made t c v
+pub change_done : (t : ℕ) (c : Change) (v : View) → after_stage t Plain (Some c) v ≡ after_change t c v
 change_done t c v = λ i. record {
-  rows = changed c v.rows;
+  rows = rows_after c v.rows;
   undo = put_records system t (record_on system v.layout c v.rows ∷ v.undo.active t) v.undo;
   seals = v.seals;
   counts = v.counts;
@@ -46,8 +47,8 @@ change_done t c v = λ i. record {
 }
 
 -- a name that was taken is held in no lower mode than before
-pub risen_above : (m : theory.Mode) (o : Option theory.Mode) → (o ≡ Some (world.risen m o))
-    ⊎ IsBelow o (Some (world.risen m o))
+pub risen_above : (m : theory.Mode) (o : Option theory.Mode) → (o ≡ Some (world.greater_mode m o))
+    ⊎ IsBelow o (Some (world.greater_mode m o))
 risen_above theory.Shared None = inr tt
 risen_above theory.Exclusive None = inr tt
 risen_above theory.Shared (Some theory.Shared) = inl refl
@@ -56,18 +57,18 @@ risen_above theory.Exclusive (Some theory.Shared) = inr tt
 risen_above theory.Exclusive (Some theory.Exclusive) = inl refl
 
 held_taken : (t : ℕ) (n : Name) (m : theory.Mode) (v : View)
-    → (locked t n m v).held t n ≡ Some (world.risen m (v.held t n))
+    → (with_lock t n m v).held t n ≡ Some (world.greater_mode m (v.held t n))
 held_taken t n m v =
     ap (λ f. f n) (set_at t (held_after system (Take n m) (v.held t)) v.held)
-    ∙ ap (λ b. cond b (Some (world.risen m (v.held t n))) (v.held t n)) (model.name_refl n)
+    ∙ ap (λ b. cond b (Some (world.greater_mode m (v.held t n))) (v.held t n)) (model.name_refl n)
 
-pub can_restore : (t : ℕ) (n : Name) (m : theory.Mode) (v : View) → (v.held t n ≡ (locked t n m v).held t n)
-    ⊎ IsBelow (v.held t n) ((locked t n m v).held t n)
+pub can_restore : (t : ℕ) (n : Name) (m : theory.Mode) (v : View) → (v.held t n ≡ (with_lock t n m v).held t n)
+    ⊎ IsBelow (v.held t n) ((with_lock t n m v).held t n)
 can_restore t n m v =
     subst (λ o. (v.held t n ≡ o) ⊎ IsBelow (v.held t n) o) (sym (held_taken t n m v)) (risen_above m (v.held t n))
 
 -- where it is put back into the mode before, all is as it was
-pub restored : (t : ℕ) (n : Name) (m : theory.Mode) (v : View) → put_mode t n (v.held t n) (locked t n m v) ≡ v
+pub restored : (t : ℕ) (n : Name) (m : theory.Mode) (v : View) → put_mode t n (v.held t n) (with_lock t n m v) ≡ v
 restored t n m v =
     let h : Name → Option theory.Mode = held_after system (Take n m) (v.held t) in
     let own : (λ q. cond (is_name q n) (v.held t n) (world.set t h v.held t q)) ≡ v.held t =
@@ -135,7 +136,7 @@ module _ (ts : tables.Places) (u : undo.SegmentLog) (ls : Holdings) where
   pub free_is : (t : ℕ) (n : Name) (m : Mode) → locks.IsFreeFor ls t n m
       → IsFree (view_from ts u ls) t (Take n (mode_of m))
   unfolding view_from
-  free_is t n m h w ne = same_together m (held ls w n) ∙ h w ne
+  free_is t n m h w ne = same_together m (mode_held ls w n) ∙ h w ne
 
   -- whoever is in the way has a transaction open
   pub way_is : (t : ℕ) (n : Name) (m : Mode) (w : ℕ) → IsKept ts u ls → locks.IsInTheWay ls t n m w
@@ -145,14 +146,14 @@ module _ (ts : tables.Places) (u : undo.SegmentLog) (ls : Holdings) where
       record {
         other = h.other;
         is_open = go (is_some (active_at u w)) refl;
-        conflicts = same_together m (held ls w n) ∙ h.conflicts;
-        least = λ x less ne. same_together m (held ls x n) ∙ h.least x less ne;
+        conflicts = same_together m (mode_held ls w n) ∙ h.conflicts;
+        least = λ x less ne. same_together m (mode_held ls x n) ∙ h.least x less ne;
       }
     where
       go : (b : Bool) → is_some (active_at u w) ≡ b → is_some (active_at u w) ≡ true
       go true e = e
       go false e =
-          let none : locks.go_together m (held ls w n) ≡ true = ap (locks.go_together m) (k.idle w e n) in
+          let none : locks.go_together m (mode_held ls w n) ≡ true = ap (locks.go_together m) (k.idle w e n) in
           absurd (true≢false (sym none ∙ h.conflicts))
 
   -- why a name is refused
@@ -184,7 +185,7 @@ module _ (ts : tables.Places) (u : undo.SegmentLog) (ls : Holdings) where
   idle_is t k e = fun_ext (λ q. ap (option_map mode_of) (k.idle t e q))
 
   pub locked_is : (new : Holdings) (t : ℕ) (n : Name) (m : Mode) → locks.Takes ls new t n m → locks.OthersKeep ls new t
-      → view_from ts u new ≡ locked t n (mode_of m) (view_from ts u ls)
+      → view_from ts u new ≡ with_lock t n (mode_of m) (view_from ts u ls)
   unfolding view_from
   locked_is new t n m own others =
       let names : held_of new ≡ world.set t (held_after system (Take n (mode_of m)) (held_of ls t)) (held_of ls) =
@@ -223,13 +224,13 @@ module _ (ts : tables.Places) (u : undo.SegmentLog) (ls : Holdings) where
   -- a mode that is not below the one held is that one
   pub put_nothing : (t : ℕ) (n : Name) (m : Option Mode) → (option_map mode_of m ≡ (view_from ts u ls).held t n)
       ⊎ IsBelow (option_map mode_of m) ((view_from ts u ls).held t n)
-      → (locks.IsBelow m (held ls t n) → ⊥) → view_from ts u ls ≡ put_mode t n (option_map mode_of m)
+      → (locks.IsBelow m (mode_held ls t n) → ⊥) → view_from ts u ls ≡ put_mode t n (option_map mode_of m)
       (view_from ts u ls)
   unfolding view_from
   put_nothing t n m (inl e) never =
       sym (subst (λ z. put_mode t n z (view_from ts u ls) ≡ view_from ts u ls) (sym e)
       (put_same t n (view_from ts u ls)))
-  put_nothing t n m (inr h) never = absurd (never (below_so m (held ls t n) h))
+  put_nothing t n m (inr h) never = absurd (never (below_so m (mode_held ls t n) h))
 
 -- a refusal of the tables is one of a change
 pub refused_so : (c : Change) (s : tables.Places) (e : Refusal) → Refuses c s e → ChangeRefused c (rows s) e

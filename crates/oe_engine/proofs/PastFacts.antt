@@ -8,14 +8,14 @@ use Rattle.oe_rows.specs.declared.keys.Key.{Key}
 use Rattle.oe_requests.specs.declared.refusals.Refusal.{Refusal}
 use Rattle.oe_requests.specs.declared.refusals.Refusal.TheVariants.{TooOld, Future, NotQuiet}
 use Rattle.oe_theory.specs.Undo.{HasRecord, HasRecordIn}
-use Rattle.oe_theory.specs.Store.{Slot, rewound_to}
+use Rattle.oe_theory.specs.Store.{Slot, after_rewind}
 use Rattle.oe_model.specs.Changes.{Record, record_key}
 use Rattle.oe_model.specs.Meets.{Meets}
 use Rattle.oe_model.specs.System.{system, terminal_limit}
 use Rattle.oe_store.specs.Places.{rows}
 use Rattle.oe_store.specs.Places as tables
 use Rattle.oe_log.specs.Log.{SegmentLog, Committed, active_at, open_total, with_newest, records_in}
-use Rattle.oe_journal.specs.Rewinds.{uncounted, without_newest}
+use Rattle.oe_journal.specs.Rewinds.{without_first_commit, without_newest}
 use Rattle.oe_journal.specs.Rewinds as journal
 use Rattle.oe_log.specs.Stands.{model_records, undo_of}
 use Rattle.oe_log.proofs.LawFacts as stands
@@ -36,7 +36,7 @@ use Rattle.oe_engine.specs.Covered.{AreOwned, OwnAllParts, Unwinds, IsSafe}
 use Rattle.oe_engine.specs.Kept.{IsKept, IsSound}
 use Rattle.oe_engine.specs.Renames.{AreNamed}
 use Rattle.oe_engine.specs.declared.renames.Renames.{Renames}
-use Rattle.oe_engine.specs.Calls.{IsQuiet, CantRewind, purged_to}
+use Rattle.oe_engine.specs.Calls.{IsQuiet, CantRewind, after_purge}
 use Rattle.oe_engine.specs.Calls as calls
 use Rattle.oe_engine.proofs.CoveredFacts.{purged_unwinds, all_left, none_unwinds}
 use Rattle.oe_engine.proofs.LinkFacts.{linked_less}
@@ -99,7 +99,7 @@ purged_kept ts ts' u ls n g needed k =
     }
 
 purged_view : (ts ts' : tables.Places) (u : SegmentLog) (ls : Holdings) (m : ℕ) → rows ts' ≡ rows ts
-    → view_from ts' (with_newest (past.newest u - m) u) ls ≡ purged_to m (view_from ts u ls)
+    → view_from ts' (with_newest (past.newest u - m) u) ls ≡ after_purge m (view_from ts u ls)
 unfolding view_from
 purged_view ts ts' u ls m same =
     let c = stands.cuts u (past.newest u - m) in
@@ -114,7 +114,7 @@ purged_view ts ts' u ls m same =
       layout = u.layout;
     }
 
-safe_purged : (m : ℕ) (v : View) → IsSafe v → IsSafe (purged_to m v)
+safe_purged : (m : ℕ) (v : View) → IsSafe v → IsSafe (after_purge m v)
 safe_purged m v s = record {
   owned = s.owned;
   parts = s.parts;
@@ -154,7 +154,7 @@ purge_named (Err e) ts ts' u u' ls m a is same err h =
 
 pub purge_view : {T E : Type 0} (r : Result T E) (ts ts' : tables.Places) (u u' : UndoState) (ls : Holdings) (m : ℕ)
     → OnOk r (u'.log ≡ with_newest (past.newest u.log - m) u.log)
-    → rows ts' ≡ rows ts → OnOk r (view_from ts' u'.log ls ≡ purged_to m (view_from ts u.log ls))
+    → rows ts' ≡ rows ts → OnOk r (view_from ts' u'.log ls ≡ after_purge m (view_from ts u.log ls))
 purge_view (Ok x) ts ts' u u' ls m is same = ap (λ z. view_from ts' z ls) is ∙ purged_view ts ts' u.log ls m same
 purge_view (Err e) ts ts' u u' ls m is same = tt
 
@@ -162,13 +162,13 @@ purge_view (Err e) ts ts' u u' ls m is same = tt
 quiet_rewound : (n : ℕ) (v : SegmentLog) → ((t : ℕ) → active_at v t ≡ None) → (t : ℕ)
     → active_at (without_newest n v) t ≡ None
 quiet_rewound zero v h = h
-quiet_rewound (suc n) v h = quiet_rewound n (uncounted v v.committed) (quiet_still v v.committed h)
+quiet_rewound (suc n) v h = quiet_rewound n (without_first_commit v v.committed) (quiet_still v v.committed h)
 
 size_rewound : (n : ℕ) (v : SegmentLog) → length (without_newest n v).terminals ≡ length v.terminals
 size_rewound zero v = refl
-size_rewound (suc n) v = size_rewound n (uncounted v v.committed) ∙ one v.committed
+size_rewound (suc n) v = size_rewound n (without_first_commit v v.committed) ∙ one v.committed
   where
-    one : (cs : List Committed) → length (uncounted v cs).terminals ≡ length v.terminals
+    one : (cs : List Committed) → length (without_first_commit v cs).terminals ≡ length v.terminals
     one [] = refl
     one (c ∷ cs) = length-set v.terminals c.terminal _
 
@@ -190,8 +190,8 @@ rewound_kept ts ts' u ls n gives quiet k =
 
 rewound_view : (ts ts' : tables.Places) (u : SegmentLog) (ls : Holdings) (m : ℕ) → ((t : ℕ) → active_at u t ≡ None)
     → ((slots : ℕ → Option (Slot system)) → store_with (rows ts') (without_newest (past.newest u - m) u)
-    slots ≡ rewound_to system m (store_with (rows ts) u slots))
-    → view_from ts' (without_newest (past.newest u - m) u) ls ≡ calls.rewound_to m (view_from ts u ls)
+    slots ≡ after_rewind system m (store_with (rows ts) u slots))
+    → view_from ts' (without_newest (past.newest u - m) u) ls ≡ calls.after_rewind m (view_from ts u ls)
 unfolding view_from
 rewound_view ts ts' u ls m quiet is =
     let s = is (λ t. None) in
@@ -209,10 +209,10 @@ rewound_view ts ts' u ls m quiet is =
       layout = (s i).layout;
     }
 
-safe_rewound : (m : ℕ) (v : View) → ((t : ℕ) → v.undo.active t ≡ []) → Meets (calls.rewound_to m v).rows → IsSafe v
-    → IsSafe (calls.rewound_to m v)
+safe_rewound : (m : ℕ) (v : View) → ((t : ℕ) → v.undo.active t ≡ []) → Meets (calls.after_rewind m v).rows → IsSafe v
+    → IsSafe (calls.after_rewind m v)
 safe_rewound m v empty meets s =
-    let w : View = calls.rewound_to m v in
+    let w : View = calls.after_rewind m v in
     let none : ◌≡◌ {A = ℕ → List Record} (λ t. []) v.undo.active = fun_ext (λ t. sym (empty t)) in
     record {
       owned = λ t. subst (AreOwned (v.held t) t (suc (w.counts t))) (sym (empty t)) tt;
@@ -230,15 +230,15 @@ pub rewind_sound : {T E : Type 0} (r : Result T E) (ts ts' : tables.Places) (u u
     → OnOk r (open_total u.log ≡ 0)
     → OnOk r (u'.log ≡ without_newest (past.newest u.log - m) u.log)
     → OnOk r ((slots : ℕ → Option (Slot system))
-    → store_with (rows ts') u'.log slots ≡ rewound_to system m (store_with (rows ts) u.log slots))
+    → store_with (rows ts') u'.log slots ≡ after_rewind system m (store_with (rows ts) u.log slots))
     → GivesUpUnnamed ts ts' (undo_of u.log) (undo_of u'.log) → StayLinked ts ts' u.links u'.links → OnErr r (u' ≡ u)
     → OnErr r (ts' ≡ ts) → Meets (rows ts') → IsSound ts u ls → IsSound ts' u' ls
 unfolding view_from
 rewind_sound (Ok x) ts ts' u u' ls m none log is places stay same same_tables meets s =
     let quiet = none_open u.log none in
     let stored = subst (λ z. (slots : ℕ → Option (Slot system))
-    → store_with (rows ts') z slots ≡ rewound_to system m (store_with (rows ts) u.log slots)) log is in
-    let there : rows ts' ≡ (calls.rewound_to m (view_from ts u.log ls)).rows =
+    → store_with (rows ts') z slots ≡ after_rewind system m (store_with (rows ts) u.log slots)) log is in
+    let there : rows ts' ≡ (calls.after_rewind m (view_from ts u.log ls)).rows =
     ap (λ z. z.tables) (stored (λ t. None)) in
     record {
       kept = subst (λ z. IsKept ts' z ls) (sym log)
@@ -255,14 +255,14 @@ rewind_sound (Err e) ts ts' u u' ls m none log is places stay same same_tables m
 pub rewind_named : (ts ts' : tables.Places) (u u' : UndoState) (ls : Holdings) (m : ℕ) (b : Renames)
     → open_total u.log ≡ 0 → u'.log ≡ without_newest (past.newest u.log - m) u.log
     → ((slots : ℕ → Option (Slot system))
-    → store_with (rows ts') u'.log slots ≡ rewound_to system m (store_with (rows ts) u.log slots))
+    → store_with (rows ts') u'.log slots ≡ after_rewind system m (store_with (rows ts) u.log slots))
     → b.since ≡ past.newest u'.log → AreNamed (view_from ts' u'.log ls) b
 unfolding view_from
 rewind_named ts ts' u u' ls m b none log is since =
     let quiet = none_open u.log none in
     let stored = subst (λ z. (slots : ℕ → Option (Slot system))
-    → store_with (rows ts') z slots ≡ rewound_to system m (store_with (rows ts) u.log slots)) log is in
-    let view : view_from ts' u'.log ls ≡ calls.rewound_to m (view_from ts u.log ls) =
+    → store_with (rows ts') z slots ≡ after_rewind system m (store_with (rows ts) u.log slots)) log is in
+    let view : view_from ts' u'.log ls ≡ calls.after_rewind m (view_from ts u.log ls) =
     ap (λ z. view_from ts' z ls) log ∙ rewound_view ts ts' u.log ls m quiet stored in
     subst (λ v. AreNamed v b) (sym view)
     (named_rewound m (view_from ts u.log ls) b (no_records_of u.log quiet) (since ∙ ap calls.newest view))
@@ -271,11 +271,11 @@ pub rewind_view : {T E : Type 0} (r : Result T E) (ts ts' : tables.Places) (u u'
     → OnOk r (open_total u.log ≡ 0)
     → OnOk r (u'.log ≡ without_newest (past.newest u.log - m) u.log)
     → OnOk r ((slots : ℕ → Option (Slot system))
-    → store_with (rows ts') u'.log slots ≡ rewound_to system m (store_with (rows ts) u.log slots))
-    → OnOk r (view_from ts' u'.log ls ≡ calls.rewound_to m (view_from ts u.log ls))
+    → store_with (rows ts') u'.log slots ≡ after_rewind system m (store_with (rows ts) u.log slots))
+    → OnOk r (view_from ts' u'.log ls ≡ calls.after_rewind m (view_from ts u.log ls))
 rewind_view (Ok x) ts ts' u u' ls m none log is =
     let stored = subst (λ z. (slots : ℕ → Option (Slot system))
-    → store_with (rows ts') z slots ≡ rewound_to system m (store_with (rows ts) u.log slots)) log is in
+    → store_with (rows ts') z slots ≡ after_rewind system m (store_with (rows ts) u.log slots)) log is in
     ap (λ z. view_from ts' z ls) log ∙ rewound_view ts ts' u.log ls m (none_open u.log none) stored
 rewind_view (Err e) ts ts' u u' ls m none log is = tt
 

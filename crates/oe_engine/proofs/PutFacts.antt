@@ -6,7 +6,7 @@ use Rattle.oe_theory.specs.Machine.{Plain}
 use Rattle.oe_theory.specs.Next.{record_on}
 use Rattle.oe_requests.specs.declared.refusals.Refusal.{Refusal}
 use Rattle.oe_values.specs.declared.numbers.TheConstants.{TERMINALS}
-use Rattle.oe_model.specs.Changes.{Change, changed}
+use Rattle.oe_model.specs.Changes.{Change, rows_after}
 use Rattle.oe_model.specs.Lengths.{record_length}
 use Rattle.oe_model.specs.System.{system}
 use Rattle.oe_change.specs.declared.writes.Write.{Write}
@@ -49,7 +49,7 @@ module _ (ts ts' : tables.Places) (u x : UndoState) (ls : Holdings) (t : ℕ) wh
   abbrev HoldsHere : Change → Type 0
   HoldsHere c =
       OwnsParts ((view_from ts u.log ls).held t) (view_from ts u.log ls).rows
-      (changed c (view_from ts u.log ls).rows)
+      (rows_after c (view_from ts u.log ls).rows)
 
   change_sound : (c : Change) → MayHere c → HoldsHere c → IsRecorded c ts ts' u x t → AreLinked ts' x.links
       → IsSound ts u ls → IsSound ts' x ls

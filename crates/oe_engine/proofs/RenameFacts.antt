@@ -31,7 +31,7 @@ use Rattle.oe_theory.proofs.Sets.{some_inj}
 use Rattle.oe_model.specs.Rows.{Rows, is_key, row_at, as_customer}
 use Rattle.oe_model.specs.Changes.{Change, InsertHistory, InsertNewOrder, InsertOrder, InsertOrderLine, UpdateWarehouse}
 use Rattle.oe_model.specs.Changes.{UpdateDistrict, UpdateCustomer, UpdateOrder, UpdateOrderLine, UpdateStock}
-use Rattle.oe_model.specs.Changes.{DeleteNewOrder, key_of, row_of, changed, Record, record_key, restore}
+use Rattle.oe_model.specs.Changes.{DeleteNewOrder, key_of, row_of, rows_after, Record, record_key, restore}
 use Rattle.oe_model.specs.Changes.{put_back, columns_before, with_columns}
 use Rattle.oe_model.specs.Choice.{name_in, name_at, HaveSameNames}
 use Rattle.oe_model.specs.Locks.{governs}
@@ -39,7 +39,7 @@ use Rattle.oe_model.specs.System.{system, terminal_limit}
 use Rattle.oe_model.proofs.RowFacts.{key_true, at_changed, at_put_back, in_layout_key}
 use Rattle.oe_change.specs.declared.writes.Write.{Write}
 use Rattle.oe_change.specs.declared.writes.Write.TheVariants as writes
-use Rattle.oe_change.specs.Writes.{written}
+use Rattle.oe_change.specs.Writes.{change_of}
 use Rattle.oe_store.specs.Places.{rows}
 use Rattle.oe_store.specs.Places as tables
 use Rattle.oe_log.specs.Log as undo
@@ -49,8 +49,8 @@ use Rattle.oe_locks.specs.Held.{Holdings}
 use Rattle.oe_locks.specs.Terminals.{has}
 use Rattle.oe_engine.specs.View.{View, view_from, opened_view}
 use Rattle.oe_engine.specs.Covered.{Owns, AreOwned, MayMake, IsSafe}
-use Rattle.oe_engine.specs.Calls.{newest, begun, made, count_since, back_at, committed, rolled_back}
-use Rattle.oe_engine.specs.Calls.{purged_to, rewound_to}
+use Rattle.oe_engine.specs.Calls.{newest, after_begin, after_change, count_since, back_at, after_commit, after_rollback}
+use Rattle.oe_engine.specs.Calls.{after_purge, after_rewind}
 use Rattle.oe_engine.specs.Renames.{KeepsName, KeepNames, AllKeepNames, AreNamed, Notes}
 use Rattle.oe_writes.specs.Kinds.{is_rename}
 use Rattle.oe_engine.specs.Renames.{Forgets, HasStood}
@@ -136,7 +136,7 @@ pub of_row : {X : Type 0} (P : Change → Type 0) (f : X → Change) (v : Option
 of_row P f None c h e = let no : ⊥ = cc in absurd no
 of_row P f (Some x) c h e = subst P (some_inj _ _ e) (h x refl)
 
-pub same_name : (w : Write) (r : Rows) (c : Change) → is_rename w ≡ false → written w r ≡ Some c → SameName c r
+pub same_name : (w : Write) (r : Rows) (c : Change) → is_rename w ≡ false → change_of w r ≡ Some c → SameName c r
 same_name (writes.WarehouseYtd k y) r c n e = of_row (λ d. SameName d r) _ (get r.warehouses k) c (λ x at. tt) e
 same_name (writes.DistrictYtd k y) r c n e = of_row (λ d. SameName d r) _ (get r.districts k) c (λ x at. tt) e
 same_name (writes.NextOrder k o) r c n e = of_row (λ d. SameName d r) _ (get r.districts k) c (λ x at. tt) e
@@ -154,7 +154,8 @@ same_name (writes.InsertOrder k x) r c n e = subst (λ d. SameName d r) (some_in
 same_name (writes.InsertOrderLine k x) r c n e = subst (λ d. SameName d r) (some_inj _ _ e) tt
 same_name (writes.DeleteNewOrder k) r c n e = subst (λ d. SameName d r) (some_inj _ _ e) tt
 
-pub changed_named : (c : Change) (r : Rows) → SameName c r → (k : CustomerKey) → name_at (changed c r) k ≡ name_at r k
+pub changed_named : (c : Change) (r : Rows) → SameName c r → (k : CustomerKey) → name_at (rows_after c r) k
+    ≡ name_at r k
 changed_named (UpdateCustomer a x) r same k =
     ap name_in (at_changed (UpdateCustomer a x) r (key.Customer k)) ∙ go (is_key (key.Customer k) (key.Customer a)) refl
   where
@@ -283,7 +284,7 @@ named_first r n l a = record {
   commits = λ free. none_keep (name_at r) (newest (opened_view r n l) - a.since);
 }
 
-pub named_begun : (t : ℕ) (v : View) (a : Renames) → AreNamed v a → AreNamed (begun t v) a
+pub named_begun : (t : ℕ) (v : View) (a : Renames) → AreNamed v a → AreNamed (after_begin t v) a
 named_begun t v a h = record { names = h.names; now = h.now; active = h.active; commits = h.commits }
 
 -- locks have no part in it
@@ -314,7 +315,7 @@ named_noted w t v a b n h = record {
 
 -- a write was made
 module _ (t : ℕ) (c : Change) (v : View) (a : Renames) (h : AreNamed v a) where
-  named_kept : SameName c v.rows → AreNamed (made t c v) a
+  named_kept : SameName c v.rows → AreNamed (after_change t c v) a
   named_kept same = record {
     names = h.names;
     now = λ k. changed_named c v.rows same k ∙ h.now k;
@@ -328,14 +329,15 @@ module _ (t : ℕ) (c : Change) (v : View) (a : Renames) (h : AreNamed v a) wher
     commits = h.commits;
   }
 
-  named_renamed : MayMake (v.held t) t (suc (v.counts t)) c → IsSafe v → has a.open t ≡ true → AreNamed (made t c v) a
+  named_renamed : MayMake (v.held t) t (suc (v.counts t)) c → IsSafe v → has a.open t ≡ true
+      → AreNamed (after_change t c v) a
   named_renamed may s own = record {
-    names = name_at (changed c v.rows);
+    names = name_at (rows_after c v.rows);
     now = λ k. refl;
-    active = at_each (λ u bs. has a.open u ≡ false → KeepNames (name_at (changed c v.rows)) bs) t
+    active = at_each (λ u bs. has a.open u ≡ false → KeepNames (name_at (rows_after c v.rows)) bs) t
         (record_on system v.layout c v.rows ∷ v.undo.active t) v.undo.active
         (λ free. absurd (true≢false (sym own ∙ free))) (λ u ne free.
-        renamed_keep (v.held u) u (suc (v.counts u)) h.names (name_at (changed c v.rows))
+        renamed_keep (v.held u) u (suc (v.counts u)) h.names (name_at (rows_after c v.rows))
         (λ k owned. ap name_in (at_changed c v.rows (key.Customer k)
         ∙ other_row (is_key (key.Customer k) (key_of c)) (key.Customer k) (key_of c) refl
         (λ e. two_owners v s t u (suc (v.counts t)) (suc (v.counts u)) ne (governs (key_of c)) may.0
@@ -345,11 +347,12 @@ module _ (t : ℕ) (c : Change) (v : View) (a : Renames) (h : AreNamed v a) wher
     commits = λ free. absurd (true≢false (sym own ∙ free t));
   }
 
-pub named_made : (w : Write) (t : ℕ) (c : Change) (v : View) (a b : Renames) → written w v.rows ≡ Some c
-    → MayMake (v.held t) t (suc (v.counts t)) c → IsSafe v → Notes w t a b → AreNamed v a → AreNamed (made t c v) b
+pub named_made : (w : Write) (t : ℕ) (c : Change) (v : View) (a b : Renames) → change_of w v.rows ≡ Some c
+    → MayMake (v.held t) t (suc (v.counts t)) c → IsSafe v → Notes w t a b → AreNamed v a
+    → AreNamed (after_change t c v) b
 named_made w t c v a b found may s n h = go (is_rename w) refl
   where
-    go : (r : Bool) → is_rename w ≡ r → AreNamed (made t c v) b
+    go : (r : Bool) → is_rename w ≡ r → AreNamed (after_change t c v) b
     go true e = named_renamed t c v b (named_noted w t v a b n h) may s (n.own e)
     go false e = named_kept t c v b (named_noted w t v a b n h) (same_name w v.rows c e found)
 
@@ -410,7 +413,7 @@ module _ (t : ℕ) (v : View) (a b : Renames) where
       go (inr ne) = sym (f.others u ne) ∙ free u
 
   named_committed : (q : Request) (y : Reply) → t < terminal_limit → Forgets t (suc (newest v)) a b
-      → AreNamed v a → AreNamed (committed t q y v) b
+      → AreNamed v a → AreNamed (after_commit t q y v) b
   named_committed q y within f h = record {
     names = h.names;
     now = h.now;
@@ -419,13 +422,13 @@ module _ (t : ℕ) (v : View) (a b : Renames) where
     commits = λ free. go free (has a.open t) refl;
   }
     where
-      more : newest (committed t q y v) ≡ suc (newest v)
+      more : newest (after_commit t q y v) ≡ suc (newest v)
       more = total_bump terminal_limit t v.counts within
 
       go : ((u : ℕ) → has b.open u ≡ false) → (c : Bool) → has a.open t ≡ c
-          → AllKeepNames h.names (take (newest (committed t q y v) - b.since) (v.undo.active t ∷ v.undo.history))
+          → AllKeepNames h.names (take (newest (after_commit t q y v) - b.since) (v.undo.active t ∷ v.undo.history))
       go free true own =
-          after_newest h.names (newest (committed t q y v)) b.since (v.undo.active t ∷ v.undo.history)
+          after_newest h.names (newest (after_commit t q y v)) b.since (v.undo.active t ∷ v.undo.history)
           (f.moved own ∙ sym more)
       go free false own =
           subst (λ n. AllKeepNames h.names (take (n - b.since) (v.undo.active t ∷ v.undo.history))) (sym more)
@@ -434,13 +437,13 @@ module _ (t : ℕ) (v : View) (a b : Renames) where
           (sealed_keep h.names (newest v) a.since (v.undo.active t) v.undo.history (h.active t own)
           (h.commits (free_before f own free))))
 
-  named_rolled_back : IsSafe v → Forgets t (newest v) a b → AreNamed v a → AreNamed (rolled_back t v) b
+  named_rolled_back : IsSafe v → Forgets t (newest v) a b → AreNamed v a → AreNamed (after_rollback t v) b
   named_rolled_back s f h = go (has a.open t) refl
     where
       all : take (length (v.undo.active t)) (v.undo.active t) ≡ v.undo.active t
       all = take_all (length (v.undo.active t)) (v.undo.active t) (omega arith)
 
-      go : (c : Bool) → has a.open t ≡ c → AreNamed (rolled_back t v) b
+      go : (c : Bool) → has a.open t ≡ c → AreNamed (after_rollback t v) b
       go true own = record {
         names = name_at (unwind system (v.undo.active t) v.rows);
         now = λ k. refl;
@@ -462,20 +465,20 @@ module _ (t : ℕ) (v : View) (a b : Renames) where
       }
 
 -- the same of what the calls leave
-pub commit_named : (t k m : ℕ) (v w : View) (a b : Renames) (q : Request) (y : Reply) → w ≡ committed t q y v → k ≡ t
+pub commit_named : (t k m : ℕ) (v w : View) (a b : Renames) (q : Request) (y : Reply) → w ≡ after_commit t q y v → k ≡ t
     → t < terminal_limit → m ≡ suc (newest v) → Forgets k m a b → AreNamed v a → AreNamed w b
 commit_named t k m v w a b q y is own within newest_is f h =
     subst (λ z. AreNamed z b) (sym is)
     (named_committed t v a b q y within (subst (λ n. Forgets t n a b) newest_is (subst (λ u. Forgets u m a b) own f)) h)
 
-pub rollback_named : (t k m : ℕ) (v w : View) (a b : Renames) → w ≡ rolled_back t v → IsSafe v → k ≡ t → m ≡ newest w
+pub rollback_named : (t k m : ℕ) (v w : View) (a b : Renames) → w ≡ after_rollback t v → IsSafe v → k ≡ t → m ≡ newest w
     → Forgets k m a b → AreNamed v a → AreNamed w b
 rollback_named t k m v w a b is safe own newest_is f h =
     subst (λ z. AreNamed z b) (sym is)
     (named_rolled_back t v a b safe
     (subst (λ n. Forgets t n a b) (newest_is ∙ ap newest is) (subst (λ u. Forgets u m a b) own f)) h)
 
-pub named_purged : (m : ℕ) (v : View) (a : Renames) → AreNamed v a → AreNamed (purged_to m v) a
+pub named_purged : (m : ℕ) (v : View) (a : Renames) → AreNamed v a → AreNamed (after_purge m v) a
 named_purged m v a h = record {
   names = h.names;
   now = h.now;
@@ -484,13 +487,13 @@ named_purged m v a h = record {
 }
 
 pub named_rewound : (m : ℕ) (v : View) (a : Renames) → ((t : ℕ) → v.undo.active t ≡ [])
-    → a.since ≡ newest (rewound_to m v) → AreNamed (rewound_to m v) a
+    → a.since ≡ newest (after_rewind m v) → AreNamed (after_rewind m v) a
 named_rewound m v a empty is = record {
-  names = name_at (rewound_to m v).rows;
+  names = name_at (after_rewind m v).rows;
   now = λ k. refl;
-  active = λ t free. subst (KeepNames (name_at (rewound_to m v).rows)) (sym (empty t)) tt;
-  commits = λ free. after_newest (name_at (rewound_to m v).rows) (newest (rewound_to m v)) a.since
-      (rewound_to m v).undo.history is;
+  active = λ t free. subst (KeepNames (name_at (after_rewind m v).rows)) (sym (empty t)) tt;
+  commits = λ free. after_newest (name_at (after_rewind m v).rows) (newest (after_rewind m v)) a.since
+      (after_rewind m v).undo.history is;
 }
 
 -- so customers had their names at a moment

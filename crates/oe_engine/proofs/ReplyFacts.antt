@@ -17,8 +17,8 @@ use Rattle.oe_requests.specs.declared.refusals.Refusal.TheVariants.{NoSuchRow, I
 use Rattle.oe_model.specs.Keys.{warehouse_of_district, customer_in, order_in, new_order_in, line_in}
 use Rattle.oe_model.specs.Rows.{Rows}
 use Rattle.oe_model.specs.Changes.{Change, DeleteNewOrder}
-use Rattle.oe_model.specs.Effects.{Doing, given, within}
-use Rattle.oe_model.specs.Choice.{chosen}
+use Rattle.oe_model.specs.Effects.{Doing, with_value, within}
+use Rattle.oe_model.specs.Choice.{customer_meant}
 use Rattle.oe_model.specs.Positions.{Position, InPayment, InNewOrder, InDelivery, InDeliveries, DeliveriesEnd}
 use Rattle.oe_model.specs.Positions.{InRename, PaymentPosition, PaymentWarehouse, PaymentDistrict, PaymentNames}
 use Rattle.oe_model.specs.Positions.{PaymentCustomer, PaymentHistory, PaymentEnd, NewOrderPosition, NewOrderWarehouse}
@@ -34,7 +34,7 @@ use Rattle.oe_model.specs.Rename.{rename_act}
 use Rattle.oe_model.specs.System.{act}
 use Rattle.oe_engine.specs.Programs.{payment_reply, new_order_reply, district_reply, renamed_reply, reply_at}
 
-given_ready : {A : Type 0} (e : Refusal) (o : Option A) (f : A → Doing) (y : Reply) → given e o f ≡ Ready y
+given_ready : {A : Type 0} (e : Refusal) (o : Option A) (f : A → Doing) (y : Reply) → with_value e o f ≡ Ready y
     → (a : A) × (f a ≡ Ready y)
 given_ready e None f y h = let no : ⊥ = cc in absurd no
 given_ready e (Some a) f y h = (a, h)
@@ -55,7 +55,7 @@ payment_ready t k q (PaymentDistrict w) r y h =
     let (x, e) = given_ready (NoSuchRow (key.District q.district)) (get r.districts q.district) _ y h in
     absurd (goes _ _ y (within_ready _ _ y e))
 payment_ready t k q (PaymentNames w d) r y h =
-    let (c, e) = given_ready NoCustomer (chosen q.customer_district q.customer r.customers) _ y h in
+    let (c, e) = given_ready NoCustomer (customer_meant q.customer_district q.customer r.customers) _ y h in
     absurd (goes _ _ y e)
 payment_ready t k q (PaymentCustomer w d c) r y h =
     let (x, e) = given_ready NoCustomer (get r.customers (customer_in q.customer_district c)) _ y h in

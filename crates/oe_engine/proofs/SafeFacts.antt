@@ -12,14 +12,14 @@ use Rattle.oe_requests.specs.declared.replies.Reply.{Reply}
 use Rattle.oe_requests.specs.declared.requests.Request.{Request}
 use Rattle.oe_theory.specs.Machine.{Guard, Free, Under, Own, Take}
 use Rattle.oe_theory.specs.Machine as theory
-use Rattle.oe_theory.specs.World.{set, risen, go_together}
+use Rattle.oe_theory.specs.World.{set, greater_mode, go_together}
 use Rattle.oe_theory.specs.Next.{held_after, record_on}
 use Rattle.oe_theory.specs.Undo.{unwind}
 use Rattle.oe_theory.proofs.Sets.{set_same, set_other}
 use Rattle.oe_model.specs.Rows.{Rows, row_at}
 use Rattle.oe_model.specs.Changes.{Change, InsertHistory, InsertNewOrder, InsertOrder, InsertOrderLine, UpdateWarehouse}
 use Rattle.oe_model.specs.Changes.{UpdateDistrict, UpdateCustomer, UpdateOrder, UpdateOrderLine, UpdateStock}
-use Rattle.oe_model.specs.Changes.{DeleteNewOrder, key_of, changed, Record, record_key, put_back}
+use Rattle.oe_model.specs.Changes.{DeleteNewOrder, key_of, rows_after, Record, record_key, put_back}
 use Rattle.oe_rows.specs.declared.layouts.Layout.{Layout}
 use Rattle.oe_model.specs.Locks.{governs, is_name, mode_of}
 use Rattle.oe_model.specs.Meets.{Meets, Accepts}
@@ -37,8 +37,8 @@ use Rattle.oe_engine.specs.View.{View, view_from, opened_view}
 use Rattle.oe_engine.specs.Covered.{Owns, AreOwned, OwnsParts, OwnAllParts, IsUnused, MayMake, IsOwn, IsSafe}
 use Rattle.oe_journal.specs.GoesBack.{CanUnwind}
 use Rattle.oe_writes.specs.Asks.{ask_to_write}
-use Rattle.oe_engine.specs.Calls.{IsFree, IsBelow, begun, locked, made, put_mode, count_since, back_at}
-use Rattle.oe_engine.specs.Calls.{committed, rolled_back}
+use Rattle.oe_engine.specs.Calls.{IsFree, IsBelow, after_begin, with_lock, after_change, put_mode, count_since, back_at}
+use Rattle.oe_engine.specs.Calls.{after_commit, after_rollback}
 use Rattle.oe_engine.proofs.PartFacts.{free_is, locked_is}
 use Rattle.oe_engine.proofs.CoveredFacts.{RefersTo, AreApart, whole_made, made_unwinds, back_unwinds, can_go_back}
 use Rattle.oe_engine.proofs.FacetFacts.{more_parts, less_parts, left_if_lower, made_parts, parts_under, AreOthers}
@@ -141,12 +141,12 @@ safe_first r n l m = record {
   unwinds = λ ts. none_unwinds [] ts r m tt;
 }
 
-pub safe_begun : (t : ℕ) (v : View) → IsSafe v → IsSafe (begun t v)
+pub safe_begun : (t : ℕ) (v : View) → IsSafe v → IsSafe (after_begin t v)
 safe_begun t v s = record { owned = s.owned; parts = s.parts; alone = s.alone; unwinds = s.unwinds }
 
 -- a change was made and recorded
 pub safe_made : (t : ℕ) (c : Change) (v : View) → Accepts c v.rows → MayMake (v.held t) t (suc (v.counts t)) c
-    → OwnsParts (v.held t) v.rows (changed c v.rows) → IsSafe v → IsSafe (made t c v)
+    → OwnsParts (v.held t) v.rows (rows_after c v.rows) → IsSafe v → IsSafe (after_change t c v)
 safe_made t c v a m holds s =
     let key = in_layout_key v.layout c (row_at v.rows (key_of c)) in
     let own : Owns (v.held t) t (suc (v.counts t)) (governs (record_key (record_on system v.layout c v.rows))) =
@@ -155,7 +155,7 @@ safe_made t c v a m holds s =
       owned = at_each (λ u bs. AreOwned (v.held u) u (suc (v.counts u)) bs) t
           (record_on system v.layout c v.rows ∷ v.undo.active t) v.undo.active
           (own, whole_made v.layout c v.rows a, s.owned t) (λ u ne. s.owned u);
-      parts = at_each (λ u bs. OwnAllParts (v.held u) bs (changed c v.rows)) t
+      parts = at_each (λ u bs. OwnAllParts (v.held u) bs (rows_after c v.rows)) t
           (record_on system v.layout c v.rows ∷ v.undo.active t) v.undo.active
           (made_parts (v.held t) v.layout c (v.undo.active t) v.rows holds (s.parts t))
           (λ u ne. parts_under (v.held u) c (v.undo.active u) v.rows
@@ -177,7 +177,7 @@ more_owned held now t k more (b ∷ bs) h = (go (governs (record_key b)) h.0, h.
     go (Under n) o = more n o
     go (Own u j) o = o
 
-risen_exclusive : (m : theory.Mode) → risen m (Some theory.Exclusive) ≡ theory.Exclusive
+risen_exclusive : (m : theory.Mode) → greater_mode m (Some theory.Exclusive) ≡ theory.Exclusive
 risen_exclusive theory.Shared = refl
 risen_exclusive theory.Exclusive = refl
 
@@ -189,9 +189,10 @@ taken_alone held n = ap (λ b. cond b (Some theory.Exclusive) (held n)) (model.n
 pub still_exclusive : (held : Name → Option theory.Mode) (n : Name) (m : theory.Mode) (q : Name)
     → held q ≡ Some theory.Exclusive → held_after system (Take n m) held q ≡ Some theory.Exclusive
 still_exclusive held n m q e =
-    ap (λ o. cond (is_name q n) (Some (risen m o)) o) e ∙ go (is_name q n)
+    ap (λ o. cond (is_name q n) (Some (greater_mode m o)) o) e ∙ go (is_name q n)
   where
-    go : (b : Bool) → cond b (Some (risen m (Some theory.Exclusive))) (Some theory.Exclusive) ≡ Some theory.Exclusive
+    go : (b : Bool) → cond b (Some (greater_mode m (Some theory.Exclusive))) (Some theory.Exclusive)
+        ≡ Some theory.Exclusive
     go true = ap Some (risen_exclusive m)
     go false = refl
 
@@ -204,7 +205,7 @@ never_together : (m : theory.Mode) → go_together m (Some theory.Exclusive) ≡
 never_together theory.Shared e = cc
 never_together theory.Exclusive e = cc
 
-risen_from : (m : theory.Mode) (o : Option theory.Mode) → Some (risen m o) ≡ Some theory.Exclusive
+risen_from : (m : theory.Mode) (o : Option theory.Mode) → Some (greater_mode m o) ≡ Some theory.Exclusive
     → (m ≡ theory.Exclusive) ⊎ (o ≡ Some theory.Exclusive)
 risen_from theory.Exclusive o e = inl refl
 risen_from theory.Shared None e = let no : ⊥ = cc in absurd no
@@ -212,7 +213,7 @@ risen_from theory.Shared (Some k) e = inr e
 
 -- a name was taken that is free
 pub safe_locked : (t : ℕ) (n : Name) (m : theory.Mode) (v : View) → IsFree v t (Take n m) → IsSafe v
-    → IsSafe (locked t n m v)
+    → IsSafe (with_lock t n m v)
 safe_locked t n m v free s = record {
   owned = at_each (λ u held. AreOwned held u (suc (v.counts u)) (v.undo.active u)) t
       (held_after system (Take n m) (v.held t)) v.held
@@ -233,7 +234,7 @@ safe_locked t n m v free s = record {
 }
   where
     mine : (u : ℕ) → u ≢ t → (q : Name) (b : Bool) → is_name q n ≡ b
-        → cond b (Some (risen m (v.held t q))) (v.held t q) ≡ Some theory.Exclusive → v.held u q ≡ None
+        → cond b (Some (greater_mode m (v.held t q))) (v.held t q) ≡ Some theory.Exclusive → v.held u q ≡ None
     mine u ne q true same e = go (risen_from m (v.held t q) e)
       where
         go : (m ≡ theory.Exclusive) ⊎ (v.held t q ≡ Some theory.Exclusive) → v.held u q ≡ None
@@ -244,7 +245,7 @@ safe_locked t n m v free s = record {
     mine u ne q false same e = s.alone t u q ne e
 
     theirs : (u : ℕ) → u ≢ t → (q : Name) (b : Bool) → is_name q n ≡ b → v.held u q ≡ Some theory.Exclusive
-        → cond b (Some (risen m (v.held t q))) (v.held t q) ≡ None
+        → cond b (Some (greater_mode m (v.held t q))) (v.held t q) ≡ None
     theirs u ne q true same e =
         absurd (never_together m
         (subst (λ o. go_together m o ≡ true) e
@@ -364,7 +365,7 @@ are_others v s t (a ∷ gone) own u ne = (
 )
 
 -- a transaction was committed
-pub safe_committed : (t : ℕ) (q : Request) (y : Reply) (v : View) → IsSafe v → IsSafe (committed t q y v)
+pub safe_committed : (t : ℕ) (q : Request) (y : Reply) (v : View) → IsSafe v → IsSafe (after_commit t q y v)
 safe_committed t q y v s = record {
   owned = λ u. go u (cases_eq u t);
   parts = parts_gone t v v.rows (λ u ne. s.parts u);
@@ -414,7 +415,7 @@ safe_back t mark v s =
     }
 
 -- or rolled back
-pub safe_rolled_back : (t : ℕ) (v : View) → IsSafe v → IsSafe (rolled_back t v)
+pub safe_rolled_back : (t : ℕ) (v : View) → IsSafe v → IsSafe (after_rollback t v)
 safe_rolled_back t v s = record {
   owned = λ u. go u (cases_eq u t);
   parts = parts_gone t v (unwind system (v.undo.active t) v.rows) (λ u ne.

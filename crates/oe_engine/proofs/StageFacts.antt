@@ -16,7 +16,7 @@ use Rattle.oe_model.specs.Changes.{Change}
 use Rattle.oe_model.specs.Positions.{Position}
 use Rattle.oe_model.specs.System.{system, yields}
 use Rattle.oe_engine.specs.View.{EngineState, view_of, Handle, IsOpen}
-use Rattle.oe_engine.specs.Calls.{IsFree, IsFullFor, IsFullForAny, stage_done, AcceptsAll}
+use Rattle.oe_engine.specs.Calls.{IsFree, IsFullFor, IsFullForAny, after_stage, AcceptsAll}
 use Rattle.oe_engine.specs.Calls.{StageRefused, WantsPlace}
 use Rattle.oe_engine.specs.Programs.{ask_here, act_here, GoesOn, WantsMemory, IsRefused}
 use Rattle.oe_change.specs.declared.writes.Write.{Write}
@@ -28,7 +28,7 @@ use Rattle.oe_engine.proofs.WriteFacts.{of_change}
 pub goes_on : (s s' : EngineState) (x : Handle) (a : Ask Name Refusal) (c : Option Change) → IsOpen s x
     → IsFree (view_of s) x.terminal a
     → AcceptsAll c (view_of s).rows → (IsFullForAny (view_of s) x.terminal c → ⊥)
-    → view_of s' ≡ stage_done x.terminal a c (view_of s) → s'.name ≡ s.name
+    → view_of s' ≡ after_stage x.terminal a c (view_of s) → s'.name ≡ s.name
     → (q : Request) (p p' : Position) → ask_here s x q p ≡ a → act_here s x q p ≡ Go c p' → GoesOn s x q p s' p'
 goes_on s s' x a c o free accepted room done same q p p' asks does =
     record {
@@ -38,7 +38,7 @@ goes_on s s' x a c o free accepted room done same q p p' asks does =
       does = does;
       accepted = accepted;
       room = room;
-      done = done ∙ ap (λ b. stage_done x.terminal b c (view_of s)) (sym asks);
+      done = done ∙ ap (λ b. after_stage x.terminal b c (view_of s)) (sym asks);
       name = same;
     }
 

@@ -27,7 +27,7 @@ use Rattle.oe_change.specs.declared.writes.Write.TheVariants.{BadCredit, Custome
 use Rattle.oe_change.specs.declared.writes.Write.TheVariants.{DeliveryDate}
 use Rattle.oe_change.specs.declared.writes.Write.TheVariants.{InsertHistory, InsertNewOrder, InsertOrder}
 use Rattle.oe_change.specs.declared.writes.Write.TheVariants.{InsertOrderLine, DeleteNewOrder}
-use Rattle.oe_change.specs.Writes.{key_written, written}
+use Rattle.oe_change.specs.Writes.{key_written, change_of}
 use Rattle.oe_store.specs.Places.{Places, rows}
 use Rattle.oe_change.specs.Applies.{Refuses, IsFirst}
 use Rattle.oe_log.specs.Log.{IsFull, SegmentLog}
@@ -37,7 +37,7 @@ use Rattle.oe_writes.proofs.RecordFacts.{recorded, update, history_in, new_order
 use Rattle.oe_writes.proofs.RecordFacts.{deleted_in}
 use Rattle.oe_engine.specs.View.{EngineState, View, view_from, view_of, Handle, IsOpen}
 use Rattle.oe_engine.specs.Covered.{Owns, HoldsOrder, MayMake, IsOwn}
-use Rattle.oe_engine.specs.Calls.{IsFree, IsFullFor, locked, made, ChangeRefused, StageRefused}
+use Rattle.oe_engine.specs.Calls.{IsFree, IsFullFor, with_lock, after_change, ChangeRefused, StageRefused}
 use Rattle.oe_writes.specs.Asks.{ask_of_write}
 use Rattle.oe_engine.specs.Writes.{change_written, HoldsBeside, MayWrite, AbsentRowRefused, WantsRow}
 use Rattle.oe_engine.specs.Writes.{IsMade, Writes}
@@ -66,7 +66,8 @@ module _ (P : Change → Type 0) where
 abbrev IsOf : Rows → (Name → Option theory.Mode) → Write → Change → Type 0
 IsOf r held w c = (key_of c ≡ key_written w) × (HoldsBeside r held w → HoldsOrder held c)
 
-is_of : (held : Name → Option theory.Mode) (w : Write) (r : Rows) (c : Change) → written w r ≡ Some c → IsOf r held w c
+is_of : (held : Name → Option theory.Mode) (w : Write) (r : Rows) (c : Change) → change_of w r ≡ Some c
+    → IsOf r held w c
 is_of held (WarehouseYtd k y) r c e = of_row (IsOf r held (WarehouseYtd k y)) _ (get r.warehouses k) c
     (λ x. (refl, λ h. tt)) e
 is_of held (DistrictYtd k y) r c e = of_row (IsOf r held (DistrictYtd k y)) _ (get r.districts k) c
@@ -90,7 +91,7 @@ is_of held (InsertOrderLine k x) r c e = of_this (IsOf r held (InsertOrderLine k
 is_of held (DeleteNewOrder k) r c e = of_this (IsOf r held (DeleteNewOrder k)) _ c (refl, λ h. tt) e
 
 -- so a transaction that may make the write may make the change
-pub may_make : (held : Name → Option theory.Mode) (t k : ℕ) (w : Write) (r : Rows) (c : Change) → written w r ≡ Some c
+pub may_make : (held : Name → Option theory.Mode) (t k : ℕ) (w : Write) (r : Rows) (c : Change) → change_of w r ≡ Some c
     → MayWrite r held t k w → MayMake held t k c
 may_make held t k w r c e may =
     let (same, holds) = is_of held w r c e in
@@ -122,7 +123,7 @@ may_write v t w own order =
 
 pub may_after : (t : ℕ) (n : Name) (m : theory.Mode) (w : Write) (v : View)
     → MayWrite v.rows (held_after system (Take n m) (v.held t)) t (suc (v.counts t)) w
-    → MayWrite v.rows ((locked t n m v).held t) t (suc ((locked t n m v).counts t)) w
+    → MayWrite v.rows ((with_lock t n m v).held t) t (suc ((with_lock t n m v).counts t)) w
 may_after t n m w v h = subst (λ held. MayWrite v.rows held t (suc (v.counts t)) w)
     (sym (set_at t (held_after system (Take n m) (v.held t)) v.held)) h
 
@@ -149,7 +150,7 @@ as_long l r o c b e i =
     subst (λ z. record_length z ≤ record_length (record_on system l c r)) (some_inj _ _ (sym (update l r o c e) ∙ i))
     (no_less _)
 
-no_longer : (l : Layout) (w : Write) (r : Rows) (c : Change) (b : Record) → written w r ≡ Some c
+no_longer : (l : Layout) (w : Write) (r : Rows) (c : Change) (b : Record) → change_of w r ≡ Some c
     → record_of_write l w r ≡ Some b → IsNoLonger l r c b
 no_longer l (WarehouseYtd k y) r c b = as_long l r _ c b
 no_longer l (DistrictYtd k y) r c b = as_long l r _ c b
@@ -187,7 +188,7 @@ full_as : (u : SegmentLog) (t m n : ℕ) → m ≤ n → IsFull u t m → IsFull
 full_as u t m n h f = (omega (arith, h, f.0), f.1)
 
 module _ (w : Write) (s : Places) (u : SegmentLog) (t : ℕ) where
-  full_write : (c : Change) → written w (rows s) ≡ Some c → (o : Option Record)
+  full_write : (c : Change) → change_of w (rows s) ≡ Some c → (o : Option Record)
       → record_of_write u.layout w (rows s) ≡ o
       → IsSomeAnd o (λ b. IsFull u t (record_length b))
       → IsFull u t (record_length (record_on system u.layout c (rows s)))
@@ -197,14 +198,14 @@ module _ (w : Write) (s : Places) (u : SegmentLog) (t : ℕ) where
       (no_longer u.layout w (rows s) c b found e) h
 
   -- where there is a record, the row is there
-  pub refused_written : (c : Change) (e : Refusal) → written w (rows s) ≡ Some c → CantWrite w s u t e
+  pub refused_written : (c : Change) (e : Refusal) → change_of w (rows s) ≡ Some c → CantWrite w s u t e
       → ChangeRefused c (rows s) e
   refused_written c _ found (Absent a) = let no : ◌≡◌ {A = Option Change} None (Some c) = sym a ∙ found in cc
   refused_written c _ found (Full h) = tt
   refused_written c e found (Refused _ room h) =
       refused_so c s e (of_change (λ d. Refuses d s e × IsFirst d (rows s) e) _ c found h).0
 
-  pub refused_full : (c : Change) (e : Refusal) → written w (rows s) ≡ Some c → CantWrite w s u t e → e ≡ UndoFull
+  pub refused_full : (c : Change) (e : Refusal) → change_of w (rows s) ≡ Some c → CantWrite w s u t e → e ≡ UndoFull
       → IsFull u t (record_length (record_on system u.layout c (rows s)))
   refused_full c _ found (Absent a) same = let no : ◌≡◌ {A = Option Change} None (Some c) = sym a ∙ found in cc
   refused_full c _ found (Full h) same = full_write c found _ refl h
@@ -215,19 +216,19 @@ module _ (w : Write) (s : Places) (u : SegmentLog) (t : ℕ) where
       never_full : (d : Change) → Refuses d s UndoFull → ⊥
       never_full d h = h
 
-  pub wants_row : (e : Refusal) → CantWrite w s u t e → e ≡ NoMemory → WantsRow (written w (rows s)) s
+  pub wants_row : (e : Refusal) → CantWrite w s u t e → e ≡ NoMemory → WantsRow (change_of w (rows s)) s
   wants_row _ (Absent a) same = let no : ⊥ = cc in absurd no
   wants_row _ (Full h) same = let no : ⊥ = cc in absurd no
-  wants_row e (Refused _ room h) same = wants_here (written w (rows s)) h
+  wants_row e (Refused _ room h) same = wants_here (change_of w (rows s)) h
     where
       wants_here : (o : Option Change) → IsSomeAnd o (λ d. Refuses d s e × IsFirst d (rows s) e) → WantsRow o s
       wants_here None k = absurd k
       wants_here (Some d) k = subst (Refuses d s) same k.0
 
 -- a write whose row is absent has no record
-none_recorded : (l : Layout) (P : Record → Type 0) (w : Write) (r : Rows) → written w r ≡ None
+none_recorded : (l : Layout) (P : Record → Type 0) (w : Write) (r : Rows) → change_of w r ≡ None
     → IsSomeAnd (record_of_write l w r) P → ⊥
-none_recorded l P w r absent h = is_none (written w r) absent (recorded l w r (is_some_of (record_of_write l w r) h))
+none_recorded l P w r absent h = is_none (change_of w r) absent (recorded l w r (is_some_of (record_of_write l w r) h))
   where
     is_some_of : (o : Option Record) → IsSomeAnd o P → IsSome o
     is_some_of None h = absurd h
@@ -237,7 +238,7 @@ none_recorded l P w r absent h = is_none (written w r) absent (recorded l w r (i
     is_none None e h = let no : ⊥ = cc in no
     is_none (Some c) e h = let no : ⊥ = cc in no
 
-pub refused_absent : (w : Write) (s : Places) (u : SegmentLog) (t : ℕ) (e : Refusal) → written w (rows s) ≡ None
+pub refused_absent : (w : Write) (s : Places) (u : SegmentLog) (t : ℕ) (e : Refusal) → change_of w (rows s) ≡ None
     → CantWrite w s u t e → e ≡ NoSuchRow (key_written w)
 refused_absent w s u t _ absent (Absent a) = refl
 refused_absent w s u t _ absent (Full h) = absurd (none_recorded u.layout _ w (rows s) absent h)
@@ -256,7 +257,7 @@ module _ (s : EngineState) (x : Handle) where
 
 -- a write behind the lock that was taken for it
 module _ (s s₁ s₂ : EngineState) (x : Handle) (n : Name) (m : theory.Mode) (w : Write) (o : IsOpen s x)
-    (free : IsFree (view_of s) x.terminal (Take n m)) (taken : view_of s₁ ≡ locked x.terminal n m (view_of s))
+    (free : IsFree (view_of s) x.terminal (Take n m)) (taken : view_of s₁ ≡ with_lock x.terminal n m (view_of s))
     (stored : s₁.tables ≡ s.tables) (same : s₁.name ≡ s.name) where
   now : IsOpen s₁ x
   now = record { engine = o.engine ∙ sym same; terminal = ap (λ (v : View). v.is_open x.terminal) taken ∙ o.terminal }
@@ -265,7 +266,7 @@ module _ (s s₁ s₂ : EngineState) (x : Handle) (n : Name) (m : theory.Mode) (
   same_rows = ap (λ (v : View). v.rows) taken
 
   found_there : (c : Option Change) → change_written w (view_of s) ≡ c → change_written w (view_of s₁) ≡ c
-  found_there c found = ap (written w) same_rows ∙ found
+  found_there c found = ap (change_of w) same_rows ∙ found
 
   made_there : (c : Change) → IsMade s₁ x Plain c s₂ → IsMade s x (Take n m) c s₂
   made_there c h = record {
@@ -273,14 +274,15 @@ module _ (s s₁ s₂ : EngineState) (x : Handle) (n : Name) (m : theory.Mode) (
     free = free;
     accepted = subst (Accepts c) same_rows h.accepted;
     room = λ full. h.room (subst (λ v. IsFullFor v x.terminal c) (sym taken) full);
-    done = h.done ∙ change_done x.terminal c (view_of s₁) ∙ ap (λ v. made x.terminal c v) taken;
+    done = h.done ∙ change_done x.terminal c (view_of s₁) ∙ ap (λ v. after_change x.terminal c v) taken;
   }
 
   pub made_behind : Writes s₁ x Plain w (Ok tt) s₂ → Writes s x (Take n m) w (Ok tt) s₂
   made_behind h =
       let (c, found, is) = at_change _ _ h.made in
       record {
-        made = subst (λ z. IsSomeAnd z (λ d. IsMade s x (Take n m) d s₂)) (sym (ap (written w) (sym same_rows) ∙ found))
+        made = subst (λ z. IsSomeAnd z (λ d. IsMade s x (Take n m) d s₂))
+            (sym (ap (change_of w) (sym same_rows) ∙ found))
             (made_there c is);
         cause = λ d _. tt;
         absent = λ _. tt;
@@ -304,6 +306,6 @@ module _ (s s₁ s₂ : EngineState) (x : Handle) (n : Name) (m : theory.Mode) (
     cause = λ c found. cause_there c e (h.cause c (found_there (Some c) found));
     absent = λ none. absent_there (key_written w) e (h.absent (found_there None none));
     full = λ c found is. subst (λ v. IsFullFor v x.terminal c) taken (h.full c (found_there (Some c) found) is);
-    wants = λ _ is. subst (λ ts. WantsRow (written w (rows ts)) ts) stored (h.wants (λ never. never) is);
+    wants = λ _ is. subst (λ ts. WantsRow (change_of w (rows ts)) ts) stored (h.wants (λ never. never) is);
     unchanged = back;
   }

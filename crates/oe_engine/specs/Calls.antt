@@ -4,7 +4,7 @@ use Rattle.std.specs.Prelude.{Some, IsSome, is_some, length, take, drop}
 use Rattle.oe_theory.specs.Machine.{Ask, Stop, Plain, Take, Guard, Free, Under, Own}
 use Rattle.oe_theory.specs.Machine as theory
 use Rattle.oe_theory.specs.World.{go_together, set, bump, total}
-use Rattle.oe_theory.specs.Next.{held_after, record_on, filled, IsNew}
+use Rattle.oe_theory.specs.Next.{held_after, record_on, fill_of, IsNew}
 use Rattle.oe_theory.specs.Undo.{unwind, unwind_commits, put_records, lengths_of, used_of}
 use Rattle.oe_theory.specs.Store.{Slot, with_change_of, with_record_of, count_slots, counts_before}
 use Rattle.oe_rows.specs.declared.locks.Name.{Name}
@@ -14,7 +14,7 @@ use Rattle.oe_requests.specs.declared.refusals.Refusal.{Refusal}
 use Rattle.oe_requests.specs.declared.refusals.Refusal.TheVariants.{Busy, UndoFull, NotOpen, AlreadyOpen, NoMemory}
 use Rattle.oe_requests.specs.declared.refusals.Refusal.TheVariants.{NotQuiet}
 use Rattle.oe_model.specs.Rows.{Rows}
-use Rattle.oe_model.specs.Changes.{Change, Record, changed}
+use Rattle.oe_model.specs.Changes.{Change, Record, rows_after}
 use Rattle.oe_model.specs.Meets.{Accepts, Cause}
 use Rattle.oe_model.specs.Locks.{mode_of, is_name}
 use Rattle.oe_model.specs.Requests.{number_rejection}
@@ -50,8 +50,8 @@ IsBusy v t l (Busy n u) = (n ≡ l.name) × IsInTheWay v t n (mode_of l.mode) u
 IsBusy v t l e = ⊥
 
 -- a transaction begun
-abbrev pub begun : ℕ → View → View
-begun t v = record v { is_open = set t true v.is_open }
+abbrev pub after_begin : ℕ → View → View
+after_begin t v = record v { is_open = set t true v.is_open }
 
 -- why one can't begin; the first in this order is named: one is open already, its number is past the range, memory is
 -- wanted
@@ -61,13 +61,13 @@ CantBegin v t NoMemory = (v.is_open t ≡ false) × (number_rejection (suc (v.co
 CantBegin v t e = (v.is_open t ≡ false) × (number_rejection (suc (v.counts t)) ≡ Some e)
 
 -- a name taken in a mode, or risen to it
-abbrev pub locked : ℕ → Name → theory.Mode → View → View
-locked t n m v = record v { held = set t (held_after system (Take n m) (v.held t)) v.held }
+abbrev pub with_lock : ℕ → Name → theory.Mode → View → View
+with_lock t n m v = record v { held = set t (held_after system (Take n m) (v.held t)) v.held }
 
 -- a change made and recorded
-abbrev pub made : ℕ → Change → View → View
-made t c v = record v {
-  rows = changed c v.rows;
+abbrev pub after_change : ℕ → Change → View → View
+after_change t c v = record v {
+  rows = rows_after c v.rows;
   undo = put_records system t (record_on system v.layout c v.rows ∷ v.undo.active t) v.undo;
 }
 
@@ -76,8 +76,8 @@ abbrev pub put_mode : ℕ → Name → Option theory.Mode → View → View
 put_mode t n m v = record v { held = set t (λ q. cond (is_name q n) m (v.held t q)) v.held }
 
 -- a stage done: its lock taken, its change made and recorded
-abbrev pub stage_done : ℕ → Ask Name Refusal → Option Change → View → View
-stage_done t a c v = record v {
+abbrev pub after_stage : ℕ → Ask Name Refusal → Option Change → View → View
+after_stage t a c v = record v {
   rows = with_change_of system c v.rows;
   undo = put_records system t (with_record_of system v.layout c v.rows (v.undo.active t)) v.undo;
   held = set t (held_after system a (v.held t)) v.held;
@@ -92,7 +92,7 @@ LockRefused v t n m e = ⊥
 -- the record of a change of the rows as they are fits neither the rest of its transaction's last extent nor a free one
 abbrev pub IsFullFor : View → ℕ → Change → Type 0
 IsFullFor v t c =
-    ((filled system (lengths_of system (v.undo.active t))).1 < system.size_of (record_on system v.layout c v.rows))
+    ((fill_of system (lengths_of system (v.undo.active t))).1 < system.size_of (record_on system v.layout c v.rows))
     × (v.extents ≤ used_of system v.undo)
 
 -- it has no room for the record of a stage's change, if the stage makes one
@@ -158,20 +158,20 @@ back_at t mark v = record v {
 }
 
 -- a transaction gone: it is no longer open and holds nothing
-abbrev pub gone : ℕ → View → View
-gone t v = record v { held = set t (λ _. None) v.held; is_open = set t false v.is_open }
+abbrev pub after_end : ℕ → View → View
+after_end t v = record v { held = set t (λ _. None) v.held; is_open = set t false v.is_open }
 
 -- a transaction committed: its records sealed at the newest moment
-abbrev pub committed : ℕ → Request → Reply → View → View
-committed t q y v = record (gone t v) {
+abbrev pub after_commit : ℕ → Request → Reply → View → View
+after_commit t q y v = record (after_end t v) {
   undo = record { active = set t [] v.undo.active; history = v.undo.active t ∷ v.undo.history };
   seals = record { tx = record { terminal = t; number = suc (v.counts t); request = q }; reply = y } ∷ v.seals;
   counts = bump t v.counts;
 }
 
 -- a transaction rolled back: its records put back and dropped
-abbrev pub rolled_back : ℕ → View → View
-rolled_back t v = record (gone t v) {
+abbrev pub after_rollback : ℕ → View → View
+after_rollback t v = record (after_end t v) {
   rows = unwind system (v.undo.active t) v.rows;
   undo = put_records system t [] v.undo;
 }
@@ -207,15 +207,15 @@ abbrev pub records_up_to : ℕ → View → List (List Record)
 records_up_to m v = drop (newest v - m) v.undo.history
 
 -- the records and seals of the commits up to a moment gone
-abbrev pub purged_to : ℕ → View → View
-purged_to m v = record v {
+abbrev pub after_purge : ℕ → View → View
+after_purge m v = record v {
   undo = record { active = v.undo.active; history = take (newest v - m) v.undo.history };
   seals = take (newest v - m) v.seals;
 }
 
 -- the commits after a moment undone, and no longer counted
-abbrev pub rewound_to : ℕ → View → View
-rewound_to m v = record v {
+abbrev pub after_rewind : ℕ → View → View
+after_rewind m v = record v {
   rows = unwind_commits system (take (newest v - m) v.undo.history) v.rows;
   undo = record { active = v.undo.active; history = drop (newest v - m) v.undo.history };
   seals = drop (newest v - m) v.seals;

@@ -18,12 +18,12 @@ use Rattle.oe_model.specs.Positions.{Position, InPayment, InNewOrder, InDelivery
 use Rattle.oe_model.specs.Positions.{InRename, PaymentPosition, PaymentEnd, NewOrderPosition, NewOrderStock}
 use Rattle.oe_model.specs.Positions.{DeliveryPosition, DeliveryNothing, DeliveryEnd, RenamePosition, RenameEnd}
 use Rattle.oe_model.specs.NewOrder.{ordered_reply}
-use Rattle.oe_model.specs.Delivery.{delivered}
+use Rattle.oe_model.specs.Delivery.{delivery_of_order}
 use Rattle.oe_model.specs.Deliveries.{among_ten}
 use Rattle.oe_model.specs.Rename.{rename_reply}
 use Rattle.oe_model.specs.System.{system, ask, act, yields}
 use Rattle.oe_engine.specs.View.{EngineState, view_of, Handle, IsOpen}
-use Rattle.oe_engine.specs.Calls.{IsFree, IsInTheWay, IsFullFor, IsFullForAny, stage_done, AcceptsAll, WantsPlace}
+use Rattle.oe_engine.specs.Calls.{IsFree, IsInTheWay, IsFullFor, IsFullForAny, after_stage, AcceptsAll, WantsPlace}
 use Rattle.oe_writes.specs.declared.locks.Lock.{Lock}
 use Rattle.oe_engine.specs.declared.programs.Progress.{Progress}
 use Rattle.oe_engine.specs.declared.programs.Progress.TheVariants as progress
@@ -40,10 +40,10 @@ abbrev pub act_here : EngineState → Handle → Request → Position → Act Ch
 act_here s x q p = act (tx_of s x q) p (view_of s).rows
 
 -- the lock that a stage asks for, where it asks for one
-abbrev pub wanted : Ask (system.Name) Refusal → Option (Hold (system.Name))
-wanted (Stop e) = None
-wanted Plain = None
-wanted (Take n m) = Some (hold n m)
+abbrev pub lock_asked : Ask (system.Name) Refusal → Option (Hold (system.Name))
+lock_asked (Stop e) = None
+lock_asked Plain = None
+lock_asked (Take n m) = Some (hold n m)
 
 abbrev pub hold_of : Lock → Hold (system.Name)
 hold_of l = hold l.name (mode_of l.mode)
@@ -61,7 +61,7 @@ pub record GoesOn (s : EngineState) (x : Handle) (q : Request) (p : Position) (s
   pub does : act_here s x q p ≡ Go change p'
   pub accepted : AcceptsAll change (view_of s).rows
   pub room : IsFullForAny (view_of s) x.terminal change → ⊥
-  pub done : view_of s' ≡ stage_done x.terminal (ask_here s x q p) change (view_of s)
+  pub done : view_of s' ≡ after_stage x.terminal (ask_here s x q p) change (view_of s)
   pub name : s'.name ≡ s.name
 
 -- the reply of a program that has come to its end, by its position
@@ -76,7 +76,7 @@ new_order_reply _ = None
 -- what a district answers at its end
 abbrev pub district_reply : DeliveryPosition → Option DistrictDelivery
 district_reply DeliveryNothing = Some Skipped
-district_reply (DeliveryEnd o c sum) = Some (delivered o c sum)
+district_reply (DeliveryEnd o c sum) = Some (delivery_of_order o c sum)
 district_reply _ = None
 
 abbrev pub renamed_reply : RenameRequest → RenamePosition → Option Reply

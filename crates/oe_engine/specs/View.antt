@@ -14,7 +14,7 @@ use Rattle.oe_log.specs.Log.{active_at}
 use Rattle.oe_log.specs.Log as undo
 use Rattle.oe_log.specs.Stands.{undo_of, seals_of, counts_of}
 use Rattle.oe_undo.specs.Links.{LinkMaps}
-use Rattle.oe_locks.specs.Held.{Holdings, held}
+use Rattle.oe_locks.specs.Held.{Holdings, mode_held}
 use Rattle.oe_engine.specs.declared.renames.Renames.{Renames}
 
 -- the rows as they are, open work included; the undo records of open transactions and of commits; the commits, newest
@@ -37,7 +37,7 @@ view_from ts u ls = record {
   undo = undo_of u;
   seals = seals_of u;
   counts = counts_of u;
-  held = λ t n. option_map mode_of (held ls t n);
+  held = λ t n. option_map mode_of (mode_held ls t n);
   is_open = λ t. is_some (active_at u t);
   extents = u.extents;
   layout = u.layout;

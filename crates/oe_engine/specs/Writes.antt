@@ -20,15 +20,15 @@ use Rattle.oe_model.specs.Locks.{governs}
 use Rattle.oe_model.specs.Rename.{names_of}
 use Rattle.oe_change.specs.declared.writes.Write.{Write}
 use Rattle.oe_change.specs.declared.writes.Write.TheVariants.{CustomerNames, InsertNewOrder}
-use Rattle.oe_change.specs.Writes.{key_written, written}
+use Rattle.oe_change.specs.Writes.{key_written, change_of}
 use Rattle.oe_store.specs.Places as tables
 use Rattle.oe_engine.specs.View.{EngineState, View, view_of, Handle, IsOpen}
 use Rattle.oe_engine.specs.Covered.{Owns}
-use Rattle.oe_engine.specs.Calls.{IsFree, IsInTheWay, IsFullFor, stage_done, StageRefused, WantsPlace}
+use Rattle.oe_engine.specs.Calls.{IsFree, IsInTheWay, IsFullFor, after_stage, StageRefused, WantsPlace}
 
 -- the change that it is of the rows as they are, if its row is there
 abbrev pub change_written : Write → View → Option Change
-change_written w v = written w v.rows
+change_written w v = change_of w v.rows
 
 -- beside the name of its row, whoever inserts a NEW-ORDER row holds the name of its order, and whoever gives a customer
 -- other names holds alone who has the last name that it gives, and who has the last name that the customer has
@@ -67,7 +67,7 @@ pub record IsMade (s : EngineState) (x : Handle) (a : Ask Name Refusal) (c : Cha
   -- its record had room
   pub room : IsFullFor (view_of s) x.terminal c → ⊥
   -- the lock is taken now, and the change made and recorded; nothing else has changed
-  pub done : view_of s' ≡ stage_done x.terminal a (Some c) (view_of s)
+  pub done : view_of s' ≡ after_stage x.terminal a (Some c) (view_of s)
 
 -- what became of a write of a transaction that asks for this lock
 pub record Writes (s : EngineState) (x : Handle) (a : Ask Name Refusal) (w : Write) (r : Result (Unit {0}) Refusal)

@@ -9,7 +9,7 @@ ghost use Rattle.oe_locks.specs.Held.{names_of};
 ghost use Rattle.oe_locks.specs.Listed.{stands, AreOnce};
 ghost use Rattle.oe_engine.specs.View.{view_of, IsOpen};
 ghost use Rattle.oe_engine.specs.Covered.{IsUnused};
-ghost use Rattle.oe_engine.specs.Calls.{IsFree, IsBelow, MayRead, locked, put_mode, StageRefused};
+ghost use Rattle.oe_engine.specs.Calls.{IsFree, IsBelow, MayRead, with_lock, put_mode, StageRefused};
 
 use crate::engine::{Engine, Tx};
 use oe_requests::Refusal;
@@ -47,7 +47,7 @@ impl Engine {
         ensures free { OnOk result
             (IsFree (view_of self.old) tx.now.terminal (Take name (mode_of mode))) }
         ensures locked { OnOk result
-            (view_of self.new ≡ locked tx.now.terminal name (mode_of mode) (view_of self.old)) }
+            (view_of self.new ≡ with_lock tx.now.terminal name (mode_of mode) (view_of self.old)) }
         ensures name { self.new.name ≡ self.old.name }
         ensures cause { IfErr result
             (StageRefused self.old tx.now (Take name (mode_of mode)) None) }

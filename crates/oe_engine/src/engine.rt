@@ -16,7 +16,7 @@ ghost use Rattle.oe_locks.specs.Held as locks;
 ghost use Rattle.oe_engine.specs.View.{view_of, opened_view, IsOpen};
 ghost use Rattle.oe_engine.specs.Covered.{IsUnused, IsSafe};
 ghost use Rattle.oe_writes.specs.Asks.{ask_of};
-ghost use Rattle.oe_engine.specs.Calls.{IsFree, IsBusy, IsBelow, begun, CantBegin, locked, put_mode, LockRefused, back_at, committed, rolled_back};
+ghost use Rattle.oe_engine.specs.Calls.{IsFree, IsBusy, IsBelow, after_begin, CantBegin, with_lock, put_mode, LockRefused, back_at, after_commit, after_rollback};
 
 use crate::opening::beside;
 use crate::renames::Renames;
@@ -220,7 +220,7 @@ impl Engine {
         ensures counted { OnOk result
             (number_rejection (suc ((view_of self.old).counts terminal)) ≡ None) }
         ensures records { OnOk result ((view_of self.old).undo.active terminal ≡ []) }
-        ensures begun { OnOk result (view_of self.new ≡ begun terminal (view_of self.old)) }
+        ensures begun { OnOk result (view_of self.new ≡ after_begin terminal (view_of self.old)) }
         ensures name { self.new.name ≡ self.old.name }
         ensures idle { (view_of self.old).is_open terminal ≡ false
             → (view_of self.old).held terminal ≡ (λ _. None) }
@@ -302,7 +302,7 @@ impl Engine {
         ensures free { OnOk result
             (IsFree (view_of self.old) terminal (Take lock.name (mode_of lock.mode))) }
         ensures locked { OnOk result
-            (view_of self.new ≡ locked terminal lock.name (mode_of lock.mode) (view_of self.old)) }
+            (view_of self.new ≡ with_lock terminal lock.name (mode_of lock.mode) (view_of self.old)) }
         ensures tables { self.new.tables ≡ self.old.tables }
         ensures undo { self.new.undo ≡ self.old.undo }
         ensures links { self.new.links ≡ self.old.links }
@@ -375,7 +375,7 @@ impl Engine {
             (λ m. m ≡ suc (total terminal_limit (view_of self.old).counts)) }
         ensures committed { OnOk result
             (view_of self.new
-            ≡ committed tx.terminal request.value reply.value (view_of self.old)) }
+            ≡ after_commit tx.terminal request.value reply.value (view_of self.old)) }
         ensures name { self.new.name ≡ self.old.name }
         ensures foreign { OnErr result (IsOpen self.old tx → ⊥) }
         ensures back { IfErr result (λ x. x ≡ tx) }
@@ -401,7 +401,7 @@ impl Engine {
     pub fn rollback(&mut self, tx: Tx) -> Result<(), Tx>
         ensures open { OnOk result (IsOpen self.old tx) }
         ensures rolled_back { OnOk result
-            (view_of self.new ≡ rolled_back tx.terminal (view_of self.old)) }
+            (view_of self.new ≡ after_rollback tx.terminal (view_of self.old)) }
         ensures name { self.new.name ≡ self.old.name }
         ensures foreign { OnErr result (IsOpen self.old tx → ⊥) }
         ensures back { IfErr result (λ x. x ≡ tx) }

@@ -5,7 +5,7 @@ ghost use Rattle.oe_log.specs.Moments.{IsOutside};
 ghost use Rattle.oe_journal.specs.GivesUp.{GivesUpDeleted};
 ghost use Rattle.oe_engine.specs.Renames.{NamesStand};
 ghost use Rattle.oe_engine.specs.View.{view_of};
-ghost use Rattle.oe_engine.specs.Calls.{newest, horizon, records_up_to, IsQuiet, IsKeptMoment, CantRewind, purged_to, rewound_to};
+ghost use Rattle.oe_engine.specs.Calls.{newest, horizon, records_up_to, IsQuiet, IsKeptMoment, CantRewind, after_purge, after_rewind};
 
 use crate::engine::Engine;
 use crate::renames::Renames;
@@ -32,7 +32,7 @@ impl Engine {
     #[tactic(auto, unfolding(crate::specs::View::view_of, crate::specs::View::view_from))]
     pub fn purge(&mut self, moment: Moment) -> Result<(), Refusal>
         ensures kept { OnOk result (IsKeptMoment (view_of self.old) moment) }
-        ensures purged { OnOk result (view_of self.new ≡ purged_to moment (view_of self.old)) }
+        ensures purged { OnOk result (view_of self.new ≡ after_purge moment (view_of self.old)) }
         ensures places { OnOk result (GivesUpDeleted self.old.tables self.new.tables
             (records_up_to moment (view_of self.old)) self.new.undo) }
         ensures name { self.new.name ≡ self.old.name }
@@ -54,7 +54,7 @@ impl Engine {
     pub fn rewind(&mut self, moment: Moment) -> Result<(), Refusal>
         ensures quiet { OnOk result (IsQuiet (view_of self.old)) }
         ensures kept { OnOk result (IsKeptMoment (view_of self.old) moment) }
-        ensures rewound { OnOk result (view_of self.new ≡ rewound_to moment (view_of self.old)) }
+        ensures rewound { OnOk result (view_of self.new ≡ after_rewind moment (view_of self.old)) }
         ensures name { self.new.name ≡ self.old.name }
         ensures cause { IfErr result (CantRewind (view_of self.old) moment) }
         ensures err { OnErr result (self.new ≡ self.old) }

@@ -8,7 +8,7 @@ ghost use Rattle.oe_model.specs.System.{system};
 ghost use Rattle.oe_change.specs.Writes.{key_written};
 ghost use Rattle.oe_engine.specs.View.{view_of, IsOpen};
 ghost use Rattle.oe_engine.specs.Covered.{IsOwn, Owns};
-ghost use Rattle.oe_engine.specs.Calls.{IsFree, locked, StageRefused};
+ghost use Rattle.oe_engine.specs.Calls.{IsFree, with_lock, StageRefused};
 ghost use Rattle.oe_writes.specs.Asks.{ask_of_write};
 ghost use Rattle.oe_engine.specs.Writes.{change_written, HoldsBeside, MayWrite, Writes};
 ghost use Rattle.oe_engine.specs.Stages.{is_failure, IsFailure, FailsBeside, Does};
@@ -41,7 +41,7 @@ pub fn hold(engine: &mut Engine, tx: &Tx, lock: Lock) -> Result<(), Refusal>
         (IsFree (view_of engine.old) tx.now.terminal (Take lock.name (mode_of lock.mode))) }
     ensures locked { OnOk result
         (view_of engine.new
-        ≡ locked tx.now.terminal lock.name (mode_of lock.mode) (view_of engine.old)) }
+        ≡ with_lock tx.now.terminal lock.name (mode_of lock.mode) (view_of engine.old)) }
     ensures cause { IfErr result
         (StageRefused engine.old tx.now (Take lock.name (mode_of lock.mode)) None) }
     ensures name { engine.new.name ≡ engine.old.name }

@@ -23,8 +23,8 @@ use Rattle.oe_requests.specs.declared.refusals.Refusal.TheVariants.{NoSuchRow, N
 use Rattle.oe_model.specs.Keys.{customer_in}
 use Rattle.oe_model.specs.Rows.{Rows}
 use Rattle.oe_model.specs.Requests.{query_rejection}
-use Rattle.oe_model.specs.Choice.{chosen}
-use Rattle.oe_model.specs.Queries.{found, status_of, last_order, order_status, stock_level, answer_of}
+use Rattle.oe_model.specs.Choice.{customer_meant}
+use Rattle.oe_model.specs.Queries.{reply_with, status_of, last_order, order_status, stock_level, answer_of}
 use Rattle.oe_model.specs.Rules.{AreLow}
 use Rattle.oe_model.proofs.PresenceFacts.{mapped_absent}
 use Rattle.oe_store.specs.Places.{rows}
@@ -32,17 +32,17 @@ use Rattle.oe_store.specs.Places as tables
 use Rattle.oe_log.specs.Log.{SegmentLog}
 use Rattle.oe_log.specs.Moments.{IsKeptMoment, IsUnkept}
 use Rattle.oe_versions.specs.Versions.{VersionState, rows_of}
-use Rattle.oe_enquiry.specs.Reply.{meant, IsReply, IsRefused}
+use Rattle.oe_enquiry.specs.Reply.{customer_asked, IsReply, IsRefused}
 use Rattle.oe_enquiry.proofs.LevelFacts.{level_told}
 
 -- go on where there is a value
 on_some : {A : Type 0} (e : Refusal) (o : Option A) (x : A) (f : A → Outcome QueryReply Refusal) → Some x ≡ o
-    → found e o f ≡ f x
-on_some e o x f h = ap (λ v. found e v f) (sym h)
+    → reply_with e o f ≡ f x
+on_some e o x f h = ap (λ v. reply_with e v f) (sym h)
 
 on_none : {A : Type 0} (e : Refusal) (o : Option A) (f : A → Outcome QueryReply Refusal) → None ≡ o
-    → found e o f ≡ Missing e
-on_none e o f h = ap (λ v. found e v f) (sym h)
+    → reply_with e o f ≡ Missing e
+on_none e o f h = ap (λ v. reply_with e v f) (sym h)
 
 -- the row whose column is told
 row_of : {A B : Type 0} (f : A → B) (o : Option A) (y : B) → Some y ≡ option_map f o
@@ -56,21 +56,23 @@ no_row_of f o e = sym (mapped_absent f o (sym e))
 -- a number that nobody has is refused as a customer who is not there
 first_looked_up : (h : DistrictKey) (choice : CustomerChoice) (customers : FinMap customer_cmp Customer)
     (f : ℕ → Customer → Outcome QueryReply Refusal)
-    → found NoCustomer (chosen h choice customers) (λ c. found NoCustomer (get customers (customer_in h c)) (f c))
-    ≡ found NoCustomer (meant h choice customers) (λ c. found NoCustomer (get customers (customer_in h c)) (f c))
+    → reply_with NoCustomer (customer_meant h choice customers)
+    (λ c. reply_with NoCustomer (get customers (customer_in h c)) (f c))
+    ≡ reply_with NoCustomer (customer_asked h choice customers)
+    (λ c. reply_with NoCustomer (get customers (customer_in h c)) (f c))
 first_looked_up h (Number n) customers f = by (get customers (customer_in h n)) refl
   where
     by : (v : Option Customer) → get customers (customer_in h n) ≡ v
-        → found NoCustomer (option_map (λ x. n) v)
-        (λ c. found NoCustomer (get customers (customer_in h c)) (f c)) ≡ found NoCustomer
+        → reply_with NoCustomer (option_map (λ x. n) v)
+        (λ c. reply_with NoCustomer (get customers (customer_in h c)) (f c)) ≡ reply_with NoCustomer
         (get customers (customer_in h n)) (f n)
-    by None e = sym (ap (λ v. found NoCustomer v (f n)) e)
+    by None e = sym (ap (λ v. reply_with NoCustomer v (f n)) e)
     by (Some x) e = refl
 first_looked_up h (LastName last) customers f = refl
 
 module _ (q : StatusQuery) (r : Rows) where
-  as_meant : order_status q r ≡ found NoCustomer (meant q.district q.customer r.customers) (λ c.
-      found NoCustomer (get r.customers (customer_in q.district c)) (λ x.
+  as_meant : order_status q r ≡ reply_with NoCustomer (customer_asked q.district q.customer r.customers) (λ c.
+      reply_with NoCustomer (get r.customers (customer_in q.district c)) (λ x.
       Here (told.Status (record {
         customer = c;
         balance = x.account.balance;
@@ -84,13 +86,13 @@ module _ (q : StatusQuery) (r : Rows) where
       })))
 
   pub status_told : (c : ℕ) (k : CustomerKey) (b : ℤ) (o : Option OrderStatus)
-      → Some c ≡ meant q.district q.customer r.customers → k ≡ customer_in q.district c
+      → Some c ≡ customer_asked q.district q.customer r.customers → k ≡ customer_in q.district c
       → Some b ≡ option_map (λ (x : Customer). x.account.balance) (get r.customers k)
       → o ≡ status_of r.order_lines (last_order k r.orders)
       → order_status q r ≡ Here (told.Status (record { customer = c; balance = b; order = o }))
   status_told c k b o at is there last =
       let x = row_of (λ (x : Customer). x.account.balance) (get r.customers k) b there in
-      as_meant ∙ on_some NoCustomer (meant q.district q.customer r.customers) c _ at
+      as_meant ∙ on_some NoCustomer (customer_asked q.district q.customer r.customers) c _ at
       ∙ on_some NoCustomer (get r.customers (customer_in q.district c)) x.0 _ (x.1 ∙ ap (get r.customers) is)
       ∙ (λ i. let y : Outcome QueryReply Refusal = Here
       (told.Status (record {
@@ -100,15 +102,15 @@ module _ (q : StatusQuery) (r : Rows) where
             (last ∙ ap (λ z. status_of r.order_lines (last_order z r.orders)) is) i;
       })) in y)
 
-  pub nobody : None ≡ meant q.district q.customer r.customers → order_status q r ≡ Missing NoCustomer
-  nobody h = as_meant ∙ on_none NoCustomer (meant q.district q.customer r.customers) _ h
+  pub nobody : None ≡ customer_asked q.district q.customer r.customers → order_status q r ≡ Missing NoCustomer
+  nobody h = as_meant ∙ on_none NoCustomer (customer_asked q.district q.customer r.customers) _ h
 
-  pub no_row : (c : ℕ) (k : CustomerKey) → Some c ≡ meant q.district q.customer r.customers
+  pub no_row : (c : ℕ) (k : CustomerKey) → Some c ≡ customer_asked q.district q.customer r.customers
       → k ≡ customer_in q.district c
       → None ≡ option_map (λ (x : Customer). x.account.balance) (get r.customers k)
       → order_status q r ≡ Missing NoCustomer
   no_row c k at is none =
-      as_meant ∙ on_some NoCustomer (meant q.district q.customer r.customers) c _ at
+      as_meant ∙ on_some NoCustomer (customer_asked q.district q.customer r.customers) c _ at
       ∙ on_none NoCustomer (get r.customers (customer_in q.district c)) _
       (no_row_of (λ (x : Customer). x.account.balance) (get r.customers k) none ∙ ap (get r.customers) is)
 

@@ -28,7 +28,7 @@ use Rattle.oe_model.specs.Keys.{district_of_order, order_of_line}
 use Rattle.oe_model.specs.Rows.{Rows}
 use Rattle.oe_model.specs.Lists.{IsAmong}
 use Rattle.oe_model.specs.Delivery.{lines_of}
-use Rattle.oe_model.specs.Queries.{found, is_recent, recent_lines, stock_level}
+use Rattle.oe_model.specs.Queries.{reply_with, is_recent, recent_lines, stock_level}
 use Rattle.oe_model.specs.Rules.{IsLow}
 use Rattle.oe_model.proofs.MapFacts.{is_same, is_self}
 use Rattle.oe_model.proofs.EntryFacts.{EachOf, each_of, entries_at, kept_at, row_among}
@@ -129,8 +129,8 @@ line_below k a b d e l =
     by (inr s) = s.1
 
 none_found : (e : Refusal) (o : Option District) (f : District → Outcome QueryReply Refusal) → o ≡ None
-    → found e o f ≡ Missing e
-none_found e o f h = ap (λ v. found e v f) h
+    → reply_with e o f ≡ Missing e
+none_found e o f h = ap (λ v. reply_with e v f) h
 
 -- the numbers of lines are in their range
 abbrev InRange : FinMap order_line_cmp OrderLine → Type 0

@@ -26,7 +26,7 @@ use Rattle.oe_model.proofs.MapFacts.{is_same, is_self}
 use Rattle.oe_model.proofs.EntryFacts.{row_among}
 use Rattle.oe_model.proofs.ListFacts.{each_among, kept_among}
 use Rattle.oe_model.proofs.LevelFacts.{level_is_exact}
-use Rattle.oe_enquiry.specs.Level.{stock_in, is_short, listed, items_sold}
+use Rattle.oe_enquiry.specs.Level.{stock_in, is_short, list_with, items_sold}
 use Rattle.oe_enquiry.proofs.FewFacts.{both_true, recent_rows}
 use Rattle.oe_enquiry.proofs.ListedFacts.{no_more, mapped, is_mapped, listed_distinct}
 use Rattle.oe_enquiry.proofs.ListedFacts.{listed_each, listed_all}
@@ -109,7 +109,7 @@ module _ (h : DistrictKey) (next : ℕ) (lines : FinMap order_line_cmp OrderLine
       (row_among order_line_total exact_order_line lines k x at) recent)
 
 pub are_low : (q : LevelQuery) (r : Rows) (next : ℕ) (items : List ℕ)
-    → items ≡ listed (is_short q r) [] (items_sold q.district next r.order_lines) → AreLow q r next items
+    → items ≡ list_with (is_short q r) [] (items_sold q.district next r.order_lines) → AreLow q r next items
 are_low q r next items is = subst (AreLow q r next) (sym is) (record {
   distinct = listed_distinct (is_short q r) [] all_sold tt;
   each = λ i k. low i (listed_each (is_short q r) [] all_sold i k);

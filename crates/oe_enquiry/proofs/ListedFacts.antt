@@ -5,7 +5,7 @@ use Rattle.std.specs.Prelude.{◌⊎◌, ◌==◌, ◌&&◌, not}
 use Rattle.std.proofs.lemmas.Bool.{eqb-true, eq-eqb}
 use Rattle.oe_model.specs.Lists.{IsAmong, IsDistinct}
 use Rattle.oe_model.proofs.ListFacts.{one_is}
-use Rattle.oe_enquiry.specs.Level.{is_listed, listed}
+use Rattle.oe_enquiry.specs.Level.{is_listed, list_with}
 
 module _ {A : Type 0} where
   -- what is among two lists
@@ -103,7 +103,7 @@ module _ (p : ℕ → Bool) where
   abbrev next_list : List ℕ → ℕ → List ℕ
   next_list items i = cond (not (is_listed items i) && p i) (items ++ i ∷ []) items
 
-  pub listed_append : (items xs ys : List ℕ) → listed p items (xs ++ ys) ≡ listed p (listed p items xs) ys
+  pub listed_append : (items xs ys : List ℕ) → list_with p items (xs ++ ys) ≡ list_with p (list_with p items xs) ys
   listed_append items [] ys = refl
   listed_append items (x ∷ xs) ys = listed_append (next_list items x) xs ys
 
@@ -126,7 +126,7 @@ module _ (p : ℕ → Bool) where
   step_distinct items _ i (fails e) d = d
   step_distinct items _ i (comes n e) d = distinct_more items i d n
 
-  pub listed_distinct : (items xs : List ℕ) → IsDistinct items → IsDistinct (listed p items xs)
+  pub listed_distinct : (items xs : List ℕ) → IsDistinct items → IsDistinct (list_with p items xs)
   listed_distinct items [] d = d
   listed_distinct items (x ∷ xs) d = listed_distinct (next_list items x) xs
       (step_distinct items (next_list items x) x (step items x) d)
@@ -143,7 +143,7 @@ module _ (p : ℕ → Bool) where
       of (inr (inr h)) = absurd h
 
   -- what is listed was there, or passes
-  pub listed_each : (items xs : List ℕ) (j : ℕ) → IsAmong j (listed p items xs)
+  pub listed_each : (items xs : List ℕ) (j : ℕ) → IsAmong j (list_with p items xs)
       → IsAmong j items ⊎ (IsAmong j xs × (p j ≡ true))
   listed_each items [] j k = inl k
   listed_each items (x ∷ xs) j k = of (listed_each (next_list items x) xs j k)
@@ -162,7 +162,7 @@ module _ (p : ℕ → Bool) where
   step_keeps items _ i j (fails e) k = k
   step_keeps items _ i j (comes n e) k = in_first items (i ∷ []) j k
 
-  pub listed_keeps : (items xs : List ℕ) (j : ℕ) → IsAmong j items → IsAmong j (listed p items xs)
+  pub listed_keeps : (items xs : List ℕ) (j : ℕ) → IsAmong j items → IsAmong j (list_with p items xs)
   listed_keeps items [] j k = k
   listed_keeps items (x ∷ xs) j k = listed_keeps (next_list items x) xs j
       (step_keeps items (next_list items x) x j (step items x) k)
@@ -173,7 +173,7 @@ module _ (p : ℕ → Bool) where
   step_all items _ i (comes n e) t = in_second items (i ∷ []) i (inl refl)
 
   -- and what passes is listed
-  pub listed_all : (items xs : List ℕ) (j : ℕ) → IsAmong j xs → p j ≡ true → IsAmong j (listed p items xs)
+  pub listed_all : (items xs : List ℕ) (j : ℕ) → IsAmong j xs → p j ≡ true → IsAmong j (list_with p items xs)
   listed_all items [] j k t = absurd k
   listed_all items (x ∷ xs) j (inl e) t =
       listed_keeps (next_list items x) xs j

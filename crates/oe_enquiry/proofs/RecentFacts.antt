@@ -22,7 +22,7 @@ use Rattle.oe_log.specs.Moments.{store_with}
 use Rattle.oe_versions.specs.Versions.{version, Stand}
 use Rattle.oe_versions.proofs.ChosenFacts.{rows_at, kept_is}
 use Rattle.oe_versions.proofs.LastingFacts.{rows_last}
-use Rattle.oe_enquiry.specs.Level.{listed, items_sold, AreStanding}
+use Rattle.oe_enquiry.specs.Level.{list_with, items_sold, AreStanding}
 use Rattle.oe_enquiry.proofs.SoldFacts.{Entry, Lists, items_are}
 use Rattle.oe_enquiry.proofs.FewFacts.{lines_are_recent, recent_rows}
 
@@ -65,13 +65,13 @@ module _ (ts : tables.Places) (u : SegmentLog) (m : ℕ) (p : ℕ → Bool) (h :
   standing (e ∷ es) t = (t.0.1, standing es t.1)
 
   pub lists_all : (w : ℕ) → Stand ts u → AreNumbered (rows ts)
-      → Lists (record { tables = ts; log = u; moment = m }) w p (listed p [] (items_sold h next past)) []
+      → Lists (record { tables = ts; log = u; moment = m }) w p (list_with p [] (items_sold h next past)) []
       (recent_lines h next (rows ts).order_lines) 0
   lists_all w s numbered =
       let few : length (recent_lines h next (rows ts).order_lines) ≤ 300 =
       lines_are_recent (rows ts) (in_range ts numbered) h next in
       record {
-        rest = ap (listed p []) (items_are (record { tables = ts; log = u; moment = m }) w
+        rest = ap (list_with p []) (items_are (record { tables = ts; log = u; moment = m }) w
             (recent_lines h next (rows ts).order_lines)
             ∙ ap (map (λ (e : Entry). e.1.item)) (recent_are s));
         standing = standing (recent_lines h next (rows ts).order_lines) (recent_rows h next (rows ts).order_lines);

@@ -12,7 +12,7 @@ use Rattle.oe_versions.specs.Columns.{item_of}
 use Rattle.oe_versions.specs.Versions.{VersionState, rows_of}
 use Rattle.oe_versions.proofs.ChosenFacts.{rows_at}
 use Rattle.oe_enquiry.specs.declared.items.Sold.{Sold}
-use Rattle.oe_enquiry.specs.Level.{listed, is_listed, sold_in, sold_of, AreStanding, HasQuantity, HaveQuantities}
+use Rattle.oe_enquiry.specs.Level.{list_with, is_listed, sold_in, sold_of, AreStanding, HasQuantity, HaveQuantities}
 
 -- a line with its key, as a walk gives it
 abbrev pub Entry : Type 0
@@ -98,7 +98,7 @@ module _ (v : VersionState) (w : ℕ) where
 
 -- items that are listed behind others
 listed_behind : (p : ℕ → Bool) (is items js : List ℕ)
-    → listed p items (is ++ js) ≡ listed p (listed p items is) js
+    → list_with p items (is ++ js) ≡ list_with p (list_with p items is) js
 listed_behind p [] items js = refl
 listed_behind p (i ∷ is) items js =
     listed_behind p is (cond (not (is_listed items i) && p i) (items ++ i ∷ []) items) js
@@ -109,7 +109,7 @@ suc_is n = omega arith
 module _ (v : VersionState) (w : ℕ) (p : ℕ → Bool) where
   -- so many of some items are listed, behind those that were
   pub record Picks (old items : List ℕ) (ss : List Sold) (n : ℕ) : Type 0 where
-    pub is : items ≡ listed p old (map item (take n ss))
+    pub is : items ≡ list_with p old (map item (take n ss))
     pub few : length items ≤ length old + n
 
   pub nth_has : (n : ℕ) (ss : List Sold) (s : Sold) → n < length ss → s ≡ get_or ss n s
@@ -119,12 +119,12 @@ module _ (v : VersionState) (w : ℕ) (p : ℕ → Bool) where
   nth_has (suc n) (x ∷ ss) s lt at h = nth_has n ss s (omega (arith, lt)) at h.1
 
   pub picks_one : (old items items' : List ℕ) (ss : List Sold) (n : ℕ) (s : Sold) → Picks old items ss n
-      → n < length ss → s ≡ get_or ss n s → items' ≡ listed p items (s.item ∷ []) → length items' ≤ length items + 1
+      → n < length ss → s ≡ get_or ss n s → items' ≡ list_with p items (s.item ∷ []) → length items' ≤ length items + 1
       → Picks old items' ss (n + 1)
   picks_one old items items' ss n s h lt at is more = record {
-    is = is ∙ ap (λ zs. listed p zs (s.item ∷ [])) h.is
+    is = is ∙ ap (λ zs. list_with p zs (s.item ∷ [])) h.is
         ∙ sym (listed_behind p (map item (take n ss)) old (s.item ∷ []))
-        ∙ ap (listed p old) (sym (map-append item (take n ss) (s ∷ []))
+        ∙ ap (list_with p old) (sym (map-append item (take n ss) (s ∷ []))
         ∙ ap (map item) (ap (λ x. take n ss ++ x ∷ []) at ∙ sym (take-suc ss n s lt)
         ∙ ap (λ (k : ℕ). take k ss) (suc_is n)));
     few = (let few : length items ≤ length old + n = h.few in omega (arith, few, more));
@@ -132,19 +132,20 @@ module _ (v : VersionState) (w : ℕ) (p : ℕ → Bool) where
 
   -- What is left of a walk over the lines leads to all items, and there is room for them; so many parts were taken.
   pub record Lists (all items : List ℕ) (es : List Entry) (parts : ℕ) : Type 0 where
-    pub rest : listed p items (map item (sold_of v w es)) ≡ all
+    pub rest : list_with p items (map item (sold_of v w es)) ≡ all
     pub standing : AreStanding v.tables es
     pub few : length items + length es ≤ 300
     pub left : length es ≤ 304 - 16 * parts
 
   pub lists_part : (all items items' : List ℕ) (es es' : List Entry) (ss : List Sold) (n : ℕ) → Lists all items es n
       → ss ++ sold_of v w es' ≡ sold_of v w es → AreStanding v.tables es' → length ss + length es' ≤ length es
-      → length es' ≤ length es - 16 → items' ≡ listed p items (map item ss) → length items' ≤ length items + length ss
+      → length es' ≤ length es - 16 → items' ≡ list_with p items (map item ss) → length items' ≤ length items
+      + length ss
       → Lists all items' es' (n + 1)
   lists_part all items items' es es' ss n l is standing taken most listed' more = record {
-    rest = ap (λ is. listed p is (map item (sold_of v w es'))) listed'
+    rest = ap (λ is. list_with p is (map item (sold_of v w es'))) listed'
         ∙ sym (listed_behind p (map item ss) items (map item (sold_of v w es')))
-        ∙ ap (listed p items) (sym (map-append item ss (sold_of v w es')) ∙ ap (map item) is) ∙ l.rest;
+        ∙ ap (list_with p items) (sym (map-append item ss (sold_of v w es')) ∙ ap (map item) is) ∙ l.rest;
     standing = standing;
     few = (let few : length items + length es ≤ 300 = l.few in omega (arith, few, taken, more));
     left = (let left : length es ≤ 304 - 16 * n = l.left in omega (arith, left, most));
@@ -157,4 +158,4 @@ module _ (v : VersionState) (w : ℕ) (p : ℕ → Bool) where
   pub all_listed : (all items : List ℕ) (es : List Entry) (n : ℕ) → Lists all items es n → 19 ≤ n → items ≡ all
   all_listed all items es n l done =
       let left : length es ≤ 304 - 16 * n = l.left in
-      sym (ap (λ es. listed p items (map item (sold_of v w es))) (none es (omega (arith, left, done)))) ∙ l.rest
+      sym (ap (λ es. list_with p items (map item (sold_of v w es))) (none es (omega (arith, left, done)))) ∙ l.rest

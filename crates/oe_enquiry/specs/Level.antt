@@ -33,9 +33,9 @@ abbrev pub AreMarked : List Bool → List ℕ → Type 0
 AreMarked marks items = (i : ℕ) → is_listed items i ≡ true → get_or marks (i % 512) false ≡ true
 
 -- the items that are listed, and behind them those that pass and are not listed yet
-abbrev pub listed : (ℕ → Bool) → List ℕ → List ℕ → List ℕ
-listed p items [] = items
-listed p items (i ∷ is) = listed p (cond (not (is_listed items i) && p i) (items ++ i ∷ []) items) is
+abbrev pub list_with : (ℕ → Bool) → List ℕ → List ℕ → List ℕ
+list_with p items [] = items
+list_with p items (i ∷ is) = list_with p (cond (not (is_listed items i) && p i) (items ++ i ∷ []) items) is
 
 -- the items of the lines of a district's last 20 orders before one
 abbrev pub items_sold : DistrictKey → ℕ → FinMap order_line_cmp OrderLine → List ℕ

@@ -20,9 +20,9 @@ use Rattle.oe_log.specs.Moments.{IsKeptMoment, IsUnkept}
 use Rattle.oe_versions.specs.Versions.{version}
 
 -- the C_ID of the customer that is meant; a number may be nobody's
-abbrev pub meant : DistrictKey → CustomerChoice → FinMap customer_cmp Customer → Option ℕ
-meant h (Number c) customers = Some c
-meant h (LastName last) customers = middle (namesakes h last customers)
+abbrev pub customer_asked : DistrictKey → CustomerChoice → FinMap customer_cmp Customer → Option ℕ
+customer_asked h (Number c) customers = Some c
+customer_asked h (LastName last) customers = middle (namesakes h last customers)
 
 -- the reply, where its warehouse is there: the answer of the version of that moment, which can be read
 pub record IsReply (q : Query) (ts : tables.Places) (u : SegmentLog) (m : ℕ) (f : QueryReply) : Type 0 where

@@ -9,7 +9,7 @@ ghost use Rattle.oe_model.specs.Rules.{AreLow};
 ghost use Rattle.oe_store.specs.Places.{rows};
 ghost use Rattle.oe_versions.specs.Columns.{quantity_of};
 ghost use Rattle.oe_versions.specs.Versions.{rows_of, Stand};
-ghost use Rattle.oe_enquiry.specs.Level.{is_short, listed, stock_in, sold_of, AreStanding, HasQuantity, HaveQuantities};
+ghost use Rattle.oe_enquiry.specs.Level.{is_short, list_with, stock_in, sold_of, AreStanding, HasQuantity, HaveQuantities};
 
 use crate::items::{Items, Sold};
 use oe_requests::{LevelQuery, Refusal};
@@ -81,7 +81,7 @@ fn list_if_short(version: &Version<'_>, query: &LevelQuery, sold: &Sold, items: 
     requires quantity { HasQuantity version.now.tables query.now.district.warehouse sold.now }
     requires room { length items.old < 300 }
     ensures items { items.new
-        ≡ listed (is_short query.now (rows_of version.now)) items.old (sold.now.item ∷ []) }
+        ≡ list_with (is_short query.now (rows_of version.now)) items.old (sold.now.item ∷ []) }
     ensures few { length items.new ≤ length items.old + 1 }
 {
     let item = sold.item;
@@ -98,7 +98,7 @@ fn list_if_short(version: &Version<'_>, query: &LevelQuery, sold: &Sold, items: 
 fn list_short(version: &Version<'_>, query: &LevelQuery, sold: &[Sold], items: &mut Items)
     requires quantities { HaveQuantities version.now.tables query.now.district.warehouse sold.now }
     requires room { length items.old + length sold.now ≤ 300 }
-    ensures items { items.new ≡ listed (is_short query.now (rows_of version.now)) items.old
+    ensures items { items.new ≡ list_with (is_short query.now (rows_of version.now)) items.old
         (map (λ s. s.item) sold.now) }
     ensures few { length items.new ≤ length items.old + length sold.now }
 {

@@ -4,7 +4,7 @@ ghost use Rattle.oe_theory.specs.Machine.{Here, Missing};
 ghost use Rattle.oe_requests.specs.declared.replies.QueryReply.TheVariants as told;
 ghost use Rattle.oe_model.specs.Queries.{status_of, last_order, order_status};
 ghost use Rattle.oe_versions.specs.Versions.{rows_of, Stand};
-ghost use Rattle.oe_enquiry.specs.Reply.{meant};
+ghost use Rattle.oe_enquiry.specs.Reply.{customer_asked};
 
 use oe_requests::{CustomerChoice, OrderStatus, Refusal, StatusQuery, StatusReply};
 use oe_rows::{CustomerKey, DistrictKey};
@@ -19,7 +19,7 @@ fn meant(
     choice: &CustomerChoice,
 ) -> Option<CustomerNumber>
     requires { Stand version.now.tables version.now.log }
-    ensures { result ≡ meant district.now choice.now (rows_of version.now).customers }
+    ensures { result ≡ customer_asked district.now choice.now (rows_of version.now).customers }
 {
     match choice {
         CustomerChoice::Number(number) => Some(*number),

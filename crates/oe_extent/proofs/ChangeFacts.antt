@@ -6,16 +6,16 @@ use Rattle.std.proofs.lemmas.Bool.{cases_eq, cases_lt}
 use Rattle.std.proofs.lemmas.List.{get_or_past, get_or_default, get_or-map, get_or-set_same, get_or-set_other}
 use Rattle.std.proofs.lemmas.List.{length-map, length-replicate, get_or_append_left}
 use Rattle.std.proofs.lemmas.List.Sums.{sum_by-set, sum_by-cons, sum_by-append}
-use Rattle.oe_extent.specs.Free.{FreeExtents, freed, AllTaken, count_of_free}
+use Rattle.oe_extent.specs.Free.{FreeExtents, with_free, AllTaken, count_of_free}
 use Rattle.oe_extent.specs.Extents.{Contents, numbers_of, rest_of}
-use Rattle.oe_extent.specs.Ring.{Addressed, RingStrings, filled, lengths_of, used_of}
+use Rattle.oe_extent.specs.Ring.{Addressed, RingStrings, fill_of, lengths_of, used_of}
 use Rattle.oe_extent.specs.Kept.{addressed_of, ArePacked, times, uses, extent_count, AreHeld, IsRing}
 use Rattle.oe_extent.proofs.HeldFacts.{free_within, same_held, take_held, give_held, give_all_held}
 use Rattle.oe_extent.proofs.FillFacts.{filled_packed}
 
 -- what is stored
-abbrev pub shown : FreeExtents → List (List Contents) → List (List Contents) → ℕ → RingStrings
-shown pool os ss room =
+abbrev pub ring_view : FreeExtents → List (List Contents) → List (List Contents) → ℕ → RingStrings
+ring_view pool os ss room =
     record {
       extents = length pool.is_free;
       active = map addressed_of os;
@@ -83,21 +83,22 @@ changed_less free os ss t e y r lt packed numbers size =
 -- ---- what is used
 
 used_sum : (xs : List (List Contents)) → ((i : ℕ) → ArePacked (get_or xs i []))
-    → sum_by (λ ps. (filled (lengths_of ps)).0) (map addressed_of xs) ≡ sum_by length xs
+    → sum_by (λ ps. (fill_of (lengths_of ps)).0) (map addressed_of xs) ≡ sum_by length xs
 used_sum [] h = refl
 used_sum (x ∷ xs) h =
-    let first : (filled (lengths_of (addressed_of x))).0 ≡ length x = ap (λ (f : ℕ × ℕ). f.0) (filled_packed x (h 0)) in
+    let first : (fill_of (lengths_of (addressed_of x))).0
+    ≡ length x = ap (λ (f : ℕ × ℕ). f.0) (filled_packed x (h 0)) in
     let rest = used_sum xs (λ i. h (suc i)) in
     omega (
       arith,
       first,
       rest,
-      sum_by-cons (λ ps. (filled (lengths_of ps)).0) (addressed_of x) (map addressed_of xs),
+      sum_by-cons (λ ps. (fill_of (lengths_of ps)).0) (addressed_of x) (map addressed_of xs),
       sum_by-cons length x xs,
     )
 
 pub used_is : (pool : FreeExtents) (os ss : List (List Contents)) (room : ℕ) → IsRing pool.is_free os ss
-    → used_of (shown pool os ss room) ≡ extent_count os ss
+    → used_of (ring_view pool os ss room) ≡ extent_count os ss
 used_is pool os ss room r = omega (arith, used_sum os r.active_packed, used_sum ss r.committed_packed)
 
 none_free : (free : List Bool) → AllTaken free 0 (length free) → count_of_free free ≡ 0
@@ -111,7 +112,7 @@ none_free (b ∷ bs) h =
 -- all extents are used where none is free
 pub full : (pool : FreeExtents) (os ss : List (List Contents)) (room : ℕ) → IsRing pool.is_free os ss
     → AllTaken pool.is_free 0 (length pool.is_free)
-    → length pool.is_free ≤ used_of (shown pool os ss room)
+    → length pool.is_free ≤ used_of (ring_view pool os ss room)
 full pool os ss room r h = omega (arith, used_is pool os ss room r, none_free pool.is_free h, r.held.counted)
 
 some_free : (free : List Bool) (e : ℕ) → get_or free e false ≡ true → 0 < count_of_free free
@@ -124,7 +125,7 @@ some_free free e h =
 -- not all are where one is
 pub not_full : (pool : FreeExtents) (os ss : List (List Contents)) (room e : ℕ) → IsRing pool.is_free os ss
     → get_or pool.is_free e false ≡ true
-    → length pool.is_free ≤ used_of (shown pool os ss room) → ⊥
+    → length pool.is_free ≤ used_of (ring_view pool os ss room) → ⊥
 not_full pool os ss room e r h le =
     omega (arith, used_is pool os ss room r, some_free pool.is_free e h, r.held.counted, le)
 
@@ -139,8 +140,8 @@ pub strings_at_slot : (os : List (List Contents)) (t : ℕ) → t < length os
 strings_at_slot os t lt = get_or-map addressed_of os t [] [] lt
 
 pub rest_at : (os : List (List Contents)) (t : ℕ) → t < length os → ArePacked (get_or os t [])
-    → (filled (lengths_of (get_or (map addressed_of os) t []))).1 ≡ rest_of (get_or os t [])
-rest_at os t lt packed = ap (λ (ps : List Addressed). (filled (lengths_of ps)).1) (strings_at_slot os t lt)
+    → (fill_of (lengths_of (get_or (map addressed_of os) t []))).1 ≡ rest_of (get_or os t [])
+rest_at os t lt packed = ap (λ (ps : List Addressed). (fill_of (lengths_of ps)).1) (strings_at_slot os t lt)
     ∙ ap (λ (f : ℕ × ℕ). f.1) (filled_packed (get_or os t []) packed)
 
 -- ---- a new ring, and a commit
@@ -216,8 +217,8 @@ reopening free os ss t x r lt none = record {
 -- ---- a commit given up
 
 last_held : (free : List Bool) (os ss : List (List Contents)) (x : List Contents) → IsRing free os (ss ++ x ∷ [])
-    → AreHeld (freed (numbers_of x) free) (uses os ss) (extent_count os ss)
-    × AllByRecursion (λ e. e < length free) (numbers_of x) × (length (freed (numbers_of x) free) ≡ length free)
+    → AreHeld (with_free (numbers_of x) free) (uses os ss) (extent_count os ss)
+    × AllByRecursion (λ e. e < length free) (numbers_of x) × (length (with_free (numbers_of x) free) ≡ length free)
 last_held free os ss x r =
     give_all_held (numbers_of x) free (uses os (ss ++ x ∷ [])) (uses os ss) (extent_count os (ss ++ x ∷ []))
     (extent_count os ss) (length free) r.held
@@ -231,8 +232,8 @@ last_held free os ss x r =
     refl
 
 pub last_dropped : (free : List Bool) (os ss : List (List Contents)) (x : List Contents) → IsRing free os (ss ++ x ∷ [])
-    → IsRing (freed (numbers_of x) free) os ss × AllByRecursion (λ e. e < length free) (numbers_of x)
-    × (length (freed (numbers_of x) free) ≡ length free)
+    → IsRing (with_free (numbers_of x) free) os ss × AllByRecursion (λ e. e < length free) (numbers_of x)
+    × (length (with_free (numbers_of x) free) ≡ length free)
 last_dropped free os ss x r =
     let h = last_held free os ss x r in (
       record {

@@ -3,27 +3,27 @@ use Rattle.std.proofs.Common.{◌≡◌, ℕ, ◌-◌, ◌<◌, Bool, true, List
 use Rattle.std.proofs.Common.{replicate, refl, sym, ap, ◌∙◌, subst, arith}
 use Rattle.std.specs.List.{AllByRecursion}
 use Rattle.std.proofs.lemmas.List.{length-append, map-append, take_at, get_or_at, set-set}
-use Rattle.oe_extent.specs.Free.{FreeExtents, freed, all_given}
+use Rattle.oe_extent.specs.Free.{FreeExtents, with_free, with_all_free}
 use Rattle.oe_extent.specs.Extents.{Contents, numbers_of, rest_of}
 use Rattle.oe_extent.specs.Ring.{Addressed, no_strings, without_last, oldest_of, extents_of, without_oldest}
 use Rattle.oe_extent.specs.Kept.{addressed_in, addressed_of, FillsUp, ArePacked, IsRing}
-use Rattle.oe_extent.proofs.ChangeFacts.{shown, last_dropped, new_shown}
+use Rattle.oe_extent.proofs.ChangeFacts.{ring_view, last_dropped, new_shown}
 use Rattle.oe_extent.proofs.SlotFacts.{Stands}
 
 -- an extent given back for each of its strings is given back once
 of_extent : (n : ℕ) (x : List ℕ) (xs : List (List ℕ)) (ps : List Addressed) (free : List Bool)
-    → freed (extents_of (addressed_in n (x ∷ xs) ++ ps)) free ≡ freed (n ∷ extents_of ps) free
+    → with_free (extents_of (addressed_in n (x ∷ xs) ++ ps)) free ≡ with_free (n ∷ extents_of ps) free
 of_extent n x [] ps free = refl
 of_extent n x (y ∷ ys) ps free =
-    ap (freed (extents_of (addressed_in n ys ++ ps))) (set-set free n true true) ∙ of_extent n y ys ps free
+    ap (with_free (extents_of (addressed_in n ys ++ ps))) (set-set free n true true) ∙ of_extent n y ys ps free
 
 of_list : (cs : List Contents) (free : List Bool) → ArePacked cs
-    → freed (extents_of (addressed_of cs)) free ≡ freed (numbers_of cs) free
+    → with_free (extents_of (addressed_of cs)) free ≡ with_free (numbers_of cs) free
 of_list [] free h = refl
 of_list (c ∷ cs) free h = first c.strings h.0 ∙ of_list cs (set free c.number true) h.1
   where
     first : (xs : List (List ℕ)) → FillsUp (rest_of cs) xs
-        → freed (extents_of (addressed_in c.number xs ++ addressed_of cs)) free ≡ freed
+        → with_free (extents_of (addressed_in c.number xs ++ addressed_of cs)) free ≡ with_free
         (c.number ∷ extents_of (addressed_of cs)) free
     first [] f = absurd f
     first (x ∷ xs) f = of_extent c.number x xs (addressed_of cs) free
@@ -54,14 +54,15 @@ module _ (pool : FreeExtents) (os cs : List (List Contents)) (room : ℕ) (r : I
       ∙ get_or_at ds x [] [] (length ds) refl) (r.committed_packed (length ds))
 
   pub last_gone : (more : ℕ) (x : List Contents) (ds : List (List Contents)) (new : FreeExtents) → cs ≡ ds ++ x ∷ []
-      → new ≡ all_given pool (numbers_of x) → Stands new os ds more (without_oldest (shown pool os cs room) more)
+      → new ≡ with_all_free pool (numbers_of x)
+      → Stands new os ds more (without_oldest (ring_view pool os cs room) more)
   last_gone more x ds new e n =
       let d = last_dropped pool.is_free os ds x (subst (λ (l : List (List Contents)). IsRing pool.is_free os l) e r) in
-      let now : new.is_free ≡ freed (numbers_of x) pool.is_free = ap (λ (f : FreeExtents). f.is_free) n in
+      let now : new.is_free ≡ with_free (numbers_of x) pool.is_free = ap (λ (f : FreeExtents). f.is_free) n in
       let both = ends x ds e in
-      let given : freed (extents_of (oldest_of (map addressed_of cs))) pool.is_free ≡ freed (numbers_of x)
+      let given : with_free (extents_of (oldest_of (map addressed_of cs))) pool.is_free ≡ with_free (numbers_of x)
       pool.is_free =
-      ap (λ (ps : List Addressed). freed (extents_of ps) pool.is_free) both.1
+      ap (λ (ps : List Addressed). with_free (extents_of ps) pool.is_free) both.1
       ∙ of_list x pool.is_free (packed_last x ds e) in
       record {
         ring = subst (λ (f : List Bool). IsRing f os ds) (sym now) d.0;
@@ -76,7 +77,7 @@ module _ (pool : FreeExtents) (os cs : List (List Contents)) (room : ℕ) (r : I
 
 pub new_is : (pool : FreeExtents) (os cs : List (List Contents)) (room extents slots : ℕ)
     → pool.is_free ≡ replicate extents true → pool.cursor ≡ 0
-    → os ≡ replicate slots [] → cs ≡ [] → shown pool os cs room ≡ record (no_strings extents slots) { room = room }
+    → os ≡ replicate slots [] → cs ≡ [] → ring_view pool os cs room ≡ record (no_strings extents slots) { room = room }
 new_is pool os cs room extents slots f z o c =
     let n = new_shown extents slots in
     λ i. record {

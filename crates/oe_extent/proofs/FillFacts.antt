@@ -4,12 +4,12 @@ use Rattle.std.proofs.Common.{get_or, refl, sym, ap, ◌∙◌, arith}
 use Rattle.std.specs.Prelude.{nat_le}
 use Rattle.std.proofs.lemmas.Bool.{leb-true, le-leb, ne_eqb}
 use Rattle.oe_extent.specs.declared.extents.Address.{Address}
-use Rattle.oe_extent.specs.Strings.{joined}
-use Rattle.oe_extent.specs.Free.{FreeExtents, given_at}
+use Rattle.oe_extent.specs.Strings.{bytes_of_strings}
+use Rattle.oe_extent.specs.Free.{FreeExtents, with_free_at}
 use Rattle.oe_extent.specs.Extents.{Contents, numbers_of, newest_strings, rest_of, end_of, with_string, without_newest}
 use Rattle.oe_extent.specs.Extents.{LosesString, LosesExtent}
 use Rattle.oe_extent.proofs.PackedFacts.{length-joined}
-use Rattle.oe_extent.specs.Ring.{Addressed, filled, lengths_of, behind, pool_without_newest}
+use Rattle.oe_extent.specs.Ring.{Addressed, fill_of, lengths_of, behind, pool_without_newest}
 use Rattle.oe_extent.specs.Kept.{addressed_in, addressed_of, Opens, FillsUp, ArePacked}
 
 pub not_le : (l r : ℕ) → r < l → nat_le l r ≡ false
@@ -28,33 +28,34 @@ step-new l k r f e h = ap (step l) e ∙ rw (not_le l r h) refl
 step-here : (l k r : ℕ) (f : ℕ × ℕ) → f ≡ (k, r) → l ≤ r → step l f ≡ (k, r - l)
 step-here l k r f e h = ap (step l) e ∙ rw (le-leb l r h) refl
 
-length-one : (x : List ℕ) → length (joined (x ∷ [])) ≡ length x
-unfolding joined
-length-one x = let none : length (joined []) ≡ 0 = refl in omega (arith, length-joined x [], none)
+length-one : (x : List ℕ) → length (bytes_of_strings (x ∷ [])) ≡ length x
+unfolding bytes_of_strings
+length-one x = let none : length (bytes_of_strings []) ≡ 0 = refl in omega (arith, length-joined x [], none)
 
 -- the strings of one more extent
-filled_on : (n : ℕ) (x : List ℕ) (xs : List (List ℕ)) (ps : List Addressed) (k r : ℕ) → filled (lengths_of ps) ≡ (k, r)
+filled_on : (n : ℕ) (x : List ℕ) (xs : List (List ℕ)) (ps : List Addressed) (k r : ℕ) → fill_of (lengths_of ps) ≡ (k, r)
     → Opens r x xs
-    → length (joined (x ∷ xs)) ≤ 4096 → filled (lengths_of (addressed_in n (x ∷ xs) ++ ps))
-    ≡ (suc k, 4096 - length (joined (x ∷ xs)))
-filled_on n x [] ps k r e o small = step-new (length x) k r (filled (lengths_of ps)) e o
+    → length (bytes_of_strings (x ∷ xs)) ≤ 4096 → fill_of (lengths_of (addressed_in n (x ∷ xs) ++ ps))
+    ≡ (suc k, 4096 - length (bytes_of_strings (x ∷ xs)))
+filled_on n x [] ps k r e o small = step-new (length x) k r (fill_of (lengths_of ps)) e o
     ∙ ap (λ (l : ℕ). (suc k, 4096 - l)) (sym (length-one x))
 filled_on n x (y ∷ ys) ps k r e o small =
     let size = length-joined x (y ∷ ys) in
     let rest = filled_on n y ys ps k r e o (omega (arith, small, size)) in
-    step-here (length x) (suc k) (4096 - length (joined (y ∷ ys))) (filled (lengths_of (addressed_in n (y ∷ ys) ++ ps)))
+    step-here (length x) (suc k) (4096 - length (bytes_of_strings (y ∷ ys)))
+    (fill_of (lengths_of (addressed_in n (y ∷ ys) ++ ps)))
     rest (omega (arith, small, size))
     ∙ ap (λ (l : ℕ). (suc k, l)) (omega (arith, small, size))
 
-filled_extent : (n : ℕ) (xs : List (List ℕ)) (ps : List Addressed) (k r : ℕ) → filled (lengths_of ps) ≡ (k, r)
+filled_extent : (n : ℕ) (xs : List (List ℕ)) (ps : List Addressed) (k r : ℕ) → fill_of (lengths_of ps) ≡ (k, r)
     → FillsUp r xs
-    → filled (lengths_of (addressed_in n xs ++ ps)) ≡ (suc k, 4096 - length (joined xs))
+    → fill_of (lengths_of (addressed_in n xs ++ ps)) ≡ (suc k, 4096 - length (bytes_of_strings xs))
 filled_extent n [] ps k r e f = absurd f
 filled_extent n (x ∷ xs) ps k r e f = filled_on n x xs ps k r e f.0 f.1
 
 -- as many extents as strings fill in order
 pub filled_packed : (ss : List Contents) → ArePacked ss
-    → filled (lengths_of (addressed_of ss)) ≡ (length ss, rest_of ss)
+    → fill_of (lengths_of (addressed_of ss)) ≡ (length ss, rest_of ss)
 filled_packed [] h = refl
 filled_packed (s ∷ ss) h =
     filled_extent s.number s.strings (addressed_of ss) (length ss) (rest_of ss) (filled_packed ss h.1) h.0
@@ -65,7 +66,7 @@ end_is [] h = refl
 end_is (s ∷ ss) h = go s.strings h.0
   where
     go : (xs : List (List ℕ)) → FillsUp (rest_of ss) xs
-        → ◌≡◌ {A = Address} (record { extent = s.number; offset = length (joined xs) })
+        → ◌≡◌ {A = Address} (record { extent = s.number; offset = length (bytes_of_strings xs) })
         (behind (addressed_in s.number xs ++ addressed_of ss))
     go [] f = absurd f
     go (x ∷ xs) f = λ i. record { extent = s.number; offset = length-joined x xs i }
@@ -78,7 +79,7 @@ pub record More (ss ts : List Contents) (s : Addressed) : Type 0 where
   pub numbers : numbers_of ts ≡ numbers_of ss
   pub size : length ts ≡ length ss
 
-fills-more : (r : ℕ) (x : List ℕ) (xs : List (List ℕ)) → FillsUp r xs → length x ≤ 4096 - length (joined xs)
+fills-more : (r : ℕ) (x : List ℕ) (xs : List (List ℕ)) → FillsUp r xs → length x ≤ 4096 - length (bytes_of_strings xs)
     → 0 < length x → FillsUp r (x ∷ xs)
 fills-more r x [] f h some = absurd f
 fills-more r x (y ∷ ys) f h some = (f.0, omega (arith, h, f.1, length-joined x (y ∷ ys)), (some, f.2))
@@ -98,7 +99,7 @@ pub more_new : (x : List ℕ) (ss : List Contents) (n : ℕ) → ArePacked ss �
     → ArePacked (record { number = n; strings = x ∷ [] } ∷ ss)
     × (addressed_of (record { number = n; strings = x ∷ [] } ∷ ss)
     ≡ record { address = record { extent = n; offset = 0 }; bytes = x } ∷ addressed_of ss)
-unfolding joined
+unfolding bytes_of_strings
 more_new x ss n h full small = (((full, omega (arith, small, length-one x), (omega (arith, full), tt)), h), refl)
 
 -- ---- a string less
@@ -167,18 +168,18 @@ newest_kept (s ∷ ss) p h some = go s.strings h.0 some
     go [] f some = absurd f
     go (x ∷ []) f some = absurd (omega arith)
     go (x ∷ y ∷ ys) f some =
-        ap (λ (b : Bool). cond b (given_at p s.number) p)
-        (ne_eqb (length (joined (y ∷ ys))) 0 (λ e. omega (arith, e, length-joined y ys, f.2.1.0)))
+        ap (λ (b : Bool). cond b (with_free_at p s.number) p)
+        (ne_eqb (length (bytes_of_strings (y ∷ ys))) 0 (λ e. omega (arith, e, length-joined y ys, f.2.1.0)))
 
 -- a string alone in its extent is at the front
 pub own_freed : (ss ts : List Contents) (e : ℕ) (p : FreeExtents) → length (newest_strings ss) ≡ 1 → LosesExtent ss ts e
-    → pool_without_newest (addressed_of ss) p ≡ given_at p e
-unfolding joined
+    → pool_without_newest (addressed_of ss) p ≡ with_free_at p e
+unfolding bytes_of_strings
 own_freed [] ts e p one l = absurd (omega (arith, one))
-own_freed (s ∷ ss) ts e p one l = go s.strings one ∙ ap (given_at p) (ap (λ (ns : List ℕ). get_or ns 0 0) l.numbers)
+own_freed (s ∷ ss) ts e p one l = go s.strings one ∙ ap (with_free_at p) (ap (λ (ns : List ℕ). get_or ns 0 0) l.numbers)
   where
     go : (xs : List (List ℕ)) → length xs ≡ 1
-        → pool_without_newest (addressed_in s.number xs ++ addressed_of ss) p ≡ given_at p s.number
+        → pool_without_newest (addressed_in s.number xs ++ addressed_of ss) p ≡ with_free_at p s.number
     go [] one = absurd (omega (arith, one))
     go (x ∷ []) one = refl
     go (x ∷ y ∷ ys) one = absurd (omega (arith, one))

@@ -4,7 +4,7 @@ use Rattle.std.proofs.Common.{sym, ap, ◌∙◌, subst, arith}
 use Rattle.std.specs.List.{sum_by}
 use Rattle.std.proofs.lemmas.List.Sums.{sum_by-cons}
 use Rattle.oe_extent.specs.declared.extents.Address.{Address}
-use Rattle.oe_extent.specs.Strings.{joined}
+use Rattle.oe_extent.specs.Strings.{bytes_of_strings}
 use Rattle.oe_extent.specs.Free.{FreeExtents}
 use Rattle.oe_extent.specs.Extents.{Contents, numbers_of, rest_of, end_of}
 use Rattle.oe_extent.proofs.PackedFacts.{length-joined}
@@ -12,7 +12,7 @@ use Rattle.oe_extent.specs.Ring.{Addressed, StandElsewhere, IsFresh}
 use Rattle.oe_extent.specs.Kept.{addressed_in, addressed_of, HaveBytes, FillsUp, ArePacked, times, uses, extent_count}
 use Rattle.oe_extent.specs.Kept.{IsRing}
 use Rattle.oe_extent.proofs.HeldFacts.{times-self, times-cons, free_within, taken_within, free_unused}
-use Rattle.oe_extent.proofs.ChangeFacts.{shown, at_slot}
+use Rattle.oe_extent.proofs.ChangeFacts.{ring_view, at_slot}
 
 -- ---- in one list
 
@@ -29,11 +29,11 @@ differs : (m n : ℕ) → m < n → m ≢ n
 differs m n lt e = omega (arith, lt, e)
 
 -- behind all strings of an extent
-behind_all : (a : Address) (n : ℕ) (xs : List (List ℕ)) → HaveBytes xs → length (joined xs) ≤ a.offset
+behind_all : (a : Address) (n : ℕ) (xs : List (List ℕ)) → HaveBytes xs → length (bytes_of_strings xs) ≤ a.offset
     → StandElsewhere a (addressed_in n xs)
 behind_all a n [] h le = tt
 behind_all a n (x ∷ xs) h le =
-    let before : length (joined xs) < a.offset = omega (arith, length-joined x xs, h.0, le) in
+    let before : length (bytes_of_strings xs) < a.offset = omega (arith, length-joined x xs, h.0, le) in
     ((λ e. differs _ _ before (ap (λ (b : Address). b.offset) e)), behind_all a n xs h.1 (omega (arith, before)))
 
 one_there : (x e : ℕ) → e ≡ x → times x (e ∷ []) ≡ 1
@@ -66,7 +66,7 @@ behind_list : (cs : List Contents) (a : Address) → ArePacked cs → 0 < rest_o
     → a ≡ end_of cs → IsBehind cs a
 behind_list [] a h some once e = absurd (omega (arith, some))
 behind_list (c ∷ cs) a h some once e =
-    let offset : a.offset ≡ length (joined c.strings) = ap (λ (b : Address). b.offset) e in
+    let offset : a.offset ≡ length (bytes_of_strings c.strings) = ap (λ (b : Address). b.offset) e in
     let one = one_there a.extent c.number (sym (ap (λ (b : Address). b.extent) e)) in
     let split = times-cons a.extent c.number (numbers_of cs) in
     let rest : times a.extent (numbers_of cs) ≡ 0 = omega (arith, once, one, split) in
@@ -115,7 +115,7 @@ but_one a (s ∷ ss) (suc t) once some h (suc i) =
     but_one a ss t (omega (arith, once, sum_by-cons (λ s. times a.extent (numbers_of s)) s ss)) some h i
 
 pub record Fresh (pool : FreeExtents) (os cs : List (List Contents)) (room : ℕ) (a : Address) : Type 0 where
-  pub fresh : IsFresh (shown pool os cs room) a
+  pub fresh : IsFresh (ring_view pool os cs room) a
   pub extent : a.extent < length pool.is_free
   pub offset : a.offset < 4096
 

@@ -6,7 +6,7 @@ use Rattle.std.proofs.lemmas.Bool.{cases_eq, cases_lt}
 use Rattle.std.proofs.lemmas.Bool.Decides.{nat_tests}
 use Rattle.std.proofs.lemmas.List.{get_or_past, get_or_default, get_or-set_same, get_or-set_other, length-set}
 use Rattle.std.proofs.lemmas.List.Sums.{sum_by-set}
-use Rattle.oe_extent.specs.Free.{freed}
+use Rattle.oe_extent.specs.Free.{with_free}
 use Rattle.oe_extent.specs.Kept.{times, AreHeld}
 
 pub times-self : (e : ℕ) → times e (e ∷ []) ≡ 1
@@ -96,7 +96,7 @@ give_held free u v m n e h change q =
 pub give_all_held : (es : List ℕ) (free : List Bool) (u v : ℕ → ℕ) (m n size : ℕ) → AreHeld free u m
     → ((x : ℕ) → u x ≡ v x + times x es)
     → m ≡ n + length es → size ≡ length free
-    → AreHeld (freed es free) v n × AllByRecursion (λ e. e < size) es × (length (freed es free) ≡ size)
+    → AreHeld (with_free es free) v n × AllByRecursion (λ e. e < size) es × (length (with_free es free) ≡ size)
 give_all_held [] free u v m n size h change q s =
     (same_held free u v m n h (λ x. omega (arith, change x)) (omega (arith, q)), tt, sym s)
 give_all_held (e ∷ es) free u v m n size h change q s =

@@ -7,7 +7,7 @@ use Rattle.std.specs.List.{AllByRecursion}
 use Rattle.byteorder.specs.Endian.{big_number}
 use Rattle.byteorder.specs.Numbers.{big_from-append}
 use Rattle.oe_extent.specs.Images.{Writes}
-use Rattle.oe_extent.specs.Strings.{last_length, IsFramed, joined, cut, AreStrings, IsPacked}
+use Rattle.oe_extent.specs.Strings.{last_length, IsFramed, bytes_of_strings, last_strings, AreStrings, IsPacked}
 
 pub last_is : (bytes : List ℕ) (size : ℕ)
     → size ≡ big_number 2 (take (length bytes - (length bytes - 2)) (drop (length bytes - 2) bytes))
@@ -15,9 +15,10 @@ pub last_is : (bytes : List ℕ) (size : ℕ)
 unfolding last_length
 last_is bytes size e = e ∙ ap (big_number 2) (take_rest bytes (length bytes - 2))
 
-pub length-joined : (s : List ℕ) (ss : List (List ℕ)) → length (joined (s ∷ ss)) ≡ length (joined ss) + length s
-unfolding joined
-length-joined s ss = length-append (joined ss) s
+pub length-joined : (s : List ℕ) (ss : List (List ℕ)) → length (bytes_of_strings (s ∷ ss))
+    ≡ length (bytes_of_strings ss) + length s
+unfolding bytes_of_strings
+length-joined s ss = length-append (bytes_of_strings ss) s
 
 drop_behind : (p s : List ℕ) (n : ℕ) → drop (length p + n) (p ++ s) ≡ drop n s
 drop_behind p s n = sym (drop-drop n (length p) (p ++ s)) ∙ ap (drop n) (drop_at p s (length p) refl)
@@ -31,31 +32,31 @@ last-behind p s h =
     ap (λ (n : ℕ). big_number 2 (drop n (p ++ s))) size ∙ ap (big_number 2) tail ∙ h.last
 
 -- a string more
-cut-push : (k : ℕ) (p s : List ℕ) → IsFramed s → cut (suc k) (p ++ s) ≡ s ∷ cut k p
-unfolding cut
+cut-push : (k : ℕ) (p s : List ℕ) → IsFramed s → last_strings (suc k) (p ++ s) ≡ s ∷ last_strings k p
+unfolding last_strings
 cut-push k p s h =
     let size = last-behind p s h in
     let at : length (p ++ s) - last_length (p ++ s) ≡ length p = omega (arith, size, length-append p s) in
-    ap (λ (n : ℕ). drop n (p ++ s) ∷ cut k (take n (p ++ s))) at
-    ∙ ap (λ (x : List ℕ). x ∷ cut k (take (length p) (p ++ s))) (drop_at p s (length p) refl)
-    ∙ ap (λ (x : List ℕ). s ∷ cut k x) (take_at p s (length p) refl)
+    ap (λ (n : ℕ). drop n (p ++ s) ∷ last_strings k (take n (p ++ s))) at
+    ∙ ap (λ (x : List ℕ). x ∷ last_strings k (take (length p) (p ++ s))) (drop_at p s (length p) refl)
+    ∙ ap (λ (x : List ℕ). s ∷ last_strings k x) (take_at p s (length p) refl)
 
 AreStrings-push : (k : ℕ) (p s : List ℕ) → IsFramed s → AreStrings k p → AreStrings (suc k) (p ++ s)
-unfolding joined
+unfolding bytes_of_strings
 AreStrings-push k p s h a =
     let e = cut-push k p s h in
     record {
       framed = subst (λ (l : List (List ℕ)). AllByRecursion IsFramed l) (sym e) (h, a.framed);
-      whole = ap joined e ∙ ap (λ (l : List ℕ). l ++ s) a.whole;
+      whole = ap bytes_of_strings e ∙ ap (λ (l : List ℕ). l ++ s) a.whole;
       counted = omega (arith, a.counted, h.long, length-append p s);
     }
 
 pub AreStrings-none : AreStrings 0 []
-unfolding joined cut
+unfolding bytes_of_strings last_strings
 AreStrings-none = record { framed = tt; whole = refl; counted = omega arith }
 
-pub length-cut : (k : ℕ) (p : List ℕ) → length (cut k p) ≡ k
-unfolding cut
+pub length-cut : (k : ℕ) (p : List ℕ) → length (last_strings k p) ≡ k
+unfolding last_strings
 length-cut zero p = refl
 length-cut (suc k) p = ap suc (length-cut k (take (length p - last_length p) p))
 
@@ -65,30 +66,34 @@ record Newest (k : ℕ) (p : List ℕ) : Type 0 where
   pub one : k ≡ suc less
   pub size : last_length p ≤ length p
   pub long : 4 ≤ last_length p
-  pub cuts : cut k p ≡ drop (length p - last_length p) p ∷ cut less (take (length p - last_length p) p)
+  pub cuts : last_strings k p ≡ drop (length p - last_length p) p
+      ∷ last_strings less (take (length p - last_length p) p)
   pub others : AreStrings less (take (length p - last_length p) p)
 
-count-long : (k : ℕ) (p : List ℕ) → AllByRecursion IsFramed (cut k p) → 4 * k ≤ length (joined (cut k p))
-unfolding cut joined
+count-long : (k : ℕ) (p : List ℕ) → AllByRecursion IsFramed (last_strings k p)
+    → 4 * k ≤ length (bytes_of_strings (last_strings k p))
+unfolding last_strings bytes_of_strings
 count-long zero p h = omega arith
 count-long (suc k) p h =
     let s = drop (length p - last_length p) p in
     let rest = take (length p - last_length p) p in
-    omega (arith, count-long k rest h.1, length-append (joined (cut k rest)) s, h.0.long)
+    omega (arith, count-long k rest h.1, length-append (bytes_of_strings (last_strings k rest)) s, h.0.long)
 
 newest_of : (k : ℕ) (p : List ℕ) → AreStrings k p → 0 < k → Newest k p
-unfolding cut joined
+unfolding last_strings bytes_of_strings
 newest_of zero p a h = absurd (omega arith)
 newest_of (suc k) p a h =
     let cutting = length p - last_length p in
     let s = drop cutting p in
-    let rest = cut k (take cutting p) in
+    let rest = last_strings k (take cutting p) in
     let framed : IsFramed s = a.framed.0 in
-    let whole : joined rest ++ s ≡ p = a.whole in
-    let size : last_length p ≡ length s = ap last_length (sym whole) ∙ last-behind (joined rest) s framed in
-    let fits : last_length p ≤ length p = omega (arith, size, ap length whole, length-append (joined rest) s) in
-    let front : joined rest ≡ take cutting p =
-    sym (take_at (joined rest) s cutting (omega (arith, size, ap length whole, length-append (joined rest) s)))
+    let whole : bytes_of_strings rest ++ s ≡ p = a.whole in
+    let size : last_length p ≡ length s = ap last_length (sym whole) ∙ last-behind (bytes_of_strings rest) s framed in
+    let fits : last_length p ≤ length p = omega
+    (arith, size, ap length whole, length-append (bytes_of_strings rest) s) in
+    let front : bytes_of_strings rest ≡ take cutting p =
+    sym (take_at (bytes_of_strings rest) s cutting
+    (omega (arith, size, ap length whole, length-append (bytes_of_strings rest) s)))
     ∙ ap (take cutting) whole in
     record {
       less = k;
@@ -106,7 +111,8 @@ newest_of (suc k) p a h =
 -- after one string more, which was written behind the others
 pub IsPacked-push : (count fill : ℕ) (bytes s new : List ℕ) (end : ℕ) → IsPacked count fill bytes → IsFramed s
     → Writes bytes fill s new end
-    → IsPacked (suc count) end new × (cut (suc count) (take end new) ≡ s ∷ cut count (take fill bytes))
+    → IsPacked (suc count) end new × (last_strings (suc count) (take end new) ≡ s
+    ∷ last_strings count (take fill bytes))
 IsPacked-push count fill bytes s new end h framed w =
     let front : take end new ≡ take fill bytes ++ s = w.front in
     let filled : length (take fill bytes) ≡ fill = omega (arith, length-take fill bytes, h.small) in (
@@ -117,7 +123,7 @@ IsPacked-push count fill bytes s new end h framed w =
         strings = subst (λ (l : List ℕ). AreStrings (suc count) l) (sym front)
             (AreStrings-push count (take fill bytes) s framed h.strings);
       },
-      ap (cut (suc count)) front ∙ cut-push count (take fill bytes) s framed,
+      ap (last_strings (suc count)) front ∙ cut-push count (take fill bytes) s framed,
     )
 
 -- after the newest string was taken off
@@ -125,11 +131,11 @@ pub record Popped (count fill : ℕ) (bytes : List ℕ) (size : ℕ) : Type 0 wh
   pub some : 0 < count
   pub fits : size ≤ fill
   pub is_packed : IsPacked (count - 1) (fill - size) bytes
-  pub cuts : cut count (take fill bytes) ≡ take size (drop (fill - size) bytes) ∷ cut (count - 1)
+  pub cuts : last_strings count (take fill bytes) ≡ take size (drop (fill - size) bytes) ∷ last_strings (count - 1)
       (take (fill - size) bytes)
 
 pub popped : (count fill : ℕ) (bytes : List ℕ) (size : ℕ) → IsPacked count fill bytes
-    → 0 < length (cut count (take fill bytes))
+    → 0 < length (last_strings count (take fill bytes))
     → size ≡ last_length (take fill bytes) → Popped count fill bytes size
 popped count fill bytes size h some e =
     let page = take fill bytes in
@@ -153,27 +159,28 @@ popped count fill bytes size h some e =
         size = h.size;
         strings = rw less (subst (λ (l : List ℕ). AreStrings n.less l) cutting n.others);
       };
-      cuts = n.cuts ∙ ap (λ (x : List ℕ). x ∷ cut n.less (take (length page - last_length page) page)) newest
-          ∙ ap (λ (l : List ℕ). take size (drop (fill - size) bytes) ∷ cut n.less l) cutting
-          ∙ ap (λ (k : ℕ). take size (drop (fill - size) bytes) ∷ cut k (take (fill - size) bytes)) (sym less);
+      cuts = n.cuts ∙ ap (λ (x : List ℕ). x ∷ last_strings n.less (take (length page - last_length page) page)) newest
+          ∙ ap (λ (l : List ℕ). take size (drop (fill - size) bytes) ∷ last_strings n.less l) cutting
+          ∙ ap (λ (k : ℕ). take size (drop (fill - size) bytes) ∷ last_strings k (take (fill - size) bytes)) (sym less);
     }
 
 pub long_enough : (count fill : ℕ) (bytes : List ℕ) → IsPacked count fill bytes
-    → 0 < length (cut count (take fill bytes))
+    → 0 < length (last_strings count (take fill bytes))
     → 2 ≤ length (take fill bytes)
 long_enough count fill bytes h some =
     let n = newest_of count (take fill bytes) h.strings (omega (arith, length-cut count (take fill bytes))) in
     omega (arith, n.size, n.long)
 
 pub end_is : (count fill : ℕ) (bytes : List ℕ) → IsPacked count fill bytes
-    → fill ≡ length (joined (cut count (take fill bytes)))
+    → fill ≡ length (bytes_of_strings (last_strings count (take fill bytes)))
 end_is count fill bytes h = omega (arith, ap length h.strings.whole, length-take fill bytes, h.small, h.size)
 
 -- what a walk leaves of so many strings when it took the newest off
 pub record TakenOff (count : ℕ) (bytes : List ℕ) (size : ℕ) : Type 0 where
   pub fits : size ≤ length bytes
   pub others : AreStrings (count - 1) (take (length bytes - size) bytes)
-  pub cuts : cut count bytes ≡ drop (length bytes - size) bytes ∷ cut (count - 1) (take (length bytes - size) bytes)
+  pub cuts : last_strings count bytes ≡ drop (length bytes - size) bytes
+      ∷ last_strings (count - 1) (take (length bytes - size) bytes)
 
 pub taken_off : (count : ℕ) (bytes : List ℕ) (size : ℕ) → AreStrings count bytes → 0 < count → size ≡ last_length bytes
     → TakenOff count bytes size
@@ -183,12 +190,12 @@ taken_off count bytes size h some e =
     rw e record {
       fits = n.size;
       others = subst (λ (k : ℕ). AreStrings k (take (length bytes - last_length bytes) bytes)) less n.others;
-      cuts = n.cuts ∙ ap (λ (k : ℕ). drop (length bytes - last_length bytes) bytes ∷ cut k
+      cuts = n.cuts ∙ ap (λ (k : ℕ). drop (length bytes - last_length bytes) bytes ∷ last_strings k
           (take (length bytes - last_length bytes) bytes)) less;
     }
 
-pub none_left : (count : ℕ) (bytes : List ℕ) → count ≡ 0 → cut count bytes ≡ []
-unfolding cut
+pub none_left : (count : ℕ) (bytes : List ℕ) → count ≡ 0 → last_strings count bytes ≡ []
+unfolding last_strings
 none_left zero bytes e = refl
 none_left (suc k) bytes e = absurd (omega (arith, e))
 
@@ -197,10 +204,11 @@ long_walk count bytes h some = let n = newest_of count bytes h some in omega (ar
 
 -- ---- a string among others
 
-joined-append : (xs ys : List (List ℕ)) → joined (xs ++ ys) ≡ joined ys ++ joined xs
-unfolding joined
-joined-append [] ys = sym (append-nil (joined ys))
-joined-append (x ∷ xs) ys = ap (λ (l : List ℕ). l ++ x) (joined-append xs ys) ∙ append_assoc (joined ys) (joined xs) x
+joined-append : (xs ys : List (List ℕ)) → bytes_of_strings (xs ++ ys) ≡ bytes_of_strings ys ++ bytes_of_strings xs
+unfolding bytes_of_strings
+joined-append [] ys = sym (append-nil (bytes_of_strings ys))
+joined-append (x ∷ xs) ys = ap (λ (l : List ℕ). l ++ x) (joined-append xs ys)
+    ∙ append_assoc (bytes_of_strings ys) (bytes_of_strings xs) x
 
 framed-amid : (xs : List (List ℕ)) (s : List ℕ) (ys : List (List ℕ)) → AllByRecursion IsFramed (xs ++ s ∷ ys)
     → IsFramed s
@@ -216,16 +224,17 @@ pub record Amid (bytes s : List ℕ) (offset : ℕ) : Type 0 where
 
 pub amid : (count fill : ℕ) (bytes : List ℕ) (newer : List (List ℕ)) (s : List ℕ) (older : List (List ℕ)) (offset : ℕ)
     → IsPacked count fill bytes
-    → cut count (take fill bytes) ≡ newer ++ s ∷ older → length (joined older) ≡ offset → Amid bytes s offset
-unfolding joined
+    → last_strings count (take fill bytes) ≡ newer ++ s ∷ older → length (bytes_of_strings older) ≡ offset
+    → Amid bytes s offset
+unfolding bytes_of_strings
 amid count fill bytes newer s older offset h e at =
-    let front = joined older in
-    let behind = joined newer ++ drop fill bytes in
-    let packed : take fill bytes ≡ (front ++ s) ++ joined newer = sym h.strings.whole ∙ ap joined e
+    let front = bytes_of_strings older in
+    let behind = bytes_of_strings newer ++ drop fill bytes in
+    let packed : take fill bytes ≡ (front ++ s) ++ bytes_of_strings newer = sym h.strings.whole ∙ ap bytes_of_strings e
     ∙ joined-append newer (s ∷ older) in
     let whole : bytes ≡ front ++ (s ++ behind) =
     sym (take-append-drop fill bytes) ∙ ap (λ (l : List ℕ). l ++ drop fill bytes) packed
-    ∙ append_assoc (front ++ s) (joined newer) (drop fill bytes) ∙ append_assoc front s behind in
+    ∙ append_assoc (front ++ s) (bytes_of_strings newer) (drop fill bytes) ∙ append_assoc front s behind in
     record {
       rest = behind;
       framed = framed-amid newer s older (subst (λ (l : List (List ℕ)). AllByRecursion IsFramed l) e h.strings.framed);

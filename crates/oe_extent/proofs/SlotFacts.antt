@@ -4,21 +4,22 @@ use Rattle.std.proofs.Common.{refl, sym, ap, ◌∙◌, subst, arith}
 use Rattle.std.proofs.lemmas.Bool.{le-leb}
 use Rattle.std.proofs.lemmas.List.{length-map, length-set, map-set}
 use Rattle.oe_extent.specs.declared.extents.Address.{Address}
-use Rattle.oe_extent.specs.Free.{FreeExtents, AllTaken, IsNextFree, taken_at, given_at}
+use Rattle.oe_extent.specs.Free.{FreeExtents, AllTaken, IsNextFree, without_free_at, with_free_at}
 use Rattle.oe_extent.specs.Extents.{Contents, numbers_of, newest_strings, rest_of, end_of, with_string, LosesString}
 use Rattle.oe_extent.specs.Extents.{LosesExtent}
 use Rattle.oe_extent.specs.Ring.{Addressed, RingStrings, rest_behind, behind, IsFull, IsNextAddress}
-use Rattle.oe_extent.specs.Ring.{pool_without_newest, pushed_at, popped_at, sealed_at, reopened_at}
+use Rattle.oe_extent.specs.Ring.{pool_without_newest, with_string_at, without_string_at, after_seal_at}
+use Rattle.oe_extent.specs.Ring.{after_reopening_at}
 use Rattle.oe_extent.specs.Kept.{addressed_of, ArePacked, IsRing}
 use Rattle.oe_extent.proofs.FillFacts.{not_le, end_is, newest_kept, own_freed, More, more_here, more_new, Less}
 use Rattle.oe_extent.proofs.FillFacts.{less_here, less_own, some_newest, no_extents}
-use Rattle.oe_extent.proofs.ChangeFacts.{shown, changed_same, changed_more, changed_less, full, at_slot}
+use Rattle.oe_extent.proofs.ChangeFacts.{ring_view, changed_same, changed_more, changed_less, full, at_slot}
 use Rattle.oe_extent.proofs.ChangeFacts.{strings_at_slot, rest_at, sealing, reopening}
 
 -- the ring keeps its promise, and is seen so
 pub record Stands (pool : FreeExtents) (os cs : List (List Contents)) (room : ℕ) (v : RingStrings) : Type 0 where
   pub ring : IsRing pool.is_free os cs
-  pub view : shown pool os cs room ≡ v
+  pub view : ring_view pool os cs room ≡ v
 
 module _ (pool : FreeExtents) (os cs : List (List Contents)) (room t : ℕ) (r : IsRing pool.is_free os cs)
     (lt : t < length (map addressed_of os)) where
@@ -28,7 +29,7 @@ module _ (pool : FreeExtents) (os cs : List (List Contents)) (room t : ℕ) (r :
   -- one slot's strings are others, and the pool another
   view_set : (new p : FreeExtents) (y : List Contents) (ss : List Addressed) → addressed_of y ≡ ss
       → length new.is_free ≡ length pool.is_free → new ≡ p
-      → shown new (set os t y) cs room ≡ record (shown pool os cs room)
+      → ring_view new (set os t y) cs room ≡ record (ring_view pool os cs room)
       { active = set (map addressed_of os) t ss; pool = p }
   view_set new p y ss e q n = λ i. record {
     extents = q i;
@@ -47,7 +48,7 @@ module _ (pool : FreeExtents) (os cs : List (List Contents)) (room t : ℕ) (r :
       → x₂ ≡ get_or os t x₂
       → x₃ ≡ get_or os t x₃
       → rest ≡ rest_of x₁ → size ≤ rest → size ≡ length s → 4 ≤ length s → a ≡ end_of x₂ → y ≡ with_string s x₃
-      → Stands pool (set os t y) cs room (pushed_at (shown pool os cs room) t a s)
+      → Stands pool (set os t y) cs room (with_string_at (ring_view pool os cs room) t a s)
   push_here x₁ x₂ x₃ y s a size rest e₁ e₂ e₃ er le es long ea ey =
       let x = get_or os t [] in
       let fits : length s ≤ rest_of x = omega (arith, es, le, er, ap rest_of (at_slot os t lt x₁ e₁)) in
@@ -61,14 +62,14 @@ module _ (pool : FreeExtents) (os cs : List (List Contents)) (room t : ℕ) (r :
         view = view_set pool _ y _
             (m.strings ∙ ap (λ (l : List Addressed). record { address = a; bytes = s } ∷ l)
             (sym (strings_at_slot os t within))) refl
-            (sym (ap (λ (b : Bool). cond b pool (taken_at pool a.extent))
+            (sym (ap (λ (b : Bool). cond b pool (without_free_at pool a.extent))
             (le-leb (length s) _ (omega (arith, es, le, er, rest_is x₁ e₁)))));
       }
 
   -- it goes behind the newest string
   pub next_here : (x₁ x₂ : List Contents) (a : Address) (size rest n : ℕ) → x₁ ≡ get_or os t x₁ → x₂ ≡ get_or os t x₂
       → rest ≡ rest_of x₁ → size ≤ rest
-      → size ≡ n → a ≡ end_of x₂ → IsNextAddress (shown pool os cs room) t n a
+      → size ≡ n → a ≡ end_of x₂ → IsNextAddress (ring_view pool os cs room) t n a
   next_here x₁ x₂ a size rest n e₁ e₂ er le es ea = record {
     fits = λ f. ea ∙ ap end_of (at_slot os t lt x₂ e₂) ∙ end_is (get_or os t []) (r.active_packed t)
         ∙ ap behind (sym (strings_at_slot os t within));
@@ -78,25 +79,26 @@ module _ (pool : FreeExtents) (os cs : List (List Contents)) (room t : ℕ) (r :
   -- or in the next free extent
   pub next_other : (x : List Contents) (a : Address) (size rest n : ℕ) → x ≡ get_or os t x → rest ≡ rest_of x
       → rest < size → size ≡ n
-      → IsNextFree pool.is_free pool.cursor a.extent → a.offset ≡ 0 → IsNextAddress (shown pool os cs room) t n a
+      → IsNextFree pool.is_free pool.cursor a.extent → a.offset ≡ 0 → IsNextAddress (ring_view pool os cs room) t n a
   next_other x a size rest n e er gt es next front = record {
     fits = λ f. absurd (omega (arith, f, es, gt, er, rest_is x e));
     other = λ o. (next, front);
   }
 
   pub fits_here : (x : List Contents) (size rest : ℕ) → x ≡ get_or os t x → rest ≡ rest_of x → size ≤ rest
-      → IsFull (shown pool os cs room) t size → ⊥
+      → IsFull (ring_view pool os cs room) t size → ⊥
   fits_here x size rest e er le f = omega (arith, f.0, rest_is x e, le, er)
 
   pub is_full : (x : List Contents) (size rest : ℕ) → x ≡ get_or os t x → rest ≡ rest_of x → rest < size
-      → AllTaken pool.is_free 0 (length pool.is_free) → IsFull (shown pool os cs room) t size
+      → AllTaken pool.is_free 0 (length pool.is_free) → IsFull (ring_view pool os cs room) t size
   is_full x size rest e er gt none = (omega (arith, rest_is x e, gt, er), full pool os cs room r none)
 
   pub push_other : (x₁ x₂ y : List Contents) (s : List ℕ) (size rest e : ℕ) (new : FreeExtents) → x₁ ≡ get_or os t x₁
       → x₂ ≡ get_or os t x₂
       → rest ≡ rest_of x₁ → rest < size → size ≡ length s → length s ≤ 4096 → get_or pool.is_free e false ≡ true
-      → new ≡ taken_at pool e → y ≡ record { number = e; strings = s ∷ [] } ∷ x₂
-      → Stands new (set os t y) cs room (pushed_at (shown pool os cs room) t (record { extent = e; offset = 0 }) s)
+      → new ≡ without_free_at pool e → y ≡ record { number = e; strings = s ∷ [] } ∷ x₂
+      → Stands new (set os t y) cs room (with_string_at (ring_view pool os cs room) t
+      (record { extent = e; offset = 0 }) s)
   push_other x₁ x₂ y s size rest e new e₁ e₂ er gt es small is_free now ey =
       let x = get_or os t [] in
       let same : y ≡ record { number = e; strings = s ∷ [] } ∷ x = ey
@@ -112,7 +114,7 @@ module _ (pool : FreeExtents) (os cs : List (List Contents)) (room t : ℕ) (r :
       record {
         ring = subst (λ (f : List Bool). IsRing f (set os t y) cs) (sym free) ring;
         view = view_set new _ y _ strings (ap length free ∙ length-set pool.is_free e false)
-            (now ∙ sym (ap (λ (b : Bool). cond b pool (taken_at pool e))
+            (now ∙ sym (ap (λ (b : Bool). cond b pool (without_free_at pool e))
             (not_le (length s) _ (omega (arith, gt, es, er, rest_is x₁ e₁)))));
       }
 
@@ -127,13 +129,13 @@ module _ (pool : FreeExtents) (os cs : List (List Contents)) (room t : ℕ) (r :
   popped_view : (new : FreeExtents) (y : List Contents) → Less (get_or os t []) y
       → length new.is_free ≡ length pool.is_free
       → pool_without_newest (addressed_of (get_or os t [])) pool ≡ new
-      → shown new (set os t y) cs room ≡ popped_at (shown pool os cs room) t
+      → ring_view new (set os t y) cs room ≡ without_string_at (ring_view pool os cs room) t
   popped_view new y l q n =
       view_set new _ y _ (l.strings ∙ ap (drop 1) (sym (strings_at_slot os t within))) q
       (sym (ap (λ (ss : List Addressed). pool_without_newest ss pool) (strings_at_slot os t within) ∙ n))
 
   pub pop_here : (x y : List Contents) → x ≡ get_or os t x → LosesString x y
-      → Stands pool (set os t y) cs room (popped_at (shown pool os cs room) t)
+      → Stands pool (set os t y) cs room (without_string_at (ring_view pool os cs room) t)
   pop_here x y e loses =
       let l : LosesString (get_or os t []) y = subst (λ (z : List Contents). LosesString z y) (at_slot os t lt x e)
       loses in
@@ -144,7 +146,8 @@ module _ (pool : FreeExtents) (os cs : List (List Contents)) (room t : ℕ) (r :
       }
 
   pub pop_own : (x y : List Contents) (e : ℕ) → x ≡ get_or os t x → length (newest_strings x) ≡ 1 → LosesExtent x y e
-      → Stands (given_at pool e) (set os t y) cs room (popped_at (shown pool os cs room) t) × (e < length pool.is_free)
+      → Stands (with_free_at pool e) (set os t y) cs room (without_string_at (ring_view pool os cs room) t)
+      × (e < length pool.is_free)
   pop_own x y e ex one loses =
       let a = at_slot os t lt x ex in
       let l : LosesExtent (get_or os t []) y e = subst (λ (z : List Contents). LosesExtent z y e) a loses in
@@ -152,7 +155,7 @@ module _ (pool : FreeExtents) (os cs : List (List Contents)) (room t : ℕ) (r :
       (λ (z : List Contents). length (newest_strings z) ≡ 1) a one in
       let less = less_own (get_or os t []) y e (r.active_packed t) alone l in
       let ring = changed_less pool.is_free os cs t e y r within less.0.packed l.numbers less.1 in
-      let view = popped_view (given_at pool e) y less.0 (length-set pool.is_free e true)
+      let view = popped_view (with_free_at pool e) y less.0 (length-set pool.is_free e true)
       (own_freed (get_or os t []) y e pool alone l) in
       (record { ring = ring.0; view = view }, ring.1)
 
@@ -160,7 +163,7 @@ module _ (pool : FreeExtents) (os cs : List (List Contents)) (room t : ℕ) (r :
 
   pub seal_all : (ts : List (List Contents)) (more : ℕ) (x x' y : List Contents) → x ≡ get_or os t x → x' ≡ x → y ≡ []
       → ts ≡ x' ∷ cs
-      → Stands pool (set os t y) ts more (record (sealed_at (shown pool os cs room) t) { room = more })
+      → Stands pool (set os t y) ts more (record (after_seal_at (ring_view pool os cs room) t) { room = more })
   seal_all ts more x x' y e ex ey et =
       let items : ts ≡ get_or os t [] ∷ cs = et ∙ ap (λ (z : List Contents). z ∷ cs) (ex ∙ at_slot os t lt x e) in
       record {
@@ -170,7 +173,7 @@ module _ (pool : FreeExtents) (os cs : List (List Contents)) (room t : ℕ) (r :
 
   pub reopen_all : (ts : List (List Contents)) (more : ℕ) (x y : List Contents) → get_or (map addressed_of os) t [] ≡ []
       → cs ≡ x ∷ ts → y ≡ x
-      → Stands pool (set os t y) ts more (record (reopened_at (shown pool os cs room) t) { room = more })
+      → Stands pool (set os t y) ts more (record (after_reopening_at (ring_view pool os cs room) t) { room = more })
   reopen_all ts more x y none items same =
       let empty : get_or os t [] ≡ [] = no_extents (get_or os t []) (r.active_packed t)
       (sym (strings_at_slot os t within) ∙ none) in

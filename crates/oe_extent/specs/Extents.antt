@@ -4,7 +4,7 @@ use Rattle.std.specs.Global.{Box}
 use Rattle.oe_extent.specs.declared.sizes.TheConstants.{EXTENT_BYTES}
 use Rattle.oe_extent.specs.declared.extents.Address.{Address}
 use Rattle.oe_extent.specs.declared.extents.Extent.{Extent, Extent', Held-Extent-older, None', Some'}
-use Rattle.oe_extent.specs.Strings.{joined}
+use Rattle.oe_extent.specs.Strings.{bytes_of_strings}
 
 -- what an extent holds: its number among all, and its strings, the newest first
 pub record Contents : Type 0 where
@@ -48,12 +48,12 @@ all_strings (c ∷ cs) = c.strings ++ all_strings cs
 -- the bytes that are left in the newest extent
 abbrev pub rest_of : List Contents → ℕ
 rest_of [] = 0
-rest_of (c ∷ cs) = EXTENT_BYTES - length (joined c.strings)
+rest_of (c ∷ cs) = EXTENT_BYTES - length (bytes_of_strings c.strings)
 
 -- where the next string of the newest extent begins
 abbrev pub end_of : List Contents → Address
 end_of [] = record { extent = 0; offset = 0 }
-end_of (c ∷ cs) = record { extent = c.number; offset = length (joined c.strings) }
+end_of (c ∷ cs) = record { extent = c.number; offset = length (bytes_of_strings c.strings) }
 
 -- one extent with this one string
 abbrev pub first_string : ℕ → List ℕ → Contents

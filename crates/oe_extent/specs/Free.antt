@@ -34,17 +34,17 @@ pub record IsNextFree (free : List Bool) (cursor number : ℕ) : Type 0 where
       ⊎ (AllTaken free cursor (length free) × AllTaken free 0 number)
 
 -- one is taken, and the search goes on behind it
-abbrev pub taken_at : FreeExtents → ℕ → FreeExtents
-taken_at p number = record { is_free = set p.is_free number false; cursor = number + 1 }
+abbrev pub without_free_at : FreeExtents → ℕ → FreeExtents
+without_free_at p number = record { is_free = set p.is_free number false; cursor = number + 1 }
 
 -- one is free again
-abbrev pub given_at : FreeExtents → ℕ → FreeExtents
-given_at p number = record p { is_free = set p.is_free number true }
+abbrev pub with_free_at : FreeExtents → ℕ → FreeExtents
+with_free_at p number = record p { is_free = set p.is_free number true }
 
 -- these extents are free again
-abbrev pub freed : List ℕ → List Bool → List Bool
-freed [] free = free
-freed (e ∷ es) free = freed es (set free e true)
+abbrev pub with_free : List ℕ → List Bool → List Bool
+with_free [] free = free
+with_free (e ∷ es) free = with_free es (set free e true)
 
-abbrev pub all_given : FreeExtents → List ℕ → FreeExtents
-all_given p numbers = record p { is_free = freed numbers p.is_free }
+abbrev pub with_all_free : FreeExtents → List ℕ → FreeExtents
+with_all_free p numbers = record p { is_free = with_free numbers p.is_free }

@@ -3,7 +3,7 @@ use Rattle.std.specs.Prelude.{◌≡◌, ◌<◌, ◌≤◌, ◌+◌, ◌==◌, 
 use Rattle.std.specs.Prelude.{if◌then◌else◌}
 use Rattle.std.specs.List.{AllByRecursion, sum_by}
 use Rattle.oe_extent.specs.declared.sizes.TheConstants.{EXTENT_BYTES}
-use Rattle.oe_extent.specs.Strings.{joined}
+use Rattle.oe_extent.specs.Strings.{bytes_of_strings}
 use Rattle.oe_extent.specs.Extents.{Contents, numbers_of, rest_of}
 use Rattle.oe_extent.specs.Free.{count_of_free}
 use Rattle.oe_extent.specs.Ring.{Addressed}
@@ -12,7 +12,7 @@ use Rattle.oe_extent.specs.Ring.{Addressed}
 abbrev pub addressed_in : ℕ → List (List ℕ) → List Addressed
 addressed_in n [] = []
 addressed_in n (x ∷ xs) =
-    record { address = record { extent = n; offset = length (joined xs) }; bytes = x }
+    record { address = record { extent = n; offset = length (bytes_of_strings xs) }; bytes = x }
     ∷ addressed_in n xs
 
 -- the strings of a list of extents, with their addresses
@@ -33,7 +33,7 @@ HaveBytes xs = AllByRecursion (λ x. 0 < length x) xs
 abbrev pub FillsUp : ℕ → List (List ℕ) → Type 0
 FillsUp rest [] = ⊥
 FillsUp rest (x ∷ xs) =
-    Opens rest x xs × (length (joined (x ∷ xs)) ≤ EXTENT_BYTES) × HaveBytes (x ∷ xs)
+    Opens rest x xs × (length (bytes_of_strings (x ∷ xs)) ≤ EXTENT_BYTES) × HaveBytes (x ∷ xs)
 
 -- each extent has strings, and its first did not fit into the extent before
 abbrev pub ArePacked : List Contents → Type 0

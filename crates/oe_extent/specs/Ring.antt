@@ -4,7 +4,7 @@ use Rattle.std.specs.Prelude.{length, map, take, drop, get_or, set, replicate}
 use Rattle.std.specs.List.{AllByRecursion, sum_by}
 use Rattle.oe_extent.specs.declared.sizes.TheConstants.{EXTENT_BYTES}
 use Rattle.oe_extent.specs.declared.extents.Address.{Address}
-use Rattle.oe_extent.specs.Free.{FreeExtents, IsNextFree, taken_at, given_at, all_given}
+use Rattle.oe_extent.specs.Free.{FreeExtents, IsNextFree, without_free_at, with_free_at, with_all_free}
 
 -- a string with its address
 pub record Addressed : Type 0 where
@@ -21,9 +21,9 @@ pub record RingStrings : Type 0 where
   pub pool : FreeExtents
 
 -- how many extents strings of these lengths, the newest first, fill in order, and how many bytes are left of the last
-abbrev pub filled : List ℕ → ℕ × ℕ
-filled [] = (0, 0)
-filled (l ∷ ls) = let f = filled ls in cond (nat_le l f.1) (f.0, f.1 - l) (suc f.0, EXTENT_BYTES - l)
+abbrev pub fill_of : List ℕ → ℕ × ℕ
+fill_of [] = (0, 0)
+fill_of (l ∷ ls) = let f = fill_of ls in cond (nat_le l f.1) (f.0, f.1 - l) (suc f.0, EXTENT_BYTES - l)
 
 abbrev pub lengths_of : List Addressed → List ℕ
 lengths_of ss = map (λ s. length s.bytes) ss
@@ -31,8 +31,8 @@ lengths_of ss = map (λ s. length s.bytes) ss
 -- how many extents all strings fill
 abbrev pub used_of : RingStrings → ℕ
 used_of v =
-    sum_by (λ ss. (filled (lengths_of ss)).0) v.active
-    + sum_by (λ ss. (filled (lengths_of ss)).0) v.committed
+    sum_by (λ ss. (fill_of (lengths_of ss)).0) v.active
+    + sum_by (λ ss. (fill_of (lengths_of ss)).0) v.committed
 
 -- for how many commits there is memory, those that are there included
 abbrev pub capacity_of : RingStrings → ℕ
@@ -40,7 +40,7 @@ capacity_of v = length v.committed + v.room
 
 -- how many bytes are left behind these strings in the last extent that they fill
 abbrev pub rest_behind : List Addressed → ℕ
-rest_behind ss = (filled (lengths_of ss)).1
+rest_behind ss = (fill_of (lengths_of ss)).1
 
 -- a string of that length fits neither the rest of the slot's last extent nor a free one
 abbrev pub IsFull : RingStrings → ℕ → ℕ → Type 0
@@ -61,24 +61,24 @@ pub record IsNextAddress (v : RingStrings) (slot size : ℕ) (a : Address) : Typ
       → IsNextFree v.pool.is_free v.pool.cursor a.extent × (a.offset ≡ 0)
 
 -- a slot has a string more, and the string takes its extent where the rest of the slot's last one is too short
-abbrev pub pushed_at : RingStrings → ℕ → Address → List ℕ → RingStrings
-pushed_at v slot a bytes =
+abbrev pub with_string_at : RingStrings → ℕ → Address → List ℕ → RingStrings
+with_string_at v slot a bytes =
     let s : Addressed = record { address = a; bytes = bytes } in
     let ss = get_or v.active slot [] in
     record v {
       active = set v.active slot (s ∷ ss);
-      pool = cond (nat_le (length bytes) (rest_behind ss)) v.pool (taken_at v.pool a.extent);
+      pool = cond (nat_le (length bytes) (rest_behind ss)) v.pool (without_free_at v.pool a.extent);
     }
 
 -- the pool without the newest of these strings, whose extent is free again where the string stands at its front: no
 -- other stands there
 abbrev pub pool_without_newest : List Addressed → FreeExtents → FreeExtents
 pool_without_newest [] p = p
-pool_without_newest (s ∷ ss) p = cond (s.address.offset == 0) (given_at p s.address.extent) p
+pool_without_newest (s ∷ ss) p = cond (s.address.offset == 0) (with_free_at p s.address.extent) p
 
 -- a slot has a string less, and the pool an extent more where that string was the only one there
-abbrev pub popped_at : RingStrings → ℕ → RingStrings
-popped_at v slot =
+abbrev pub without_string_at : RingStrings → ℕ → RingStrings
+without_string_at v slot =
     let ss = get_or v.active slot [] in
     record v { active = set v.active slot (drop 1 ss); pool = pool_without_newest ss v.pool }
 
@@ -115,13 +115,13 @@ pub record IsFresh (v : RingStrings) (a : Address) : Type 0 where
   pub committed : (commit : ℕ) → StandElsewhere a (get_or v.committed commit [])
 
 -- the newest commit has a slot's strings, and the slot has none
-abbrev pub sealed_at : RingStrings → ℕ → RingStrings
-sealed_at v slot =
+abbrev pub after_seal_at : RingStrings → ℕ → RingStrings
+after_seal_at v slot =
     record v { active = set v.active slot []; committed = get_or v.active slot [] ∷ v.committed }
 
 -- a slot has the strings of the newest commit, which is gone
-abbrev pub reopened_at : RingStrings → ℕ → RingStrings
-reopened_at v slot =
+abbrev pub after_reopening_at : RingStrings → ℕ → RingStrings
+after_reopening_at v slot =
     record v {
       active = set v.active slot (get_or v.committed 0 []);
       committed = drop 1 v.committed;
@@ -145,7 +145,7 @@ without_oldest v room =
     record v {
       committed = without_last v.committed;
       room = room;
-      pool = all_given v.pool (extents_of (oldest_of v.committed));
+      pool = with_all_free v.pool (extents_of (oldest_of v.committed));
     }
 
 -- no strings, and all extents are free

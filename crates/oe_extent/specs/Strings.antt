@@ -15,20 +15,20 @@ pub record IsFramed (s : List ℕ) : Type 0 where
   pub last : last_length s ≡ length s
 
 -- the bytes of strings, the newest first, which stands last
-unfoldable pub joined : List (List ℕ) → List ℕ
-joined [] = []
-joined (s ∷ ss) = joined ss ++ s
+unfoldable pub bytes_of_strings : List (List ℕ) → List ℕ
+bytes_of_strings [] = []
+bytes_of_strings (s ∷ ss) = bytes_of_strings ss ++ s
 
 -- the last k strings of the bytes, the newest first: the last two bytes of each are its length
-unfoldable pub cut : ℕ → List ℕ → List (List ℕ)
-cut zero bytes = []
-cut (suc k) bytes =
-    let start = length bytes - last_length bytes in drop start bytes ∷ cut k (take start bytes)
+unfoldable pub last_strings : ℕ → List ℕ → List (List ℕ)
+last_strings zero bytes = []
+last_strings (suc k) bytes =
+    let start = length bytes - last_length bytes in drop start bytes ∷ last_strings k (take start bytes)
 
 -- `count` framed strings fill the bytes
 pub record AreStrings (count : ℕ) (bytes : List ℕ) : Type 0 where
-  pub framed : AllByRecursion IsFramed (cut count bytes)
-  pub whole : joined (cut count bytes) ≡ bytes
+  pub framed : AllByRecursion IsFramed (last_strings count bytes)
+  pub whole : bytes_of_strings (last_strings count bytes) ≡ bytes
   pub counted : FRAME_BYTES * count ≤ length bytes
 
 -- the bytes of an extent, whose front is full of strings
@@ -42,7 +42,7 @@ pub record BeginsAt (ss : List (List ℕ)) (offset : ℕ) (s : List ℕ) : Type 
   pub newer : List (List ℕ)
   pub older : List (List ℕ)
   pub parts : ss ≡ newer ++ s ∷ older
-  pub behind : length (joined older) ≡ offset
+  pub behind : length (bytes_of_strings older) ≡ offset
 
 -- one of these strings begins there
 pub record HasOffset (ss : List (List ℕ)) (offset : ℕ) : Type 0 where

@@ -152,7 +152,7 @@ impl ExtentList {
 
     /// Appends a string to another extent, which becomes the newest.
     #[inline(never)]
-    #[tactic(auto, unfolding(crate::specs::Strings::joined))]
+    #[tactic(auto, unfolding(crate::specs::Strings::bytes_of_strings))]
     pub(crate) fn push_new<S: Written>(&mut self, number: usize, extent: Box<Extent>, string: &S)
         requires fresh { IsEmptyExtent number extent.value }
         requires framed { IsFramed (S.image string.now) }

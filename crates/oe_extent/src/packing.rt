@@ -4,7 +4,7 @@
 ghost use Rattle.std.specs.Prelude.{◌≡◌, ◌<◌, ◌≤◌, ◌+◌, [], ◌∷◌, length, drop, IfOk};
 ghost use Rattle.oe_extent.specs.declared.sizes.TheConstants.{EXTENT_BYTES, LENGTH_BYTES};
 ghost use Rattle.oe_extent.specs.Images.{Writes};
-ghost use Rattle.oe_extent.specs.Strings.{last_length, joined, IsFramed, HasOffset, IsStringFrom};
+ghost use Rattle.oe_extent.specs.Strings.{last_length, bytes_of_strings, IsFramed, HasOffset, IsStringFrom};
 
 use crate::images::Written;
 use crate::sizes::{EXTENT_BYTES, LENGTH_BYTES};
@@ -33,11 +33,11 @@ pub(crate) struct PackedStrings {
 
 impl Model for PackedStrings {
     ghost use Rattle.std.specs.Prelude.{ℕ, List, take};
-    ghost use Rattle.oe_extent.specs.Strings.{cut, IsPacked};
+    ghost use Rattle.oe_extent.specs.Strings.{last_strings, IsPacked};
 
     ghost Value = { List (List ℕ) };
 
-    ghost view = { λ p. cut p.count (take p.fill p.bytes.items) };
+    ghost view = { λ p. last_strings p.count (take p.fill p.bytes.items) };
 
     ghost invariant = { λ p. IsPacked p.count p.fill p.bytes.items };
 }
@@ -92,7 +92,7 @@ impl PackedStrings {
     /// Tells how many bytes are left behind the strings: 0 to 4,096.
     #[inline(always)]
     pub(crate) fn rest(&self) -> usize
-        ensures { result + length (joined self.now) ≡ EXTENT_BYTES }
+        ensures { result + length (bytes_of_strings self.now) ≡ EXTENT_BYTES }
     {
         EXTENT_BYTES - self.fill
     }
@@ -100,7 +100,7 @@ impl PackedStrings {
     /// Gives the offset at which the next string begins: 0 to 4,096.
     #[inline(always)]
     pub(crate) fn end(&self) -> usize
-        ensures value { result ≡ length (joined self.now) }
+        ensures value { result ≡ length (bytes_of_strings self.now) }
         ensures most { result ≤ EXTENT_BYTES }
     {
         self.fill
@@ -118,7 +118,7 @@ impl PackedStrings {
     #[inline(always)]
     pub(crate) fn push<S: Written>(&mut self, string: &S)
         requires framed { IsFramed (S.image string.now) }
-        requires room { length (joined self.old) + length (S.image string.now) ≤ EXTENT_BYTES }
+        requires room { length (bytes_of_strings self.old) + length (S.image string.now) ≤ EXTENT_BYTES }
         ensures { self.new ≡ S.image string.now ∷ self.old }
     {
         self.fill = write_at(&mut self.bytes, self.fill, string);

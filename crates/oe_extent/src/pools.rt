@@ -6,7 +6,7 @@
 //! changes nothing.
 ghost use Rattle.std.specs.Prelude.{◌≡◌, ◌<◌, ◌≤◌, ℕ, true, length, map, is_some, replicate, set, IfOk, IfSome, IfNone};
 ghost use Rattle.std.specs.List.{AllByRecursion};
-ghost use Rattle.oe_extent.specs.Free.{AllTaken, IsFirstFree, IsNextFree, taken_at, given_at, all_given};
+ghost use Rattle.oe_extent.specs.Free.{AllTaken, IsFirstFree, IsNextFree, without_free_at, with_free_at, with_all_free};
 ghost use Rattle.oe_extent.specs.Extents.{number_of, numbers_of, IsEmptyExtent};
 
 use crate::extents::{Extent, ExtentList};
@@ -96,7 +96,7 @@ impl Pool {
     pub(crate) fn take(&mut self) -> Option<(usize, Box<Extent>)>
         ensures next { IfSome result (λ e. IsNextFree self.old.is_free self.old.cursor e.0) }
         ensures fresh { IfSome result (λ e. IsEmptyExtent e.0 e.1.value) }
-        ensures taken { IfSome result (λ e. self.new ≡ taken_at self.old e.0) }
+        ensures taken { IfSome result (λ e. self.new ≡ without_free_at self.old e.0) }
         ensures none { IfNone result (AllTaken self.old.is_free 0 (length self.old.is_free)) }
         ensures same { IfNone result (self.new ≡ self.old) }
     {
@@ -115,7 +115,7 @@ impl Pool {
     /// Gives an extent back.
     pub(crate) fn give(&mut self, extent: Box<Extent>)
         requires { number_of extent.value < length self.old.is_free }
-        ensures { self.new ≡ given_at self.old (number_of extent.value) }
+        ensures { self.new ≡ with_free_at self.old (number_of extent.value) }
     {
         let number = extent.number();
         let before = self.extents[number].replace(extent);
@@ -127,7 +127,7 @@ impl Pool {
     /// Gives all extents of a list back.
     pub(crate) fn give_all(&mut self, list: ExtentList)
         requires { AllByRecursion (λ e. e < length self.old.is_free) (numbers_of list) }
-        ensures { self.new ≡ all_given self.old (numbers_of list) }
+        ensures { self.new ≡ with_all_free self.old (numbers_of list) }
     {
         let mut list = list;
         while let Some(extent) = list.take_newest() {

@@ -10,7 +10,7 @@
 ghost use Rattle.std.specs.Prelude.{◌≡◌, ◌<◌, ◌≤◌, ◌+◌, ◌↔◌, [], length, get_or, replicate, IsErr, IfOk, OnOk, OnErr};
 ghost use Rattle.oe_extent.specs.declared.sizes.TheConstants.{EXTENT_BYTES};
 ghost use Rattle.oe_extent.specs.Strings.{IsFramed};
-ghost use Rattle.oe_extent.specs.Ring.{used_of, IsFull, IsFresh, IsNextAddress, no_strings, pushed_at, popped_at, sealed_at, reopened_at, newest_bytes, strings_of, without_oldest, capacity_of, HasAddress, IsStringAt};
+ghost use Rattle.oe_extent.specs.Ring.{used_of, IsFull, IsFresh, IsNextAddress, no_strings, with_string_at, without_string_at, after_seal_at, after_reopening_at, newest_bytes, strings_of, without_oldest, capacity_of, HasAddress, IsStringAt};
 
 use crate::extents::{Address, ExtentList};
 use crate::images::Written;
@@ -100,7 +100,7 @@ impl Ring {
     pub fn seal(&mut self, slot: usize)
         requires slot { slot < length self.old.active }
         requires room { 0 < self.old.room }
-        ensures sealed { self.new ≡ record (sealed_at self.old slot) { room = self.new.room } }
+        ensures sealed { self.new ≡ record (after_seal_at self.old slot) { room = self.new.room } }
         ensures room { self.new.room + 1 ≡ self.old.room }
     {
         let list = std::mem::replace(&mut self.active[slot], ExtentList::new());
@@ -112,7 +112,7 @@ impl Ring {
         requires slot { slot < length self.old.active }
         requires empty { get_or self.old.active slot [] ≡ [] }
         requires some { 0 < length self.old.committed }
-        ensures reopened { self.new ≡ record (reopened_at self.old slot) { room = self.new.room } }
+        ensures reopened { self.new ≡ record (after_reopening_at self.old slot) { room = self.new.room } }
         ensures room { capacity_of self.new ≡ capacity_of self.old }
     {
         let newest = self.committed.pop_front();
@@ -128,7 +128,7 @@ impl Ring {
         requires framed { IsFramed (S.image string.now) }
         requires small { length (S.image string.now) ≤ EXTENT_BYTES }
         ensures pushed { IfOk result (λ a.
-            self.new ≡ pushed_at self.old slot a (S.image string.now)) }
+            self.new ≡ with_string_at self.old slot a (S.image string.now)) }
         ensures same { OnErr result (self.new ≡ self.old) }
         ensures next { IfOk result (IsNextAddress self.old slot (length (S.image string.now))) }
         ensures full { IsErr result ↔ IsFull self.old slot (length (S.image string.now)) }
@@ -202,7 +202,7 @@ impl Ring {
     pub fn pop(&mut self, slot: usize)
         requires slot { slot < length self.old.active }
         requires some { 0 < length (get_or self.old.active slot []) }
-        ensures { self.new ≡ popped_at self.old slot }
+        ensures { self.new ≡ without_string_at self.old slot }
     {
         let emptied = self.active[slot].pop();
         if let Some(extent) = emptied {

@@ -21,11 +21,11 @@ pub(crate) struct ExtentStrings<'a> {
 
 impl<'a> Model for ExtentStrings<'a> {
     ghost use Rattle.std.specs.Prelude.{ℕ, List};
-    ghost use Rattle.oe_extent.specs.Strings.{cut, AreStrings};
+    ghost use Rattle.oe_extent.specs.Strings.{last_strings, AreStrings};
 
     ghost Value = { List (List ℕ) };
 
-    ghost view = { λ s. cut s.count s.bytes.now };
+    ghost view = { λ s. last_strings s.count s.bytes.now };
 
     ghost invariant = { λ s. AreStrings s.count s.bytes.now };
 }

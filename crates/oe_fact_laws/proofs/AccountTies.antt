@@ -23,8 +23,8 @@ use Rattle.oe_ledgers.specs.ColumnLaws.{int_max_associative, int_max_commutative
 use Rattle.oe_ledgers.specs.Keys.{same_customer, same_order}
 use Rattle.oe_ledgers.specs.Figures.{c_balance, c_ytd_payment, paid_by_customer}
 use Rattle.oe_checks.specs.Accounts as accounts
-use Rattle.oe_checks.specs.Accounts.{less, added}
-use Rattle.oe_checks.specs.Deliveries.{customer_at, customer_of, same_known, delivered, delivered_to}
+use Rattle.oe_checks.specs.Accounts.{less, figure_sum}
+use Rattle.oe_checks.specs.Deliveries.{customer_at, customer_of, same_known, delivered_amount, delivered_to}
 use Rattle.oe_fact_laws.specs.Facts.{Facts, AreFactsOf, customer_fact, history_fact, order_fact, line_fact, customer_id}
 use Rattle.oe_fact_laws.specs.Facts.{order_id}
 use Rattle.oe_fact_laws.specs.FactLaws.{FindsNothing}
@@ -98,7 +98,7 @@ module _ (f : Facts) (r : Rows) (are : AreFactsOf f r) where
       → unwrap_or (delivered_to f.orders f.order_lines (customer_id c)) (pos 0) ≡ pos (delivered_for r c)
   delivered_is c =
       sum_of_group order_line_total line_fact r.order_lines f.order_lines are.order_lines same_known
-      (λ z. customer_of f.orders z.order) delivered (Some (customer_id c))
+      (λ z. customer_of f.orders z.order) delivered_amount (Some (customer_id c))
       (λ l y. amount_for c (order_of_line l) (get r.orders (order_of_line l)) y) (λ l y e. line_counts c l y)
 
   less_is : (a b : Option ℤ) (m n : ℕ) → unwrap_or a (pos 0) ≡ pos m → unwrap_or b (pos 0) ≡ pos n
@@ -126,13 +126,13 @@ module _ (f : Facts) (r : Rows) (are : AreFactsOf f r) where
       sum c = less (delivered_to f.orders f.order_lines (customer_id c))
           (paid_by_customer f.histories (customer_id c))
 
-  added_is : (c : CustomerKey) → added (c_balance f.customers (customer_id c))
+  added_is : (c : CustomerKey) → figure_sum (c_balance f.customers (customer_id c))
       (c_ytd_payment f.customers (customer_id c))
       ≡ option_map (λ x. x.account.balance +ℤ pos x.account.ytd_payment) (get r.customers c)
-  added_is c = (λ i. added (balance_is c i) (ytd_is c i)) ∙ together (get r.customers c)
+  added_is c = (λ i. figure_sum (balance_is c i) (ytd_is c i)) ∙ together (get r.customers c)
     where
       together : (v : Option Customer)
-          → added (option_map (λ (x : Customer). x.account.balance) v)
+          → figure_sum (option_map (λ (x : Customer). x.account.balance) v)
           (option_map (λ (x : Customer). pos x.account.ytd_payment) v)
           ≡ option_map (λ (x : Customer). x.account.balance +ℤ pos x.account.ytd_payment) v
       together None = refl
@@ -151,4 +151,4 @@ module _ (f : Facts) (r : Rows) (are : AreFactsOf f r) where
       (delivered_is c))
     where
       both : CustomerKey → Option ℤ
-      both c = added (c_balance f.customers (customer_id c)) (c_ytd_payment f.customers (customer_id c))
+      both c = figure_sum (c_balance f.customers (customer_id c)) (c_ytd_payment f.customers (customer_id c))

@@ -17,7 +17,7 @@ use Rattle.oe_ledgers.specs.Figures.{greatest_order, orders_of_district}
 use Rattle.oe_ledgers.proofs.SumFacts.{projected, pos_max}
 use Rattle.oe_model.proofs.CountFacts as counts
 use Rattle.oe_checks.specs.declared.figures.Apart.{Apart}
-use Rattle.oe_checks.specs.Comparing.{repeated, single}
+use Rattle.oe_checks.specs.Comparing.{repeats_apart, single}
 use Rattle.oe_model.proofs.EntryFacts.{EachOf}
 use Rattle.oe_fact_laws.specs.FactLaws.{order_at, Orders_have_no_gap}
 use Rattle.oe_fact_laws.proofs.TiedFacts.{equal_tied}
@@ -55,17 +55,17 @@ module _ {J : Type 0} (same : J → J → Bool) (key : OrderFact → J) (j : J) 
       ap (λ s. unwrap_or s (pos 0)) e in omega (arith, ints)
 
   -- a key that stands once
-  at_most_one : (fs : List OrderFact) → repeated (rows fs) ≡ None → count fs ≤ 1
+  at_most_one : (fs : List OrderFact) → repeats_apart (rows fs) ≡ None → count fs ≤ 1
   at_most_one fs = go (rows fs) (rows_are fs)
     where
       few : (n : ℕ) (b : Bool) → nat_lt 1 n ≡ b → (a : Apart) → cond b (Some a) None ≡ None → n ≤ 1
       few n true t a e = let no : ⊥ = cc in absurd no
       few n false t a e = ltb-false 1 n t
 
-      go : (s : Option ℤ) → unwrap_or s (pos 0) ≡ pos (count fs) → repeated s ≡ None → count fs ≤ 1
+      go : (s : Option ℤ) → unwrap_or s (pos 0) ≡ pos (count fs) → repeats_apart s ≡ None → count fs ≤ 1
       go None is e = let none : count fs ≡ 0 = omega (arith, ints) in omega arith
       go (Some z) is e = few (count fs) (nat_lt 1 (count fs)) refl (record { first = pos (count fs); second = pos 1 })
-          (ap repeated (ap Some (sym is)) ∙ e)
+          (ap repeats_apart (ap Some (sym is)) ∙ e)
 
 -- SUMS OVER NUMBERS
 

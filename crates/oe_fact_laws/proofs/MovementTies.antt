@@ -20,7 +20,7 @@ use Rattle.oe_model.specs.Keys.{order_of_line, customer_of_order, supply_of_line
 use Rattle.oe_model.specs.Rows.{Rows}
 use Rattle.oe_model.specs.FurtherConditions.{if_of_order, if_of_customer}
 use Rattle.oe_movements.specs.Movements as movements
-use Rattle.oe_movements.specs.Movements.{delivered_of, ordered, is_ordered, quantity_of, one_line, one_remote}
+use Rattle.oe_movements.specs.Movements.{delivered_of, order_sum, is_ordered, quantity_of, one_line, one_remote}
 use Rattle.oe_movements.specs.Movements.{payments_of, deliveries_to, is_delivered_to, All_local_at}
 use Rattle.oe_movements.specs.Movements.{Stock_quantity_at, Stock_ytd_at, Stock_orders_at, Stock_remote_at}
 use Rattle.oe_movements.specs.Movements.{Payment_count_at, Delivery_count_at}
@@ -127,7 +127,7 @@ module _ (f : Facts) (r : Rows) (are : AreFactsOf f r) where
       → ((l : OrderLineKey) (y : OrderLine) → column (line_fact l y) ≡ cond (nat_lt initial l.order) (figure l y) 0)
       → (k : StockKey)
       → unwrap_or (sum_of same_stock (λ z. stock_of_line z) (λ z. pos (column z)) f.order_lines (stock_id k)) (pos 0)
-      ≡ pos (ordered figure initial r k)
+      ≡ pos (order_sum figure initial r k)
   ordered_is initial column figure is k =
       sum_of_group order_line_total line_fact r.order_lines f.order_lines are.order_lines same_stock
       (λ z. stock_of_line z) (λ z. pos (column z)) (stock_id k)
@@ -143,13 +143,13 @@ module _ (f : Facts) (r : Rows) (are : AreFactsOf f r) where
       → FindsNothing (λ j. Rattle.oe_checks.specs.Comparing.against
       (greatest_of same_stock (λ z. z.key) (λ z. pos (column z)) f.stocks j)
       (sum_of same_stock (λ z. stock_of_line z) (λ z. pos (sum z)) f.order_lines j))
-      ↔ ((k : StockKey) (x : Stock) → get r.stocks k ≡ Some x → column (stock_fact k x) ≡ ordered figure initial r k)
+      ↔ ((k : StockKey) (x : Stock) → get r.stocks k ≡ Some x → column (stock_fact k x) ≡ order_sum figure initial r k)
   stock_tied initial column sum figure is =
-      against_sums r.stocks (λ k x. column (stock_fact k x) ≡ ordered figure initial r k) stock_id
+      against_sums r.stocks (λ k x. column (stock_fact k x) ≡ order_sum figure initial r k) stock_id
       (λ j. record { warehouse = j.warehouse; item = j.item }) (λ j. refl)
       (greatest_of same_stock (λ z. z.key) (λ z. pos (column z)) f.stocks)
       (sum_of same_stock (λ z. stock_of_line z) (λ z. pos (sum z)) f.order_lines) (λ k x. column (stock_fact k x))
-      (ordered figure initial r) (stock_is column) (ordered_is initial sum figure is) (λ k x e. itself)
+      (order_sum figure initial r) (stock_is column) (ordered_is initial sum figure is) (λ k x e. itself)
 
   pub stock_ytd : (initial : ℕ) → FindsNothing (moved.stock_ytd initial f.stocks f.order_lines)
       ↔ movements.Stock_ytd initial r

@@ -38,9 +38,9 @@ use Rattle.oe_ledgers.specs.Keys as ids
 use Rattle.oe_ledgers.specs.Keys.{same_district, same_customer, same_order, same_stock, stock_of_line}
 use Rattle.oe_ledgers.specs.Figures.{sum_of, warehouse_rows, district_rows, customer_rows, new_order_rows, order_rows}
 use Rattle.oe_ledgers.specs.Figures.{item_rows, stock_rows}
-use Rattle.oe_checks.specs.Comparing.{orphaned, repeated}
+use Rattle.oe_checks.specs.Comparing.{orphans_apart, repeats_apart}
 use Rattle.oe_checks.specs.References as references
-use Rattle.oe_checks.specs.Sizes.{stocked, unstocked}
+use Rattle.oe_checks.specs.Sizes.{stock_apart, missing_stock}
 use Rattle.oe_fact_laws.specs.Facts.{Facts, AreFactsOf, AreOf, warehouse_fact, district_fact, customer_fact}
 use Rattle.oe_fact_laws.specs.Facts.{history_fact, new_order_fact, order_fact, line_fact, item_fact, stock_fact}
 use Rattle.oe_fact_laws.specs.Facts.{district_id, customer_id, order_id, stock_id}
@@ -61,7 +61,7 @@ module _ {K X F J L Y : Type 0} {R : K → K → Ordering} {S : L → L → Orde
   abbrev count : J → Option ℤ
   count j = sum_of same key (λ f. pos 1) facts j
 
-  referred : (j : J) (v : Option ℤ) → count j ≡ v → orphaned (count j) (there j) ≡ None → (k : K) (x : X)
+  referred : (j : J) (v : Option ℤ) → count j ≡ v → orphans_apart (count j) (there j) ≡ None → (k : K) (x : X)
       → get m k ≡ Some x → id (target k x) ≡ j → IsSome (get t (target k x))
   referred j None e h k x at is =
       let out : same (key (fact k x)) j ≡ false =
@@ -76,13 +76,13 @@ module _ {K X F J L Y : Type 0} {R : K → K → Ordering} {S : L → L → Orde
       go (Some y) s = refl
       go None s =
           let none : there j ≡ None = ap there (sym is) ∙ there_is (target k x) ∙ ap (option_map (λ y. pos 1)) s in
-          let found : orphaned (Some n) None ≡ None = (λ i. orphaned (sym e i) (sym none i)) ∙ h in
+          let found : orphans_apart (Some n) None ≡ None = (λ i. orphans_apart (sym e i) (sym none i)) ∙ h in
           let no : ⊥ = cc in absurd no
 
   nothing : (q : L) (v : Option ℤ) → count (id q) ≡ v
       → ((k : K) (x : X) → get m k ≡ Some x → IsSome (get t (target k x)))
-      → orphaned (count (id q)) (there (id q)) ≡ None
-  nothing q None e c = ap (λ v. orphaned v (there (id q))) e
+      → orphans_apart (count (id q)) (there (id q)) ≡ None
+  nothing q None e c = ap (λ v. orphans_apart v (there (id q))) e
   nothing q (Some n) e c =
       let row = some_there o exact fact m facts are same key (λ a b. a +ℤ b) +ℤ_assoc +ℤ_comm (λ f. pos 1) (id q) n
       e in
@@ -91,13 +91,14 @@ module _ {K X F J L Y : Type 0} {R : K → K → Ordering} {S : L → L → Orde
       (sym (tie (target row.0 row.1) q) ∙ ap (λ j. same j (id q)) (sym (key_is row.0 row.1)) ∙ row.3) in
       let y = present_some (get t q) (subst (λ (i : L). IsSome (get t i)) here (c row.0 row.1 row.2)) in
       let some : there (id q) ≡ Some (pos 1) = there_is q ∙ ap (option_map (λ z. pos 1)) y.1 in
-      (λ i. orphaned (e i) (some i))
+      (λ i. orphans_apart (e i) (some i))
 
-  pub refers : FindsNothing (λ j. orphaned (count j) (there j))
+  pub refers : FindsNothing (λ j. orphans_apart (count j) (there j))
       ↔ ((k : K) (x : X) → get m k ≡ Some x → IsSome (get t (target k x)))
   refers = (
     λ h k x at. referred (id (target k x)) (count (id (target k x))) refl (h (id (target k x))) k x at refl,
-    λ c j. subst (λ i. orphaned (count i) (there i) ≡ None) (each j) (nothing (back j) (count (id (back j))) refl c),
+    λ c j. subst (λ i. orphans_apart (count i) (there i) ≡ None) (each j)
+        (nothing (back j) (count (id (back j))) refl c),
   )
 
 module _ (f : Facts) (r : Rows) (are : AreFactsOf f r) where
@@ -271,14 +272,14 @@ module _ (f : Facts) (r : Rows) (are : AreFactsOf f r) where
 
   -- STOCKS
 
-  pub stocks_checked : FindsNothing (stocked f.warehouses f.items f.stocks) ↔ IsStocked r
+  pub stocks_checked : FindsNothing (stock_apart f.warehouses f.items f.stocks) ↔ IsStocked r
   stocks_checked = (
     λ h k. (tied k).0 (h (stock_id k)),
     λ c j. back c (record { warehouse = j.warehouse; item = j.item }),
   )
     where
       of_options : {A B C : Type 0} (a : Option A) (b : Option B) (c : Option C)
-          → (unstocked (option_map (λ x. pos 1) a) (option_map (λ x. pos 1) b) (option_map (λ x. pos 1) c) ≡ None)
+          → (missing_stock (option_map (λ x. pos 1) a) (option_map (λ x. pos 1) b) (option_map (λ x. pos 1) c) ≡ None)
           ↔ (IsSome a → IsSome b → IsSome c)
       of_options None b c = (λ _ p q. let no : ⊥ = cc in absurd no, λ _. refl)
       of_options (Some x) None c = (λ _ p q. let no : ⊥ = cc in absurd no, λ _. refl)
@@ -289,27 +290,28 @@ module _ (f : Facts) (r : Rows) (are : AreFactsOf f r) where
       )
       of_options (Some x) (Some y) (Some z) = (λ _ p q. refl, λ _. refl)
 
-      tied : (k : StockKey) → (stocked f.warehouses f.items f.stocks (stock_id k) ≡ None)
+      tied : (k : StockKey) → (stock_apart f.warehouses f.items f.stocks (stock_id k) ≡ None)
           ↔ (IsSome (get r.warehouses (warehouse_of_stock k)) → IsSome (get r.items (item_of_stock k))
           → IsSome (get r.stocks k))
       tied k =
-          let is : stocked f.warehouses f.items f.stocks (stock_id k) ≡ unstocked
+          let is : stock_apart f.warehouses f.items f.stocks (stock_id k) ≡ missing_stock
           (option_map (λ x. pos 1) (get r.warehouses (warehouse_of_stock k)))
           (option_map (λ x. pos 1) (get r.items (item_of_stock k))) (option_map (λ x. pos 1) (get r.stocks k)) =
-          (λ i. unstocked (warehouses_are (warehouse_of_stock k) i) (items_are (item_of_stock k) i) (stocks_are k i))
+          (λ i. missing_stock (warehouses_are (warehouse_of_stock k) i) (items_are (item_of_stock k) i)
+          (stocks_are k i))
           in
           both_ways (λ e. sym is ∙ e, λ e. is ∙ e) (of_options (get r.warehouses (warehouse_of_stock k))
           (get r.items (item_of_stock k)) (get r.stocks k))
 
-      back : IsStocked r → (k : StockKey) → stocked f.warehouses f.items f.stocks (stock_id k) ≡ None
+      back : IsStocked r → (k : StockKey) → stock_apart f.warehouses f.items f.stocks (stock_id k) ≡ None
       back c k = (tied k).1 (c k)
 
   -- KEYS
 
-  once : {A : Type 0} (s : Option ℤ) (v : Option A) → s ≡ option_map (λ x. pos 1) v → repeated s ≡ None
-  once s v e = ap repeated e ∙ one v
+  once : {A : Type 0} (s : Option ℤ) (v : Option A) → s ≡ option_map (λ x. pos 1) v → repeats_apart s ≡ None
+  once s v e = ap repeats_apart e ∙ one v
     where
-      one : {A : Type 0} (v : Option A) → repeated (option_map (λ (x : A). pos 1) v) ≡ None
+      one : {A : Type 0} (v : Option A) → repeats_apart (option_map (λ (x : A). pos 1) v) ≡ None
       one None = refl
       one (Some x) = refl
 

@@ -26,7 +26,7 @@ use Rattle.oe_checks.specs.Accounts as accounts
 use Rattle.oe_checks.specs.Movements as moved
 use Rattle.oe_checks.specs.Keys as keys
 use Rattle.oe_checks.specs.References as references
-use Rattle.oe_checks.specs.Sizes.{stocked}
+use Rattle.oe_checks.specs.Sizes.{stock_apart}
 use Rattle.oe_checks.specs.Schema.{orders_without_gap}
 use Rattle.oe_fact_laws.specs.Facts.{Facts, AreFactsOf}
 
@@ -120,7 +120,7 @@ pub record Schema_is_checked : Type 0 where
   pub references : (f : Facts) (r : Rows) → AreFactsOf f r → (ReferencesFindNothing f × HasTenDistricts r) ↔ Meets r
   -- each warehouse has a STOCK row for each ITEM row
   pub stocked : (f : Facts) (r : Rows) → AreFactsOf f r
-      → FindsNothing (stocked f.warehouses f.items f.stocks) ↔ model.IsStocked r
+      → FindsNothing (stock_apart f.warehouses f.items f.stocks) ↔ model.IsStocked r
   -- tables have no key twice
   pub keys : (f : Facts) (r : Rows) → AreFactsOf f r → KeysStandOnce f
 

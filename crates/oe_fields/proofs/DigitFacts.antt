@@ -13,8 +13,8 @@ abbrev value_from : ℕ → List ℕ → ℕ
 value_from n s = n * 10 ^ length s + sum_of_digits s
 
 -- such a number, where 64 bits hold it, and what is left
-unfoldable held : ℕ → List ℕ → Option (ℕ × List ℕ)
-held n s = cond (nat_lt n (2 ^ 64)) (Some (n, s)) None
+unfoldable number_and_rest : ℕ → List ℕ → Option (ℕ × List ℕ)
+number_and_rest n s = cond (nat_lt n (2 ^ 64)) (Some (n, s)) None
 
 power_more : (n d p v : ℕ) → (n * 10 + d) * p + v ≡ n * (p * 10) + (d * p + v)
 power_more n d p v = omega arith
@@ -22,12 +22,12 @@ power_more n d p v = omega arith
 digit_more : (n d : ℕ) (s : List ℕ) → value_from (n * 10 + (d - 48)) s ≡ value_from n (d ∷ s)
 digit_more n d s = simp unary_clauses (power_more n (d - 48) (10 ^ length s) (sum_of_digits s))
 
-held_small : (n : ℕ) (s : List ℕ) → n < 2 ^ 64 → held n s ≡ Some (n, s)
-unfolding held
+held_small : (n : ℕ) (s : List ℕ) → n < 2 ^ 64 → number_and_rest n s ≡ Some (n, s)
+unfolding number_and_rest
 held_small n s h = rw (lt-ltb n (2 ^ 64) h) refl
 
-held_large : (n : ℕ) (s : List ℕ) → 2 ^ 64 ≤ n → held n s ≡ None
-unfolding held
+held_large : (n : ℕ) (s : List ℕ) → 2 ^ 64 ≤ n → number_and_rest n s ≡ None
+unfolding number_and_rest
 held_large n s h = rw (le-ltb n (2 ^ 64) h) refl
 
 pub more_small : (n d : ℕ) → n * 10 + (d - 48) < 2 ^ 64 → more_of n d ≡ Some (n * 10 + (d - 48))
@@ -47,23 +47,23 @@ value_none n = omega arith
 
 -- the digits at the front, behind a number
 behind : (s : List ℕ) (n : ℕ) → n < 2 ^ 64
-    → digits_from n s ≡ held (value_from n (digits_of s)) (behind_digits s)
-behind [] n h = sym (ap (λ v. held v []) (value_none n) ∙ held_small n [] h)
+    → digits_from n s ≡ number_and_rest (value_from n (digits_of s)) (behind_digits s)
+behind [] n h = sym (ap (λ v. number_and_rest v []) (value_none n) ∙ held_small n [] h)
 behind (b ∷ s) n h =
     let m = n * 10 + (b - 48) in
     elim (is_ascii_digit b) as
     (λ t. cond t (more_of n b >>= λ m. digits_from m s) (Some (n, b ∷ s))
-    ≡ held (value_from n (cond t (b ∷ digits_of s) [])) (cond t (behind_digits s) (b ∷ s))) [
+    ≡ number_and_rest (value_from n (cond t (b ∷ digits_of s) [])) (cond t (behind_digits s) (b ∷ s))) [
       | true ↦
           let same = digit_more n b (digits_of s) in
           let least = at_least m (digits_of s) in
           ⊎_elim
           (λ small. ap (λ o. o >>= λ m. digits_from m s) (more_small n b small) ∙ behind s m small
-          ∙ ap (λ v. held v (behind_digits s)) same)
+          ∙ ap (λ v. number_and_rest v (behind_digits s)) same)
           (λ large. ap (λ o. o >>= λ m. digits_from m s) (more_large n b large)
           ∙ sym (held_large _ (behind_digits s) (omega (arith, least, same, large))))
           (below_or m)
-      | false ↦ sym (ap (λ v. held v (b ∷ s)) (value_none n) ∙ held_small n (b ∷ s) h)
+      | false ↦ sym (ap (λ v. number_and_rest v (b ∷ s)) (value_none n) ∙ held_small n (b ∷ s) h)
     ]
   where
     below_or : (m : ℕ) → (m < 2 ^ 64) ⊎ (2 ^ 64 ≤ m)
@@ -73,5 +73,5 @@ value_zero : (s : List ℕ) → value_from 0 s ≡ sum_of_digits s
 value_zero s = omega arith
 
 pub whole_is : (s : List ℕ) → digits_from 0 s ≡ whole_of s
-unfolding whole_of held
-whole_is s = behind s 0 (omega arith) ∙ ap (λ v. held v (behind_digits s)) (value_zero (digits_of s))
+unfolding whole_of number_and_rest
+whole_is s = behind s 0 (omega arith) ∙ ap (λ v. number_and_rest v (behind_digits s)) (value_zero (digits_of s))

@@ -10,7 +10,7 @@ use Rattle.oe_sources.specs.Fault.{Told}
 use Rattle.oe_books.specs.Closing.{IsReady}
 use Rattle.oe_books.specs.declared.closing.Lack.{Lack}
 use Rattle.oe_books.specs.declared.parts.Asked.{Asked}
-use Rattle.oe_books.specs.Facts.{parted}
+use Rattle.oe_books.specs.Facts.{facts_by_table}
 use Rattle.oe_books.specs.Found.{AreResults, initial_of}
 use Rattle.oe_books.specs.Parts.{asked_checks}
 use Rattle.oe_books.specs.declared.closing.Settled.{Settled}
@@ -29,18 +29,20 @@ use Rattle.oe_file_audit.specs.Audits.{AreOf, verdict_of, Reports, JudgesSound, 
 -- ---- the report
 
 module _ (options : Options) (earlier : Option (List RowFact)) (rows : List RowFact) (s : Settled)
-    (ready : IsReady options.initial (parted (facts_of rows)) s) (asked : Asked) (is : asked ≡ asked_of earlier)
+    (ready : IsReady options.initial (facts_by_table (facts_of rows)) s) (asked : Asked) (is : asked ≡ asked_of earlier)
     (r : Results)
-    (found : AreResults (initial_of s) s.each (parted (facts_of rows)) (prints_of (unwrap_or earlier []))
+    (found : AreResults (initial_of s) s.each (facts_by_table (facts_of rows)) (prints_of (unwrap_or earlier []))
     (prints_of rows) (asked_checks asked) r) where
   pub are_of : AreOf options earlier rows r
   are_of = record {
     each = s.each;
     of_the_first = ready.each;
     results =
-        subst (λ n. AreResults n s.each (parted (facts_of rows)) (prints_of (unwrap_or earlier [])) (prints_of rows)
+        subst (λ n. AreResults n s.each (facts_by_table (facts_of rows)) (prints_of (unwrap_or earlier []))
+        (prints_of rows)
         (asked_checks (asked_of earlier)) r) ready.initial
-        (subst (λ a. AreResults (initial_of s) s.each (parted (facts_of rows)) (prints_of (unwrap_or earlier []))
+        (subst (λ a. AreResults (initial_of s) s.each (facts_by_table (facts_of rows))
+        (prints_of (unwrap_or earlier []))
         (prints_of rows) (asked_checks a) r) is found);
   }
 

@@ -18,10 +18,10 @@ use Rattle.oe_earlier.specs.Keeping.{KeepsTraces}
 use Rattle.oe_earlier.proofs.KeptFacts.{on_both}
 use Rattle.oe_sources.specs.Fault.{Told}
 use Rattle.oe_sources.specs.Tables.{TableRead}
-use Rattle.oe_sources.specs.Taken.{spelled}
+use Rattle.oe_sources.specs.Taken.{spelling}
 use Rattle.oe_sources.specs.declared.ledgers.Taken as taken
 use Rattle.oe_file_audit.proofs.OwnFacts.{AreOf, table_own}
-use Rattle.oe_books.specs.Facts.{Facts, parted, stands_apart, with_apart}
+use Rattle.oe_books.specs.Facts.{Facts, facts_by_table, stands_apart, with_apart}
 use Rattle.oe_books.specs.Keeping.{Keeps}
 use Rattle.oe_books.proofs.ApartFacts.{StandApart, parted_apart}
 use Rattle.oe_file_audit.specs.declared.reading.Entered.{Entered}
@@ -85,15 +85,16 @@ prints_both rows more =
 
 -- ---- facts
 
-own_apart : (t : Table) (rows : List RowFact) → stands_apart t ≡ true → AreOf t (map spelled rows)
+own_apart : (t : Table) (rows : List RowFact) → stands_apart t ≡ true → AreOf t (map spelling rows)
     → StandApart (facts_of rows)
 own_apart t [] apart h = tt
 own_apart t (r ∷ rows) apart h = (ap stands_apart h.0 ∙ apart, own_apart t rows apart h.1)
 
 parted_both : (rows more : List RowFact) → StandApart (facts_of more)
-    → parted (facts_of (rows ++ more)) ≡ with_apart (parted (facts_of rows)) (parted (facts_of more))
+    → facts_by_table (facts_of (rows ++ more))
+    ≡ with_apart (facts_by_table (facts_of rows)) (facts_by_table (facts_of more))
 parted_both rows more h =
-    ap parted (map-append (λ (r : RowFact). r.fact) rows more) ∙ parted_apart (facts_of rows) (facts_of more) h
+    ap facts_by_table (map-append (λ (r : RowFact). r.fact) rows more) ∙ parted_apart (facts_of rows) (facts_of more) h
 
 -- ---- one source more
 
@@ -133,7 +134,8 @@ module _ {S : Type 0} (remaining : S → Option (List ℕ)) (wanted : Wanted) (f
           record {
             books = subst (λ (t : Facts). Keeps given t both.entered.books)
                 (sym (parted_both rows more (own_stand more own.faults apart read.1)))
-                (is.0.books given (Some 0) (parted (facts_of rows)) (parted (facts_of more)) before.2.books
+                (is.0.books given (Some 0) (facts_by_table (facts_of rows))
+                (facts_by_table (facts_of more)) before.2.books
                 read.2.books);
             traces = subst (λ (t : Traced). KeepsTraces t both.entered.traces) (sym (prints_both rows more))
                 (is.0.traces (prints_of rows) (prints_of more) before.2.traces read.2.traces);
@@ -184,7 +186,7 @@ module _ {S : Type 0} (sources : List (TableSource S)) (s : TableSource S) where
 
   pub stops_read : (r : Result Spelled Unread) → IfErr r (λ unread. unread.table ≡ Some s.table)
       → IfErr r (StopsAt (sources ++ s ∷ []))
-  stops_read (Ok spelled) is = tt
+  stops_read (Ok spelling) is = tt
   stops_read (Err unread) is = stops_last unread is
 
   stops_at : (unread : Unread) (so_far : Result Spelled Unread) → IfErr so_far (StopsAt sources)

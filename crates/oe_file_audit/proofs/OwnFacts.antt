@@ -15,8 +15,8 @@ use Rattle.oe_sources.specs.declared.faults.Wrong.{Wrong}
 use Rattle.oe_sources.specs.declared.readings.Layout.{Layout}
 use Rattle.oe_sources.specs.declared.readings.Layout.TheVariants.{Unknown, Known, Lost}
 use Rattle.oe_sources.specs.declared.readings.Reading.{Reading}
-use Rattle.oe_sources.specs.Fault.{capped}
-use Rattle.oe_sources.specs.Reading.{Says, Nothing, fault_says, row_says, placed, read_row, begun, row_by}
+use Rattle.oe_sources.specs.Fault.{in_64_bits}
+use Rattle.oe_sources.specs.Reading.{Says, Nothing, fault_says, row_says, fields_at, read_row, first_reading, row_by}
 use Rattle.oe_sources.specs.Reading.{row_step, first_layout, begin_by, begin_step, count_step, data_by, data_step, step}
 use Rattle.oe_sources.specs.Reading.{long_by}
 use Rattle.oe_sources.specs.Taken.{Spelled, rows_said}
@@ -49,8 +49,8 @@ read_own : (t : Table) (format : Format) (places constants text : List ℕ)
     → AreOf t (rows_said (read_row t format places constants text))
 unfolding read_row
 read_own t format places constants text =
-    row_own t (placed places (fields_of format text)) (print_of t (placed constants (fields_of format text)))
-    (values_in t (placed places (fields_of format text)))
+    row_own t (fields_at places (fields_of format text)) (print_of t (fields_at constants (fields_of format text)))
+    (values_in t (fields_at places (fields_of format text)))
 
 by_layout : (r : Reading) (text : List ℕ) (l : Layout) → IsOwn r.table (row_by r text l)
 by_layout r text (Known places constants) = (refl, read_own r.table r.format places constants text)
@@ -116,11 +116,11 @@ lines_own : (t : Table) (r : Read) (lines : List (List ℕ)) → r.reading.table
     → AreOf t (all_next file_step r lines).rows
 lines_own t r [] is h = h
 lines_own t r (line ∷ lines) is h =
-    let own = line_own (capped (r.count + 1)) r.reading line in
-    let said = (file_step (capped (r.count + 1)) r.reading line).1 in
+    let own = line_own (in_64_bits (r.count + 1)) r.reading line in
+    let said = (file_step (in_64_bits (r.count + 1)) r.reading line).1 in
     lines_own t (next file_step r line) lines (own.0 ∙ is)
     (of_both t r.rows (rows_said said) h (subst (λ u. AreOf u (rows_said said)) is own.1))
 
 pub table_own : (t : Table) (wanted : Wanted) (format : Format) (lines : List (List ℕ))
     → AreOf t (table_says t wanted format lines).rows
-table_own t wanted format lines = lines_own t (begun_read (begun t wanted format) 0) lines refl tt
+table_own t wanted format lines = lines_own t (begun_read (first_reading t wanted format) 0) lines refl tt

@@ -11,16 +11,17 @@ use Rattle.oe_fields.specs.declared.fields.Format.{Format}
 use Rattle.oe_sources.specs.Tables.{TableRead}
 use Rattle.oe_sources.specs.Dump as dump
 use Rattle.oe_sources.specs.declared.ledgers.Taken as taken
-use Rattle.oe_books.specs.Facts.{parted, with_fact, no_facts}
+use Rattle.oe_books.specs.Facts.{facts_by_table, with_fact, no_facts}
 use Rattle.oe_file_audit.specs.declared.reading.Entered.{Entered}
 use Rattle.oe_file_audit.specs.declared.reading.Spelled.{Spelled}
 use Rattle.oe_file_audit.specs.declared.reading.TableSource.{TableSource}
 use Rattle.oe_file_audit.specs.Reading.{Holds, TablesSpell, TablesRead, DumpRead, facts_of, with_print, prints_of}
 
 pub parted_push : (rows : List RowFact) (r : RowFact)
-    → parted (facts_of (rows ++ r ∷ [])) ≡ with_fact (parted (facts_of rows)) r.fact
+    → facts_by_table (facts_of (rows ++ r ∷ [])) ≡ with_fact (facts_by_table (facts_of rows)) r.fact
 parted_push rows r =
-    ap parted (map-append (λ (q : RowFact). q.fact) rows (r ∷ [])) ∙ fold_push with_fact no_facts (facts_of rows) r.fact
+    ap facts_by_table (map-append (λ (q : RowFact). q.fact) rows (r ∷ []))
+    ∙ fold_push with_fact no_facts (facts_of rows) r.fact
 
 pub prints_push : (rows : List RowFact) (r : RowFact) → prints_of (rows ++ r ∷ []) ≡ with_print (prints_of rows) r
 prints_push rows r = fold_push with_print no_rows rows r

@@ -13,7 +13,7 @@ use Rattle.oe_audit_report.specs.Forms.{report_of}
 use Rattle.oe_sources.specs.Fault.{Told}
 use Rattle.oe_books.specs.declared.books.Books.{Books}
 use Rattle.oe_books.specs.declared.findings.Results.{Results}
-use Rattle.oe_books.specs.Facts.{parted}
+use Rattle.oe_books.specs.Facts.{facts_by_table}
 use Rattle.oe_books.specs.Closing.{IsLacking}
 use Rattle.oe_books.specs.Keeping.{Keeps, IsOfFirstDistrict}
 use Rattle.oe_books.specs.Found.{AreResults}
@@ -40,16 +40,17 @@ verdict_of r = if length (failing r.checks.items) == 0 then verdict.Holds else v
 
 -- the books are of some rows' facts
 abbrev pub KeepsSome : Option ℕ → Books → Type 0
-KeepsSome given books = (rows : List RowFact) × Keeps given (parted (facts_of rows)) books
+KeepsSome given books = (rows : List RowFact) × Keeps given (facts_by_table (facts_of rows)) books
 
 -- What checks find of these rows, and against these earlier ones, if there are any: the population had in each district
 -- as many orders as is said, or else as many as the first district has customers.
 pub record AreOf (options : Options) (earlier : Option (List RowFact)) (rows : List RowFact) (r : Results) : Type 0
   where
     pub each : ℕ
-    pub of_the_first : IsOfFirstDistrict (parted (facts_of rows)).customers each
+    pub of_the_first : IsOfFirstDistrict (facts_by_table (facts_of rows)).customers each
     pub results :
-        AreResults (unwrap_or options.initial each) each (parted (facts_of rows)) (prints_of (unwrap_or earlier []))
+        AreResults (unwrap_or options.initial each) each (facts_by_table (facts_of rows))
+        (prints_of (unwrap_or earlier []))
         (prints_of rows) (asked_checks (asked_of earlier)) r
 
 module _ (options : Options) (old new : Option Sink) where
@@ -70,7 +71,7 @@ module _ (options : Options) (old new : Option Sink) where
   JudgesSound earlier rows (Ok (verdict.Unreadable faults)) = ⊥
   JudgesSound earlier rows (Ok (verdict.UnreadableBefore faults)) = ⊥
   JudgesSound earlier rows (Ok (verdict.Lacking lack)) =
-      IsLacking options.initial (parted (facts_of rows)) lack × (new ≡ old)
+      IsLacking options.initial (facts_by_table (facts_of rows)) lack × (new ≡ old)
   JudgesSound earlier rows (Ok verdict.Holds) = Reports earlier rows (Ok verdict.Holds)
   JudgesSound earlier rows (Ok verdict.Fails) = Reports earlier rows (Ok verdict.Fails)
   JudgesSound earlier rows (Err e) = Reports earlier rows (Err e)

@@ -57,11 +57,11 @@ wanted_text kind.Nullable = codes "a field"
 wanted_text kind.Flag = codes "1 or 0"
 
 -- a question mark in place of what can't be printed
-abbrev pub printed : ℕ → ℕ
-printed b = if nat_lt b 32 || nat_lt 126 b then 63 else b
+abbrev pub printable_byte : ℕ → ℕ
+printable_byte b = if nat_lt b 32 || nat_lt 126 b then 63 else b
 
 abbrev pub shown_text : List ℕ → List ℕ
-shown_text bytes = codes " \"" ++ map printed bytes ++ codes "\""
+shown_text bytes = codes " \"" ++ map printable_byte bytes ++ codes "\""
 
 abbrev pub wrong_by : Table → List ℕ → Wrong → List ℕ
 wrong_by t shown (wrong.Misfit m) =

@@ -10,11 +10,11 @@ use Rattle.oe_earlier.specs.Traces.{Traced, no_rows, with_row, traced_together}
 use Rattle.oe_earlier.specs.Keeping.{KeepsTraces}
 use Rattle.oe_filelines.specs.Lines.{AreLines, AreAll}
 use Rattle.oe_sources.specs.Dump.{dump_says, dump_faults}
-use Rattle.oe_sources.specs.Fault.{Told, place_of, no_faults, each_pushed}
+use Rattle.oe_sources.specs.Fault.{Told, place_of, no_faults, with_each_fault}
 use Rattle.oe_sources.specs.Tables.{table_says}
-use Rattle.oe_sources.specs.Taken.{spelled}
+use Rattle.oe_sources.specs.Taken.{spelling}
 use Rattle.oe_sources.specs.declared.ledgers.Taken as taken
-use Rattle.oe_books.specs.Facts.{Facts, parted, with_apart}
+use Rattle.oe_books.specs.Facts.{Facts, facts_by_table, with_apart}
 use Rattle.oe_books.specs.Keeping.{Keeps}
 use Rattle.oe_file_audit.specs.declared.reading.Entered.{Entered}
 use Rattle.oe_file_audit.specs.declared.reading.Spelled.{Spelled}
@@ -39,7 +39,7 @@ prints_of rows = fold with_print no_rows rows
 -- the books are of these rows' facts, and what is compared is of their prints; `given` is the number of first orders
 -- that the caller gave
 pub record Holds (given : Option ℕ) (e : Entered) (rows : List RowFact) : Type 0 where
-  pub books : Keeps given (parted (facts_of rows)) e.books
+  pub books : Keeps given (facts_by_table (facts_of rows)) e.books
   pub traces : KeepsTraces (prints_of rows) e.traces
 
 -- of the rows of both, where the others are of tables that stand apart
@@ -61,8 +61,8 @@ pub record TableSpells (old : Option (List ℕ)) (t : Table) (wanted : Wanted) (
   pub lines : List (List ℕ)
   pub all : AreAll old new bytes
   pub are_lines : AreLines bytes lines
-  pub facts_are : map spelled facts ≡ (table_says t wanted format lines).rows
-  pub faults_are : faults ≡ each_pushed (table_says t wanted format lines).faults no_faults
+  pub facts_are : map spelling facts ≡ (table_says t wanted format lines).rows
+  pub faults_are : faults ≡ with_each_fault (table_says t wanted format lines).faults no_faults
 
 -- the same of a dump
 pub record DumpSpells (wanted : Wanted) (old : Option (List ℕ)) (facts : List RowFact) (faults : Told) : Type 0
@@ -72,8 +72,8 @@ pub record DumpSpells (wanted : Wanted) (old : Option (List ℕ)) (facts : List 
     pub lines : List (List ℕ)
     pub all : AreAll old new bytes
     pub are_lines : AreLines bytes lines
-    pub facts_are : map spelled facts ≡ (dump_says wanted lines).rows
-    pub faults_are : faults ≡ each_pushed (dump_faults (dump_says wanted lines)) no_faults
+    pub facts_are : map spelling facts ≡ (dump_says wanted lines).rows
+    pub faults_are : faults ≡ with_each_fault (dump_faults (dump_says wanted lines)) no_faults
 
 module _ {S : Type 0} (remaining : S → Option (List ℕ)) (wanted : Wanted) (format : Format) where
   -- what the sources of tables spell, one after another

@@ -6,7 +6,7 @@ ghost use Rattle.std.specs.Option.{option_map};
 ghost use Rattle.oe_columns.specs.declared.prints.RowFact.{RowFact};
 ghost use Rattle.oe_earlier.specs.Keeping.{KeepsCompared, AreSettledCompared};
 ghost use Rattle.oe_books.specs.Closing.{AreSettled, IsReady};
-ghost use Rattle.oe_books.specs.Facts.{parted};
+ghost use Rattle.oe_books.specs.Facts.{facts_by_table};
 ghost use Rattle.oe_books.specs.Keeping.{Keeps};
 ghost use Rattle.oe_file_audit.specs.Reading.{Holds, HoldsSome, StopsAt, facts_of, TablesSpell};
 ghost use Rattle.oe_file_audit.specs.Earlier.{any_fault, asked_of, compared_with, IsEarlier};
@@ -88,7 +88,7 @@ fn report<W: Outlet>(
     requires settled { AreSettled settled.now }
     requires compared { AreSettledCompared compared.now }
     ensures { (earlier : Option (List RowFact)) (rows : List RowFact)
-        → IsReady options.now.initial (parted (facts_of rows)) settled.now
+        → IsReady options.now.initial (facts_by_table (facts_of rows)) settled.now
         → asked ≡ asked_of earlier → compared_with earlier rows compared.now
         → Reports options.now (W.sink writer.old) (W.sink writer.new) earlier rows result }
 {
@@ -127,7 +127,7 @@ fn judge_books<W: Outlet>(
     requires books { KeepsSome options.now.initial books }
     requires compared { AreSettledCompared compared.now }
     ensures { (earlier : Option (List RowFact)) (rows : List RowFact)
-        → Keeps options.now.initial (parted (facts_of rows)) books
+        → Keeps options.now.initial (facts_by_table (facts_of rows)) books
         → asked ≡ asked_of earlier → compared_with earlier rows compared.now
         → JudgesSound options.now (W.sink writer.old) (W.sink writer.new) earlier rows result }
 {

@@ -7,7 +7,7 @@ ghost use Rattle.oe_sources.specs.Fault.{place_of};
 ghost use Rattle.std.specs.List.{flat_map};
 ghost use Rattle.arrayvec.specs.ArrayVec.{array_vec_len};
 ghost use Rattle.oe_io.specs.Ports.{Streams};
-ghost use Rattle.oe_file_audit.specs.Faults.{side_text, table_text, name_or, name_at, kind_at, wanted_text, printed, shown_text, wrong_text, fault_line, more_line, more_text, cause_line, source_text, lack_line};
+ghost use Rattle.oe_file_audit.specs.Faults.{side_text, table_text, name_or, name_at, kind_at, wanted_text, printable_byte, shown_text, wrong_text, fault_line, more_line, more_text, cause_line, source_text, lack_line};
 
 use crate::causes::{cause_name, cause_of};
 use oe_audit_report::lines::{LineOf, Lines, TextOf, put_each, put_line};
@@ -131,7 +131,7 @@ fn wanted(out: &mut Pending, kind: Kind)
 
 /// Gives a byte, or a question mark in its place where it can't be printed.
 fn printed(byte: u8) -> u8
-    ensures { result ≡ printed byte }
+    ensures { result ≡ printable_byte byte }
 {
     if byte < 32 || byte > 126 { b'?' } else { byte }
 }

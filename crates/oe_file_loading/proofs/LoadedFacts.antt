@@ -16,7 +16,7 @@ use Rattle.oe_rows.specs.declared.items.Item.{Item}
 use Rattle.oe_rows.specs.declared.orders.NewOrder.{NewOrder}
 use Rattle.oe_rows.specs.declared.orders.Order.{Order}
 use Rattle.oe_rows.specs.declared.orders.OrderLine.{OrderLine}
-use Rattle.oe_model.specs.Changes.{changed, InsertNewOrder, InsertOrder, InsertOrderLine}
+use Rattle.oe_model.specs.Changes.{rows_after, InsertNewOrder, InsertOrder, InsertOrderLine}
 use Rattle.oe_model.specs.Keys.{district_of_customer, order_of_new_order, customer_of_order, order_of_line}
 use Rattle.oe_model.specs.Keys.{supply_of_line}
 use Rattle.std.specs.FinMap.{insert}
@@ -72,27 +72,27 @@ items_keep f still old new start told r s a b count l =
     (λ k x r. record r { items = insert r.items k x }) f still old new start told r s a b count l
 
 pub orders_keep : {Z : Type 0} {format : Format} (f : Rows → Z) → ((k : OrderKey) (x : Order) (r : Rows) → f
-    (changed (InsertOrder k x) r) ≡ f r)
+    (rows_after (InsertOrder k x) r) ≡ f r)
     → (old new : Option Source) (start told : Told TableFault) (r s : Rows) (a b : List apart.Apart) (count : ℕ)
     → TableLoaded (OrdersRead format) PutsOrders old new start told r s a b count → f s ≡ f r
 orders_keep f still old new start told r s a b count l =
-    table_keeps (λ k. key.Order k) (λ k x. key.Customer (customer_of_order k x) ∷ []) (λ k x r. changed
+    table_keeps (λ k. key.Order k) (λ k x. key.Customer (customer_of_order k x) ∷ []) (λ k x r. rows_after
     (InsertOrder k x) r) f still old new start told r s a b count l
 
 pub lines_keep : {Z : Type 0} {format : Format} (f : Rows → Z)
-    → ((k : OrderLineKey) (x : OrderLine) (r : Rows) → f (changed (InsertOrderLine k x) r) ≡ f r)
+    → ((k : OrderLineKey) (x : OrderLine) (r : Rows) → f (rows_after (InsertOrderLine k x) r) ≡ f r)
     → (old new : Option Source) (start told : Told TableFault) (r s : Rows) (a b : List apart.Apart) (count : ℕ)
     → TableLoaded (OrderLinesRead format) PutsLines old new start told r s a b count → f s ≡ f r
 lines_keep f still old new start told r s a b count l =
     table_keeps (λ k. key.OrderLine k) (λ k x. key.Order (order_of_line k) ∷ key.Stock (supply_of_line x) ∷ [])
-    (λ k x r. changed (InsertOrderLine k x) r) f still old new start told r s a b count l
+    (λ k x r. rows_after (InsertOrderLine k x) r) f still old new start told r s a b count l
 
 pub new_orders_keep : {Z : Type 0} {format : Format} (f : Rows → Z) → ((k : NewOrderKey) (x : NewOrder)
-    (r : Rows) → f (changed (InsertNewOrder k x) r) ≡ f r)
+    (r : Rows) → f (rows_after (InsertNewOrder k x) r) ≡ f r)
     → (old new : Option Source) (start told : Told TableFault) (r s : Rows) (a b : List apart.Apart) (count : ℕ)
     → TableLoaded (NewOrdersRead format) PutsNewOrders old new start told r s a b count → f s ≡ f r
 new_orders_keep f still old new start told r s a b count l =
-    table_keeps (λ k. key.NewOrder k) (λ k x. key.Order (order_of_new_order k) ∷ []) (λ k x r. changed
+    table_keeps (λ k. key.NewOrder k) (λ k x. key.Order (order_of_new_order k) ∷ []) (λ k x r. rows_after
     (InsertNewOrder k x) r) f still old new start told r s a b count l
 
 pub base_loaded : (format : Format) (old new : Nine) (start told_1 told_2 told_3 told : Told TableFault)

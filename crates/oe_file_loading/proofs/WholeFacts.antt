@@ -38,7 +38,7 @@ use Rattle.oe_rows.specs.declared.rows.Row.TheVariants as row
 use Rattle.oe_model.specs.Keys.{warehouse_of_district, district_of_customer, order_of_new_order, customer_of_order}
 use Rattle.oe_model.specs.Keys.{order_of_line, supply_of_line, warehouse_of_stock, item_of_stock}
 use Rattle.oe_model.specs.Rows.{Rows, row_at}
-use Rattle.oe_model.specs.Changes.{changed, InsertHistory, InsertNewOrder, InsertOrder, InsertOrderLine}
+use Rattle.oe_model.specs.Changes.{rows_after, InsertHistory, InsertNewOrder, InsertOrder, InsertOrderLine}
 use Rattle.oe_model.proofs.PresenceFacts.{some-map}
 use Rattle.oe_store.specs.Places.{no_rows}
 use Rattle.oe_file_tables.specs.declared.formats.Format.{Format}
@@ -272,25 +272,25 @@ unfolding missing_of
 same_stocks q y k x r = refl
 
 same_orders : (q : OrderKey) (y : Order) (k : OrderKey) (x : Order) (r : Rows)
-    → missing_of (key.Customer (customer_of_order q y) ∷ []) (changed (InsertOrder k x) r)
+    → missing_of (key.Customer (customer_of_order q y) ∷ []) (rows_after (InsertOrder k x) r)
     ≡ missing_of (key.Customer (customer_of_order q y) ∷ []) r
 unfolding missing_of
 same_orders q y k x r = refl
 
 same_lines : (q : OrderLineKey) (y : OrderLine) (k : OrderLineKey) (x : OrderLine) (r : Rows)
-    → missing_of (key.Order (order_of_line q) ∷ key.Stock (supply_of_line y) ∷ []) (changed (InsertOrderLine k x) r)
+    → missing_of (key.Order (order_of_line q) ∷ key.Stock (supply_of_line y) ∷ []) (rows_after (InsertOrderLine k x) r)
     ≡ missing_of (key.Order (order_of_line q) ∷ key.Stock (supply_of_line y) ∷ []) r
 unfolding missing_of
 same_lines q y k x r = refl
 
 same_new_orders : (q : NewOrderKey) (y : NewOrder) (k : NewOrderKey) (x : NewOrder) (r : Rows)
-    → missing_of (key.Order (order_of_new_order q) ∷ []) (changed (InsertNewOrder k x) r)
+    → missing_of (key.Order (order_of_new_order q) ∷ []) (rows_after (InsertNewOrder k x) r)
     ≡ missing_of (key.Order (order_of_new_order q) ∷ []) r
 unfolding missing_of
 same_new_orders q y k x r = refl
 
 same_histories : (q : HistoryKey) (y : History) (k : HistoryKey) (x : History) (r : Rows)
-    → missing_of (key.Customer y.customer ∷ key.District y.district ∷ []) (changed (InsertHistory k x) r)
+    → missing_of (key.Customer y.customer ∷ key.District y.district ∷ []) (rows_after (InsertHistory k x) r)
     ≡ missing_of (key.Customer y.customer ∷ key.District y.district ∷ []) r
 unfolding missing_of
 same_histories q y k x r = refl
@@ -565,26 +565,26 @@ module _ (format : Format) (old new : Nine) (f : NineRows) (read : FilesRead for
     d = p.deeds
 
     orders_keep : {Z : Type 0} (g : Rows → Z)
-        → ((k : OrderKey) (x : Order) (r : Rows) → g (changed (InsertOrder k x) r) ≡ g r)
+        → ((k : OrderKey) (x : Order) (r : Rows) → g (rows_after (InsertOrder k x) r) ≡ g r)
         → g d.with_orders ≡ g p.middle
     orders_keep g still =
         puts_keep _ _ _ g still f.orders p.middle d.with_orders p.parted_middle d.parted_orders d.orders
 
     lines_keep : {Z : Type 0} (g : Rows → Z)
-        → ((k : OrderLineKey) (x : OrderLine) (r : Rows) → g (changed (InsertOrderLine k x) r) ≡ g r)
+        → ((k : OrderLineKey) (x : OrderLine) (r : Rows) → g (rows_after (InsertOrderLine k x) r) ≡ g r)
         → g d.with_lines ≡ g d.with_orders
     lines_keep g still =
         puts_keep _ _ _ g still f.order_lines d.with_orders d.with_lines d.parted_orders d.parted_lines d.lines
 
     new_orders_keep : {Z : Type 0} (g : Rows → Z)
-        → ((k : NewOrderKey) (x : NewOrder) (r : Rows) → g (changed (InsertNewOrder k x) r) ≡ g r)
+        → ((k : NewOrderKey) (x : NewOrder) (r : Rows) → g (rows_after (InsertNewOrder k x) r) ≡ g r)
         → g d.with_new_orders ≡ g d.with_lines
     new_orders_keep g still =
         puts_keep _ _ _ g still f.new_orders d.with_lines d.with_new_orders d.parted_lines d.parted_new_orders
         d.new_orders
 
     histories_keep : {Z : Type 0} (g : Rows → Z)
-        → ((k : HistoryKey) (x : History) (r : Rows) → g (changed (InsertHistory k x) r) ≡ g r)
+        → ((k : HistoryKey) (x : History) (r : Rows) → g (rows_after (InsertHistory k x) r) ≡ g r)
         → g end ≡ g d.with_new_orders
     histories_keep g still =
         puts_keep _ _ _ g still f.histories d.with_new_orders end d.parted_new_orders parted d.histories
@@ -655,9 +655,9 @@ module _ (format : Format) (old new : Nine) (f : NineRows) (read : FilesRead for
 
     -- the tables of what orders refer to stay
     base_stays : {Z : Type 0} (g : Rows → Z)
-        → ((k : OrderKey) (x : Order) (r : Rows) → g (changed (InsertOrder k x) r) ≡ g r)
-        → ((k : OrderLineKey) (x : OrderLine) (r : Rows) → g (changed (InsertOrderLine k x) r) ≡ g r)
-        → ((k : NewOrderKey) (x : NewOrder) (r : Rows) → g (changed (InsertNewOrder k x) r) ≡ g r)
+        → ((k : OrderKey) (x : Order) (r : Rows) → g (rows_after (InsertOrder k x) r) ≡ g r)
+        → ((k : OrderLineKey) (x : OrderLine) (r : Rows) → g (rows_after (InsertOrderLine k x) r) ≡ g r)
+        → ((k : NewOrderKey) (x : NewOrder) (r : Rows) → g (rows_after (InsertNewOrder k x) r) ≡ g r)
         → g d.with_new_orders ≡ g p.middle
     base_stays g order line new_order = new_orders_keep g new_order ∙ lines_keep g line ∙ orders_keep g order
 

@@ -27,7 +27,7 @@ use Rattle.oe_file_rows.specs.Rows.{stock_values}
 use Rattle.oe_model.specs.Keys.{warehouse_of_district, district_of_customer, order_of_new_order, customer_of_order}
 use Rattle.oe_model.specs.Keys.{order_of_line, supply_of_line, warehouse_of_stock, item_of_stock}
 use Rattle.oe_model.specs.Rows.{Rows}
-use Rattle.oe_model.specs.Changes.{changed, InsertHistory, InsertNewOrder, InsertOrder, InsertOrderLine}
+use Rattle.oe_model.specs.Changes.{rows_after, InsertHistory, InsertNewOrder, InsertOrder, InsertOrderLine}
 use Rattle.oe_file_tables.specs.declared.faults.TableFault.{TableFault}
 use Rattle.oe_file_tables.specs.declared.lines.Numbered.{Numbered}
 use Rattle.oe_file_loading.specs.declared.loading.Apart as apart
@@ -79,25 +79,25 @@ PutsStocks =
 
 abbrev pub PutsOrders : List (Numbered OrderKey Order) → Rows → Rows → List apart.Apart → List apart.Apart → Type 0
 PutsOrders =
-    Puts (λ k. key.Order k) (λ k x. key.Customer (customer_of_order k x) ∷ []) (λ k x r. changed (InsertOrder k x) r)
+    Puts (λ k. key.Order k) (λ k x. key.Customer (customer_of_order k x) ∷ []) (λ k x r. rows_after (InsertOrder k x) r)
 
 abbrev pub PutsLines : List (Numbered OrderLineKey OrderLine) → Rows → Rows → List apart.Apart → List apart.Apart
     → Type 0
 PutsLines =
     Puts (λ k. key.OrderLine k) (λ k x. key.Order (order_of_line k) ∷ key.Stock (supply_of_line x) ∷ [])
-    (λ k x r. changed (InsertOrderLine k x) r)
+    (λ k x r. rows_after (InsertOrderLine k x) r)
 
 abbrev pub PutsNewOrders : List (Numbered NewOrderKey NewOrder) → Rows → Rows → List apart.Apart → List apart.Apart
     → Type 0
 PutsNewOrders =
     Puts (λ k. key.NewOrder k) (λ k x. key.Order (order_of_new_order k) ∷ [])
-    (λ k x r. changed (InsertNewOrder k x) r)
+    (λ k x r. rows_after (InsertNewOrder k x) r)
 
 abbrev pub PutsHistories : List (Numbered HistoryKey History) → Rows → Rows → List apart.Apart → List apart.Apart
     → Type 0
 PutsHistories =
     Puts (λ k. key.History k) (λ k x. key.Customer x.customer ∷ key.District x.district ∷ [])
-    (λ k x r. changed (InsertHistory k x) r)
+    (λ k x r. rows_after (InsertHistory k x) r)
 
 -- Warehouses were put where their ten districts stand in the file, and districts where their warehouse was put.
 pub record HomesPut (ws : List (Numbered WarehouseKey Warehouse)) (ds : List (Numbered DistrictKey District))

@@ -5,7 +5,7 @@
 ghost use Rattle.std.specs.Prelude.{◌≡◌, ◌∷◌, [], List, Option, None, OnErr, OnOk, is_some};
 ghost use Rattle.oe_rows.specs.declared.keys.Key.{Key};
 ghost use Rattle.oe_rows.specs.declared.keys.Key.TheVariants as kind;
-ghost use Rattle.oe_model.specs.Changes.{changed, InsertHistory, InsertNewOrder, InsertOrder, InsertOrderLine};
+ghost use Rattle.oe_model.specs.Changes.{rows_after, InsertHistory, InsertNewOrder, InsertOrder, InsertOrderLine};
 ghost use Rattle.oe_model.specs.Keys.{customer_of_order, order_of_line, order_of_new_order, supply_of_line};
 ghost use Rattle.oe_model.specs.Rows.{Rows, row_at};
 ghost use Rattle.oe_store.specs.Places.{rows};
@@ -48,7 +48,7 @@ impl Placing<OrderKey, Order> for Tables {
 
     ghost refers = { λ k x. kind.Customer (customer_of_order k x) ∷ [] };
 
-    ghost with_row = { λ k x r. changed (InsertOrder k x) r };
+    ghost with_row = { λ k x r. rows_after (InsertOrder k x) r };
 
     fn missing(&self, key: &OrderKey, row: &Order) -> Option<Key> {
         let found = self.customer(key.district_key().customer(row.customer));
@@ -80,7 +80,7 @@ impl Placing<OrderLineKey, OrderLine> for Tables {
 
     ghost refers = { λ k x. kind.Order (order_of_line k) ∷ kind.Stock (supply_of_line x) ∷ [] };
 
-    ghost with_row = { λ k x r. changed (InsertOrderLine k x) r };
+    ghost with_row = { λ k x r. rows_after (InsertOrderLine k x) r };
 
     fn missing(&self, key: &OrderLineKey, row: &OrderLine) -> Option<Key> {
         if self.order(key.order_key()).is_none() {
@@ -102,7 +102,7 @@ impl Placing<NewOrderKey, NewOrder> for Tables {
 
     ghost refers = { λ k x. kind.Order (order_of_new_order k) ∷ [] };
 
-    ghost with_row = { λ k x r. changed (InsertNewOrder k x) r };
+    ghost with_row = { λ k x r. rows_after (InsertNewOrder k x) r };
 
     fn missing(&self, key: &NewOrderKey, row: &NewOrder) -> Option<Key> {
         let _no_columns = row;
@@ -122,7 +122,7 @@ impl Placing<HistoryKey, History> for Tables {
 
     ghost refers = { λ k x. kind.Customer x.customer ∷ kind.District x.district ∷ [] };
 
-    ghost with_row = { λ k x r. changed (InsertHistory k x) r };
+    ghost with_row = { λ k x r. rows_after (InsertHistory k x) r };
 
     fn missing(&self, key: &HistoryKey, row: &History) -> Option<Key> {
         let _any_key = key;

@@ -33,7 +33,7 @@ use Rattle.oe_file_rows.specs.declared.forms.Form.{Form}
 use Rattle.oe_file_rows.specs.declared.forms.Form.TheVariants as form
 use Rattle.oe_file_rows.specs.Value.{Value, Null, Number, Text, Money, Balance, Rate, Standing, Flag, Stamp, IsOf}
 use Rattle.oe_file_rows.specs.Value.{Spells}
-use Rattle.oe_file_rows.specs.Line.{Left, joined, fields_of, past, AreSpelled}
+use Rattle.oe_file_rows.specs.Line.{Left, all_forms, fields_of, past, AreSpelled}
 use Rattle.oe_file_rows.specs.Rows.{history_forms, history_values, history_row_forms, history_row_values, behind_key}
 use Rattle.oe_file_rows.specs.Rows.{order_values, order_line_values, stock_values}
 use Rattle.oe_file_rows.specs.Dumped.{text_of, AreOf, AreReadBack}
@@ -189,11 +189,11 @@ line_join (c ∷ d ∷ cs) =
     ap (λ z. c ++ 9 ∷ z) (line_join (d ∷ cs)) ∙ sym (append_assoc c (9 ∷ join_with_byte 9 (d ∷ cs)) (10 ∷ []))
 
 pub read_back : {R : Type 0} (forms : List (List Form)) (values : R → List Value) (columns : R → List (List ℕ))
-    → list_all is_small (joined forms) ≡ true → ((r : R) → map text_of (values r) ≡ columns r)
+    → list_all is_small (all_forms forms) ≡ true → ((r : R) → map text_of (values r) ≡ columns r)
     → ((r : R) → (c : List ℕ) × (cs : List (List ℕ)) × (columns r ≡ c ∷ cs))
     → AreReadBack forms values columns
 read_back forms values columns small same some r line h e =
-    let all = all_shown (joined forms) (values r) small h in
+    let all = all_shown (all_forms forms) (values r) small h in
     let first = some r in
     let is = same r ∙ first.2 in
     let fields : fields_of line ≡ map text_of (values r) =
@@ -201,7 +201,7 @@ read_back forms values columns small same some r line h e =
     (sym (line_join (columns r)) ∙ e)))
     ∙ ap (λ cs. fields_of (join_with_byte 9 cs)) first.2
     ∙ fields_join first.0 first.1 (subst AreFree is all.1) ∙ sym is in
-    subst (AreSpelled (joined forms) (values r)) (sym fields) all.0
+    subst (AreSpelled (all_forms forms) (values r)) (sym fields) all.0
 
 -- ---- columns that may be null, and ten of a kind
 
@@ -250,15 +250,15 @@ too_short : (n : ℕ) → n ≡ 11 → n < 11 → ⊥
 too_short n e h = omega (arith, e, h)
 
 pub behind_ours : (r : HistoryKey × History) (ss : List (List ℕ))
-    → AreSpelled (joined history_forms) (history_values r) ss
-    → AreSpelled (joined history_row_forms) (history_row_values r.1) (behind_key ss).fields
+    → AreSpelled (all_forms history_forms) (history_values r) ss
+    → AreSpelled (all_forms history_row_forms) (history_row_values r.1) (behind_key ss).fields
 behind_ours r (a ∷ b ∷ c ∷ ss) h =
-    let eleven = spelled_length (joined history_forms) (history_values r) (a ∷ b ∷ c ∷ ss) h in
-    subst (λ (l : Left). AreSpelled (joined history_row_forms) (history_row_values r.1) l.fields)
+    let eleven = spelled_length (all_forms history_forms) (history_values r) (a ∷ b ∷ c ∷ ss) h in
+    subst (λ (l : Left). AreSpelled (all_forms history_row_forms) (history_row_values r.1) l.fields)
     (sym (not_eight (a ∷ b ∷ c ∷ ss) eleven))
     h.2.2.2
 behind_ours r (a ∷ b ∷ []) h =
-    absurd (too_short 2 (spelled_length (joined history_forms) (history_values r) (a ∷ b ∷ []) h) (omega arith))
+    absurd (too_short 2 (spelled_length (all_forms history_forms) (history_values r) (a ∷ b ∷ []) h) (omega arith))
 behind_ours r (a ∷ []) h =
-    absurd (too_short 1 (spelled_length (joined history_forms) (history_values r) (a ∷ []) h) (omega arith))
+    absurd (too_short 1 (spelled_length (all_forms history_forms) (history_values r) (a ∷ []) h) (omega arith))
 behind_ours r [] h = absurd h

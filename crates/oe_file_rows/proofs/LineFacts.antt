@@ -9,9 +9,9 @@ use Rattle.oe_file_rows.specs.declared.forms.LineFault.{LineFault}
 use Rattle.oe_file_rows.specs.declared.forms.LineFault.TheVariants.{NoForm, MissingColumn, ExtraColumn}
 use Rattle.oe_file_rows.specs.Value.{Value}
 use Rattle.oe_file_rows.specs.Word.{value_of}
-use Rattle.oe_file_rows.specs.Line.{joined, fields_of, AreSpelled, FailsAt, ReadsLeft, ReadsRow, Left, ◌>>=◌}
-use Rattle.oe_file_rows.specs.Line.{column, valued}
-use Rattle.oe_file_rows.specs.Line.{columns, ended, grouped, row_as}
+use Rattle.oe_file_rows.specs.Line.{all_forms, fields_of, AreSpelled, FailsAt, ReadsLeft, ReadsRow, Left, ◌>>=◌}
+use Rattle.oe_file_rows.specs.Line.{column, column_value}
+use Rattle.oe_file_rows.specs.Line.{columns, values_at_end, group_columns, row_as}
 use Rattle.oe_file_rows.proofs.WordFacts.{value_found, is_small, value_only}
 
 abbrev left : ℕ → List (List ℕ) → Left
@@ -20,7 +20,7 @@ left n ss = record { column = n; fields = ss }
 -- ---- groups are read as their columns one after another
 
 abbrev whole : List Form → Left → Result (List Value) LineFault
-whole [] l = ended l
+whole [] l = values_at_end l
 whole (f ∷ fs) l = column f l >>= λ v. whole fs v.1 >>= λ ws. Ok (v.0 ∷ ws)
 
 same : (r : Result (List Value) LineFault) → (r >>= λ ws. Ok ([] ++ ws)) ≡ r
@@ -37,29 +37,30 @@ abbrev with_first : Value → List Value × Left → Result (List Value × Left)
 with_first v vs = Ok (v ∷ vs.0, vs.1)
 
 pushed : (v : Value) (c : Result (List Value × Left) LineFault) (gs : List (List Form))
-    → ((c >>= with_first v) >>= λ vs. grouped gs vs.1 >>= λ ws. Ok (vs.0 ++ ws))
-    ≡ ((c >>= λ vs. grouped gs vs.1 >>= λ ws. Ok (vs.0 ++ ws)) >>= λ ws. Ok (v ∷ ws))
+    → ((c >>= with_first v) >>= λ vs. group_columns gs vs.1 >>= λ ws. Ok (vs.0 ++ ws))
+    ≡ ((c >>= λ vs. group_columns gs vs.1 >>= λ ws. Ok (vs.0 ++ ws)) >>= λ ws. Ok (v ∷ ws))
 pushed v (Err e) gs = refl
-pushed v (Ok vs) gs = pushed_on v vs.0 (grouped gs vs.1)
+pushed v (Ok vs) gs = pushed_on v vs.0 (group_columns gs vs.1)
 
 abbrev After : List (List Form) → Type 0
-After gs = (l : Left) → grouped gs l ≡ whole (joined gs) l
+After gs = (l : Left) → group_columns gs l ≡ whole (all_forms gs) l
 
 one_more : (gs : List (List Form)) (fs : List Form)
-    → ((l : Left) → (columns fs l >>= λ vs. grouped gs vs.1 >>= λ ws. Ok (vs.0 ++ ws)) ≡ whole (fs ++ joined gs) l)
+    → ((l : Left) → (columns fs l >>= λ vs. group_columns gs vs.1 >>= λ ws. Ok (vs.0 ++ ws))
+    ≡ whole (fs ++ all_forms gs) l)
     → (r : Result (Value × Left) LineFault)
-    → ((r >>= λ v. columns fs v.1 >>= with_first v.0) >>= λ vs. grouped gs vs.1 >>= λ ws. Ok (vs.0 ++ ws))
-    ≡ (r >>= λ v. whole (fs ++ joined gs) v.1 >>= λ ws. Ok (v.0 ∷ ws))
+    → ((r >>= λ v. columns fs v.1 >>= with_first v.0) >>= λ vs. group_columns gs vs.1 >>= λ ws. Ok (vs.0 ++ ws))
+    ≡ (r >>= λ v. whole (fs ++ all_forms gs) v.1 >>= λ ws. Ok (v.0 ∷ ws))
 one_more gs fs again (Err e) = refl
 one_more gs fs again (Ok v) =
     pushed v.0 (columns fs v.1) gs ∙ ap (λ r. r >>= λ ws. Ok (v.0 ∷ ws)) (again v.1)
 
 group_is : (gs : List (List Form)) → After gs → (g : List Form) (l : Left)
-    → (columns g l >>= λ vs. grouped gs vs.1 >>= λ ws. Ok (vs.0 ++ ws)) ≡ whole (g ++ joined gs) l
-group_is gs after [] l = same (grouped gs l) ∙ after l
+    → (columns g l >>= λ vs. group_columns gs vs.1 >>= λ ws. Ok (vs.0 ++ ws)) ≡ whole (g ++ all_forms gs) l
+group_is gs after [] l = same (group_columns gs l) ∙ after l
 group_is gs after (f ∷ fs) l = one_more gs fs (group_is gs after fs) (column f l)
 
-grouped_is : (gs : List (List Form)) (l : Left) → grouped gs l ≡ whole (joined gs) l
+grouped_is : (gs : List (List Form)) (l : Left) → group_columns gs l ≡ whole (all_forms gs) l
 grouped_is [] l = refl
 grouped_is (g ∷ gs) l = group_is gs (grouped_is gs) g l
 
@@ -80,7 +81,8 @@ Spelled fs ss vs = AreSpelled fs vs ss
 
 first_found : (f : Form) (n : ℕ) (fs : List Form) (s : List ℕ) (ss : List (List ℕ)) (vs : List Value)
     → ((ws : List Value) → whole fs (left (n + 1) ss) ≡ Ok ws → Spelled fs ss ws)
-    → (o : Option Value) → value_of f s ≡ o → (valued f n ss o >>= λ v. whole fs v.1 >>= λ ws. Ok (v.0 ∷ ws)) ≡ Ok vs
+    → (o : Option Value) → value_of f s ≡ o → (column_value f n ss o >>= λ v. whole fs v.1 >>= λ ws. Ok (v.0 ∷ ws))
+    ≡ Ok vs
     → Spelled (f ∷ fs) (s ∷ ss) vs
 first_found f n fs s ss vs again None h e = absurd (cc)
 first_found f n fs s ss vs again (Some v) h e =
@@ -90,7 +92,7 @@ first_found f n fs s ss vs again (Some v) h e =
 
 whole_found : (n : ℕ) (fs : List Form) (ss : List (List ℕ)) (vs : List Value) → whole fs (left n ss) ≡ Ok vs
     → Spelled fs ss vs
-unfolding column ended
+unfolding column values_at_end
 whole_found n [] [] vs e = subst (Spelled [] []) (same_ok [] vs e) tt
   where
     same_ok : (a b : List Value) → ◌≡◌ {A = Result (List Value) LineFault} (Ok a) (Ok b) → a ≡ b
@@ -104,7 +106,7 @@ whole_found n (f ∷ fs) (s ∷ ss) vs e =
 
 whole_only : (n : ℕ) (fs : List Form) (vs : List Value) (ss : List (List ℕ)) → list_all is_small fs ≡ true
     → AreSpelled fs vs ss → whole fs (left n ss) ≡ Ok vs
-unfolding column ended
+unfolding column values_at_end
 whole_only n [] [] [] small h = refl
 whole_only n (f ∷ fs) (v ∷ vs) (s ∷ ss) small h =
     let sizes : (is_small f ≡ true) × (list_all is_small fs ≡ true) = both (is_small f) (list_all is_small fs) small in
@@ -118,7 +120,8 @@ whole_only n (f ∷ fs) (v ∷ vs) [] small h = absurd h
 
 first_fault : (f : Form) (n : ℕ) (fs : List Form) (s : List ℕ) (ss : List (List ℕ)) (e : LineFault)
     → is_small f ≡ true → (whole fs (left (n + 1) ss) ≡ Err e → FailsAt (n + 1) fs ss e)
-    → (o : Option Value) → value_of f s ≡ o → (valued f n ss o >>= λ v. whole fs v.1 >>= λ ws. Ok (v.0 ∷ ws)) ≡ Err e
+    → (o : Option Value) → value_of f s ≡ o → (column_value f n ss o >>= λ v. whole fs v.1 >>= λ ws. Ok (v.0 ∷ ws))
+    ≡ Err e
     → FailsAt n (f ∷ fs) (s ∷ ss) e
 first_fault f n fs s ss e small again None h is =
     inl (
@@ -137,7 +140,7 @@ err_is a b e = cc
 
 whole_fault : (n : ℕ) (fs : List Form) (ss : List (List ℕ)) (e : LineFault) → list_all is_small fs ≡ true
     → whole fs (left n ss) ≡ Err e → FailsAt n fs ss e
-unfolding column ended
+unfolding column values_at_end
 whole_fault n [] [] e small h = absurd (cc)
 whole_fault n [] (s ∷ ss) e small h = err_is e ExtraColumn h
 whole_fault n (f ∷ fs) [] e small h = err_is e (MissingColumn n) h
@@ -156,19 +159,19 @@ rows_same values inj (Ok a) b e = ap (λ x. Ok x) (inj a b (cc))
 rows_same values inj (Err x) b e = absurd (cc)
 
 pub left_reads : {R : Type 0} (l : Left) (forms : List (List Form)) (values : R → List Value)
-    → list_all is_small (joined forms) ≡ true → IsInjective values
-    → (r : Result R LineFault) → row_as values r ≡ grouped forms l → ReadsLeft l forms values r
+    → list_all is_small (all_forms forms) ≡ true → IsInjective values
+    → (r : Result R LineFault) → row_as values r ≡ group_columns forms l → ReadsLeft l forms values r
 left_reads l forms values small inj r e =
     let read = e ∙ grouped_is forms l in
     record {
-      found = λ x h. whole_found l.column (joined forms) l.fields (values x) (sym read ∙ ap (row_as values) h);
+      found = λ x h. whole_found l.column (all_forms forms) l.fields (values x) (sym read ∙ ap (row_as values) h);
       finds = λ x h.
-          rows_same values inj r x (read ∙ whole_only l.column (joined forms) (values x) l.fields small h);
-      fault = λ x h. whole_fault l.column (joined forms) l.fields x small (sym read ∙ ap (row_as values) h);
+          rows_same values inj r x (read ∙ whole_only l.column (all_forms forms) (values x) l.fields small h);
+      fault = λ x h. whole_fault l.column (all_forms forms) l.fields x small (sym read ∙ ap (row_as values) h);
     }
 
 pub row_reads : {R : Type 0} (place : ℕ) (forms : List (List Form)) (values : R → List Value)
-    → list_all is_small (joined forms) ≡ true → IsInjective values
-    → (line : List ℕ) (r : Result R LineFault) → row_as values r ≡ grouped forms (left place (fields_of line))
+    → list_all is_small (all_forms forms) ≡ true → IsInjective values
+    → (line : List ℕ) (r : Result R LineFault) → row_as values r ≡ group_columns forms (left place (fields_of line))
     → ReadsRow place forms values line r
 row_reads place forms values small inj line r e = left_reads (left place (fields_of line)) forms values small inj r e

@@ -28,7 +28,7 @@ use Rattle.oe_rows.specs.declared.customers.Credit.TheVariants.{Good, Bad}
 use Rattle.oe_texts.specs.Column.{balance_text, rate_text, credit_text, flag_text}
 use Rattle.oe_texts.specs.Stamp.{stamp_text}
 use Rattle.oe_texts.proofs.StampFacts.{stamp_text_says}
-use Rattle.oe_decode.specs.ColumnFronts.{is_text, checked}
+use Rattle.oe_decode.specs.ColumnFronts.{is_text, text_within}
 use Rattle.oe_decode.specs.ColumnFacts.{is_text-test, is_text-true}
 use Rattle.oe_lines.specs.Words.{within, stamp_of}
 use Rattle.oe_lines.proofs.WordFacts.{map_some, within_found, within_only}
@@ -38,7 +38,8 @@ use Rattle.oe_file_rows.specs.declared.forms.Form.TheVariants as form
 use Rattle.oe_file_rows.specs.Value.{Value, Null, Number, Text, Money, Balance, Rate, Standing, Flag, Stamp, IsOf}
 use Rattle.oe_file_rows.specs.Value.{Spells}
 use Rattle.oe_file_rows.specs.Value.{IsNoFraction, SpellsStamp}
-use Rattle.oe_file_rows.specs.Word.{is_word, number_of, cents_of, owed, owned, signed_of, balance_of, rate_of}
+use Rattle.oe_file_rows.specs.Word.{is_word, number_of, cents_of, debt_cents, credit_cents, signed_of, balance_of}
+use Rattle.oe_file_rows.specs.Word.{rate_of}
 use Rattle.oe_file_rows.specs.Word.{credit_of}
 use Rattle.oe_file_rows.specs.Word.{flag_of, is_no_fraction, parted_of, stamp_at, is_null, null_or, ranged_of, value_of}
 
@@ -120,7 +121,7 @@ money_only most n h l = rw (cents_only n (omega arith), within_only 0 most n (om
 
 -- balances
 
-owned_found : (n : ℕ) (z : ℤ) → owned n ≡ Some z → IsWithin 999_999_999_999 z × (money_text n ≡ balance_text z)
+owned_found : (n : ℕ) (z : ℤ) → credit_cents n ≡ Some z → IsWithin 999_999_999_999 z × (money_text n ≡ balance_text z)
 owned_found n z e =
     let g = guarded (nat_le n 999_999_999_999) (Some (pos n)) z e in
     let same : pos n ≡ z = some_same (pos n) z g.1 in
@@ -128,7 +129,7 @@ owned_found n z e =
     subst (λ z. IsWithin 999_999_999_999 z × (money_text n ≡ balance_text z)) same
     ((omega (arith, ints, most), omega (arith, ints, most)), refl)
 
-owed_found : (n : ℕ) (z : ℤ) → owed n ≡ Some z → IsWithin 999_999_999_999 z × (45 ∷ money_text n ≡ balance_text z)
+owed_found : (n : ℕ) (z : ℤ) → debt_cents n ≡ Some z → IsWithin 999_999_999_999 z × (45 ∷ money_text n ≡ balance_text z)
 owed_found zero z e = cc
 owed_found (suc n) z e =
     let g = guarded (nat_le (suc n) 999_999_999_999) (Some (negsuc n)) z e in
@@ -140,11 +141,11 @@ owed_found (suc n) z e =
 signed_found : (o : Option (List ℕ)) (s : List ℕ) (z : ℤ) → after_of (codes "-") s ≡ o → signed_of o s ≡ Some z
     → IsWithin 999_999_999_999 z × (s ≡ balance_text z)
 signed_found None s z h e =
-    let b = bind_some (cents_of s) owned z e in
+    let b = bind_some (cents_of s) credit_cents z e in
     let f = owned_found b.0 z b.2 in
     (f.0, cents_found s b.0 b.1 ∙ f.1)
 signed_found (Some r) s z h e =
-    let b = bind_some (cents_of r) owed z e in
+    let b = bind_some (cents_of r) debt_cents z e in
     let f = owed_found b.0 z b.2 in
     (f.0, after_found (codes "-") s r h ∙ ap (λ t. 45 ∷ t) (cents_found r b.0 b.1) ∙ f.1)
 
@@ -390,7 +391,7 @@ stamp_is s v e =
     let f = stamp_at_found s m.0 m.1 in
     subst (Found form.Stamp s) m.2 (f.1, f.0)
 
-text_is : (least most : ℕ) (s t : List ℕ) → checked least most s ≡ Some t → IsText least most t × (s ≡ t)
+text_is : (least most : ℕ) (s t : List ℕ) → text_within least most s ≡ Some t → IsText least most t × (s ≡ t)
 text_is least most s t e =
     let g = guarded (is_text least most s) (Some s) t e in
     let same = some_same s t g.1 in
@@ -427,7 +428,7 @@ value_found (form.NullableNumber low high) s v e = elim (null_or_found (is_null 
   | inr h ↦ as_nullable low high s v (ranged_is low high s v h)
 ]
 value_found (form.Text least most) s v e =
-    let m = map_some (λ t. Text t) (checked least most s) v e in
+    let m = map_some (λ t. Text t) (text_within least most s) v e in
     subst (Found (form.Text least most) s) m.2 (text_is least most s m.0 m.1)
 value_found (form.Money most) s v e =
     let m = map_some (λ n. Money n) (cents_of s >>= within 0 most) v e in
@@ -467,7 +468,7 @@ stamp_read : (n : ℕ) (s : List ℕ) → n < 6_342_969_600 → SpellsStamp n s
 stamp_read n s h r = rw (stamp_at_only s n r h) refl
 
 text_read : (least most : ℕ) (s t : List ℕ) → IsText least most t → s ≡ t
-    → option_map (λ t. Text t) (checked least most s) ≡ Some (Text t)
+    → option_map (λ t. Text t) (text_within least most s) ≡ Some (Text t)
 text_read least most s t h e = rw (e, is_text-true least most t h) refl
 
 pub value_only : (f : Form) (v : Value) (s : List ℕ) → is_small f ≡ true → IsOf f v → Spells v s

@@ -9,7 +9,7 @@ use Rattle.oe_texts.specs.Dump.{new_order_columns, order_columns, order_line_col
 use Rattle.oe_texts.specs.Stamp.{stamp_text}
 use Rattle.oe_file_rows.specs.declared.forms.Form.{Form}
 use Rattle.oe_file_rows.specs.Value.{Value, Null, Number, Text, Money, Balance, Rate, Standing, Flag, Stamp, IsOf}
-use Rattle.oe_file_rows.specs.Line.{joined, fields_of, AreSpelled}
+use Rattle.oe_file_rows.specs.Line.{all_forms, fields_of, AreSpelled}
 use Rattle.oe_file_rows.specs.Rows.{warehouse_forms, warehouse_values, district_forms, district_values, customer_forms}
 use Rattle.oe_file_rows.specs.Rows.{customer_values, history_forms, history_values, history_row_forms}
 use Rattle.oe_file_rows.specs.Rows.{history_row_values, behind_key, new_order_forms, new_order_values}
@@ -37,17 +37,17 @@ AreOf _ _ = ⊥
 -- The line of a dumped row, without its end, spells the row.
 abbrev pub AreReadBack : {R : Type 0} → List (List Form) → (R → List Value) → (R → List (List ℕ)) → Type 0
 AreReadBack {R} forms values columns =
-    (r : R) (line : List ℕ) → AreOf (joined forms) (values r) → line_of (columns r) ≡ line ++ 10 ∷ []
-    → AreSpelled (joined forms) (values r) (fields_of line)
+    (r : R) (line : List ℕ) → AreOf (all_forms forms) (values r) → line_of (columns r) ≡ line ++ 10 ∷ []
+    → AreSpelled (all_forms forms) (values r) (fields_of line)
 
 pub record Dumps_are_read : Type 0 where
   pub warehouses : AreReadBack warehouse_forms warehouse_values (λ r. warehouse_columns r.0 r.1)
   pub districts : AreReadBack district_forms district_values (λ r. district_columns r.0 r.1)
   pub customers : AreReadBack customer_forms customer_values (λ r. customer_columns r.0 r.1)
   -- of a HISTORY row the standard's columns are read back, and its key is not
-  pub histories : (r : HistoryKey × History) (line : List ℕ) → AreOf (joined history_forms) (history_values r)
+  pub histories : (r : HistoryKey × History) (line : List ℕ) → AreOf (all_forms history_forms) (history_values r)
       → line_of (history_columns r.0 r.1) ≡ line ++ 10 ∷ []
-      → AreSpelled (joined history_row_forms) (history_row_values r.1) (behind_key (fields_of line)).fields
+      → AreSpelled (all_forms history_row_forms) (history_row_values r.1) (behind_key (fields_of line)).fields
   pub new_orders : AreReadBack new_order_forms new_order_values (λ r. new_order_columns r.0)
   pub orders : AreReadBack order_forms order_values (λ r. order_columns r.0 r.1)
   pub order_lines : AreReadBack order_line_forms order_line_values (λ r. order_line_columns r.0 r.1)

@@ -19,9 +19,9 @@ fields_of [] = [] ∷ []
 fields_of (b ∷ s) = if b == 9 then [] ∷ fields_of s else before_first b (fields_of s)
 
 -- the forms of all groups of columns
-abbrev pub joined : List (List Form) → List Form
-joined [] = []
-joined (g ∷ gs) = g ++ joined gs
+abbrev pub all_forms : List (List Form) → List Form
+all_forms [] = []
+all_forms (g ∷ gs) = g ++ all_forms gs
 
 -- field by field, the values of the forms
 abbrev pub AreSpelled : List Form → List Value → List (List ℕ) → Type 0
@@ -49,9 +49,9 @@ pub record Left : Type 0 where
 -- A row is read exactly where what is left of a line spells its values, and else the first fault is told.
 pub record ReadsLeft {R : Type 0} (l : Left) (forms : List (List Form)) (values : R → List Value)
     (result : Result R LineFault) : Type 0 where
-  pub found : (r : R) → result ≡ Ok r → AreSpelled (joined forms) (values r) l.fields
-  pub finds : (r : R) → AreSpelled (joined forms) (values r) l.fields → result ≡ Ok r
-  pub fault : (e : LineFault) → result ≡ Err e → FailsAt l.column (joined forms) l.fields e
+  pub found : (r : R) → result ≡ Ok r → AreSpelled (all_forms forms) (values r) l.fields
+  pub finds : (r : R) → AreSpelled (all_forms forms) (values r) l.fields → result ≡ Ok r
+  pub fault : (e : LineFault) → result ≡ Err e → FailsAt l.column (all_forms forms) l.fields e
 
 -- The same of a whole line. Its first column has that place among the columns of its table.
 abbrev pub ReadsRow : {R : Type 0} → ℕ → List (List Form) → (R → List Value) → List ℕ → Result R LineFault → Type 0
@@ -98,13 +98,13 @@ abbrev pub read_as : {A B : Type 0} → (A → B) → Left → Result A LineFaul
 read_as f l (Ok x) = Ok (f x, l)
 read_as f l (Err e) = Err e
 
-abbrev pub valued : Form → ℕ → List (List ℕ) → Option Value → Result (Value × Left) LineFault
-valued f n ss None = Err (NoForm n f)
-valued f n ss (Some v) = Ok (v, record { column = n + 1; fields = ss })
+abbrev pub column_value : Form → ℕ → List (List ℕ) → Option Value → Result (Value × Left) LineFault
+column_value f n ss None = Err (NoForm n f)
+column_value f n ss (Some v) = Ok (v, record { column = n + 1; fields = ss })
 
 abbrev pub column_in : Form → ℕ → List (List ℕ) → Result (Value × Left) LineFault
 column_in f n [] = Err (MissingColumn n)
-column_in f n (s ∷ ss) = valued f n ss (value_of f s)
+column_in f n (s ∷ ss) = column_value f n ss (value_of f s)
 
 -- the next column
 unfoldable pub column : Form → Left → Result (Value × Left) LineFault
@@ -123,8 +123,8 @@ ended_in [] = Ok []
 ended_in (s ∷ ss) = Err ExtraColumn
 
 -- the end of the line
-unfoldable pub ended : Left → Result (List Value) LineFault
-ended l = ended_in l.fields
+unfoldable pub values_at_end : Left → Result (List Value) LineFault
+values_at_end l = ended_in l.fields
 
 -- an end has no values
 abbrev pub ends : {A : Type 0} → Result A LineFault → Result (List Value) LineFault
@@ -132,11 +132,11 @@ ends (Ok x) = Ok []
 ends (Err e) = Err e
 
 -- the columns of all groups, and the end of the line behind them
-abbrev pub grouped : List (List Form) → Left → Result (List Value) LineFault
-grouped [] l = ended l
-grouped (g ∷ gs) l = do
+abbrev pub group_columns : List (List Form) → Left → Result (List Value) LineFault
+group_columns [] l = values_at_end l
+group_columns (g ∷ gs) l = do
   vs ← columns g l
-  ws ← grouped gs vs.1
+  ws ← group_columns gs vs.1
   Ok (vs.0 ++ ws)
 
 -- the values of a row that was read

@@ -8,7 +8,7 @@ use Rattle.std.specs.Str.{bytes_eq}
 use Rattle.oe_values.specs.Front.{◌>>=◌, after_of, pair_of, decimal_of, alone}
 use Rattle.oe_rows.specs.declared.customers.Credit.{Credit}
 use Rattle.oe_rows.specs.declared.customers.Credit.TheVariants.{Good, Bad}
-use Rattle.oe_decode.specs.ColumnFronts.{checked}
+use Rattle.oe_decode.specs.ColumnFronts.{text_within}
 use Rattle.oe_lines.specs.Words.{within, stamp_of}
 use Rattle.oe_file_rows.specs.declared.forms.Form.{Form}
 use Rattle.oe_file_rows.specs.declared.forms.Form.TheVariants as form
@@ -40,17 +40,17 @@ cents_of s = do
 abbrev pub money_of : ℕ → List ℕ → Option ℕ
 money_of most s = cents_of s >>= within 0 most
 
-abbrev pub owed : ℕ → Option ℤ
-owed zero = None
-owed (suc n) = if nat_le (suc n) 999_999_999_999 then Some (negsuc n) else None
+abbrev pub debt_cents : ℕ → Option ℤ
+debt_cents zero = None
+debt_cents (suc n) = if nat_le (suc n) 999_999_999_999 then Some (negsuc n) else None
 
-abbrev pub owned : ℕ → Option ℤ
-owned n = if nat_le n 999_999_999_999 then Some (pos n) else None
+abbrev pub credit_cents : ℕ → Option ℤ
+credit_cents n = if nat_le n 999_999_999_999 then Some (pos n) else None
 
 -- cents behind a minus sign, or else without one
 abbrev pub signed_of : Option (List ℕ) → List ℕ → Option ℤ
-signed_of None s = cents_of s >>= owned
-signed_of (Some r) s = cents_of r >>= owed
+signed_of None s = cents_of s >>= credit_cents
+signed_of (Some r) s = cents_of r >>= debt_cents
 
 unfoldable pub balance_of : List ℕ → Option ℤ
 balance_of s = signed_of (after_of (codes "-") s) s
@@ -102,7 +102,7 @@ ranged_of low high s = option_map (λ n. Number n) (number_within low high s)
 unfoldable pub value_of : Form → List ℕ → Option Value
 value_of (form.Number low high) s = ranged_of low high s
 value_of (form.NullableNumber low high) s = null_or (is_null s) (ranged_of low high s)
-value_of (form.Text least most) s = option_map (λ t. Text t) (checked least most s)
+value_of (form.Text least most) s = option_map (λ t. Text t) (text_within least most s)
 value_of (form.Money most) s = option_map (λ n. Money n) (money_of most s)
 value_of form.Balance s = option_map (λ z. Balance z) (balance_of s)
 value_of form.Rate s = option_map (λ n. Rate n) (rate_of s)

@@ -1,7 +1,7 @@
 //! Customers.
 ghost use Rattle.std.specs.Prelude.{◌≡◌};
 ghost use Rattle.oe_rows.specs.declared.keys.Key.TheVariants as kind;
-ghost use Rattle.oe_file_rows.specs.Line.{read_as, row_as, columns, grouped, ReadsRow};
+ghost use Rattle.oe_file_rows.specs.Line.{read_as, row_as, columns, group_columns, ReadsRow};
 ghost use Rattle.oe_file_rows.specs.Rows.{key_values, name_values, account_values, customer_key_forms, name_forms, account_forms, customer_forms, customer_values};
 
 use crate::columns::FourDecimals;
@@ -61,7 +61,7 @@ fn account(fields: &mut Fields<'_>) -> Result<Account, LineFault>
 
 /// Reads all columns of a CUSTOMER row.
 fn customer(fields: &mut Fields<'_>) -> Result<(CustomerKey, Customer), LineFault>
-    ensures { row_as customer_values result ≡ grouped customer_forms fields.old }
+    ensures { row_as customer_values result ≡ group_columns customer_forms fields.old }
 {
     let key = customer_key(fields)?;
     let name = customer_name(fields)?;

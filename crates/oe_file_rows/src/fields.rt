@@ -5,7 +5,7 @@
 //! counted. After an error the field that has no value is passed.
 ghost use Rattle.std.specs.Prelude.{◌≡◌, ◌+◌, ◌<◌, ◌≤◌, ◌^◌, ℕ, List, Option, Ok, length, IfNone};
 ghost use Rattle.std.specs.Option.{option_copied, IfSome};
-ghost use Rattle.oe_file_rows.specs.Line.{Left, left_of, fields_of, first_field, past_first, read_as, column, ended, ends};
+ghost use Rattle.oe_file_rows.specs.Line.{Left, left_of, fields_of, first_field, past_first, read_as, column, values_at_end, ends};
 
 use crate::columns::ColumnValue;
 use crate::forms::LineFault;
@@ -107,9 +107,9 @@ impl<'a> Fields<'a> {
 
     /// Ends the line.
     #[inline]
-    #[tactic(auto, unfolding(crate::specs::Line::ended))]
+    #[tactic(auto, unfolding(crate::specs::Line::values_at_end))]
     pub(crate) fn end(&self) -> Result<(), LineFault>
-        ensures { ends result ≡ ended self.now }
+        ensures { ends result ≡ values_at_end self.now }
     {
         match self.rest {
             Some(_) => Err(LineFault::ExtraColumn),

@@ -1,7 +1,7 @@
 //! Histories. The standard leaves them without a key. A line may have our key columns before the
 //! standard's, as a dump prints them: they are passed over, and the line's number stands for the key.
 ghost use Rattle.std.specs.Prelude.{◌≡◌, ◌==◌, length, count_by};
-ghost use Rattle.oe_file_rows.specs.Line.{row_as, grouped, fields_of, ReadsLeft};
+ghost use Rattle.oe_file_rows.specs.Line.{row_as, group_columns, fields_of, ReadsLeft};
 ghost use Rattle.oe_file_rows.specs.Rows.{history_row_forms, history_row_values, behind_key, ReadsHistory};
 ghost use Rattle.oe_lines.specs.Words.{within};
 
@@ -40,7 +40,7 @@ fn behind_key(line: &[u8]) -> Fields<'_>
 
 /// Reads the columns of the standard.
 fn history_row(fields: &mut Fields<'_>) -> Result<History, LineFault>
-    ensures { row_as history_row_values result ≡ grouped history_row_forms fields.old }
+    ensures { row_as history_row_values result ≡ group_columns history_row_forms fields.old }
 {
     let customer = fields.column()?;
     let customer_district = fields.column()?;

@@ -1,6 +1,6 @@
 //! Items, and their stock.
 ghost use Rattle.std.specs.Prelude.{◌≡◌, map};
-ghost use Rattle.oe_file_rows.specs.Line.{read_as, row_as, columns, grouped, ReadsRow};
+ghost use Rattle.oe_file_rows.specs.Line.{read_as, row_as, columns, group_columns, ReadsRow};
 ghost use Rattle.oe_file_rows.specs.Value as says;
 ghost use Rattle.oe_file_rows.specs.Rows.{ten_forms, item_forms, item_values, stock_forms, stock_values};
 
@@ -11,7 +11,7 @@ use oe_values::{BrandText, Text};
 
 /// Reads all columns of an ITEM row.
 fn item(fields: &mut Fields<'_>) -> Result<(ItemKey, Item), LineFault>
-    ensures { row_as item_values result ≡ grouped item_forms fields.old }
+    ensures { row_as item_values result ≡ group_columns item_forms fields.old }
 {
     let item = fields.column()?;
     let image = fields.column()?;
@@ -50,7 +50,7 @@ fn dist_infos(fields: &mut Fields<'_>) -> Result<[Text<24, 24>; 10], LineFault>
 
 /// Reads all columns of a STOCK row.
 fn stock(fields: &mut Fields<'_>) -> Result<(StockKey, Stock), LineFault>
-    ensures { row_as stock_values result ≡ grouped stock_forms fields.old }
+    ensures { row_as stock_values result ≡ group_columns stock_forms fields.old }
 {
     let warehouse = fields.column()?;
     let item = fields.column()?;

@@ -1,7 +1,7 @@
 //! Orders, their lines, and the orders not yet delivered.
 ghost use Rattle.std.specs.Prelude.{◌≡◌};
 ghost use Rattle.oe_rows.specs.declared.keys.Key.TheVariants as kind;
-ghost use Rattle.oe_file_rows.specs.Line.{read_as, row_as, columns, grouped, ReadsRow};
+ghost use Rattle.oe_file_rows.specs.Line.{read_as, row_as, columns, group_columns, ReadsRow};
 ghost use Rattle.oe_file_rows.specs.Rows.{key_values, order_key_forms, order_line_key_forms, new_order_forms, new_order_values, order_forms, order_values, order_line_forms, order_line_values};
 
 use crate::fields::Fields;
@@ -10,7 +10,7 @@ use oe_rows::{NewOrder, NewOrderKey, Order, OrderKey, OrderLine, OrderLineKey};
 
 /// Reads NO_W_ID, NO_D_ID and NO_O_ID, which are all columns of a NEW-ORDER row.
 fn new_order(fields: &mut Fields<'_>) -> Result<(NewOrderKey, NewOrder), LineFault>
-    ensures { row_as new_order_values result ≡ grouped new_order_forms fields.old }
+    ensures { row_as new_order_values result ≡ group_columns new_order_forms fields.old }
 {
     let warehouse = fields.column()?;
     let district = fields.column()?;
@@ -41,7 +41,7 @@ fn order_key(fields: &mut Fields<'_>) -> Result<OrderKey, LineFault>
 
 /// Reads all columns of an ORDER row.
 fn order(fields: &mut Fields<'_>) -> Result<(OrderKey, Order), LineFault>
-    ensures { row_as order_values result ≡ grouped order_forms fields.old }
+    ensures { row_as order_values result ≡ group_columns order_forms fields.old }
 {
     let key = order_key(fields)?;
     let customer = fields.column()?;
@@ -79,7 +79,7 @@ fn order_line_key(fields: &mut Fields<'_>) -> Result<OrderLineKey, LineFault>
 
 /// Reads all columns of an ORDER-LINE row.
 fn order_line(fields: &mut Fields<'_>) -> Result<(OrderLineKey, OrderLine), LineFault>
-    ensures { row_as order_line_values result ≡ grouped order_line_forms fields.old }
+    ensures { row_as order_line_values result ≡ group_columns order_line_forms fields.old }
 {
     let key = order_line_key(fields)?;
     let item = fields.column()?;

@@ -1,7 +1,7 @@
 //! Addresses, warehouses and districts.
 ghost use Rattle.std.specs.Prelude.{◌≡◌};
 ghost use Rattle.oe_rows.specs.declared.keys.Key.TheVariants as kind;
-ghost use Rattle.oe_file_rows.specs.Line.{read_as, row_as, columns, grouped, ReadsRow};
+ghost use Rattle.oe_file_rows.specs.Line.{read_as, row_as, columns, group_columns, ReadsRow};
 ghost use Rattle.oe_file_rows.specs.Rows.{key_values, address_values, warehouse_key_forms, district_key_forms, address_forms, warehouse_forms, warehouse_values, district_forms, district_values};
 
 use crate::columns::FourDecimals;
@@ -51,7 +51,7 @@ fn warehouse_key(fields: &mut Fields<'_>) -> Result<WarehouseKey, LineFault>
 
 /// Reads all columns of a WAREHOUSE row.
 fn warehouse(fields: &mut Fields<'_>) -> Result<(WarehouseKey, Warehouse), LineFault>
-    ensures { row_as warehouse_values result ≡ grouped warehouse_forms fields.old }
+    ensures { row_as warehouse_values result ≡ group_columns warehouse_forms fields.old }
 {
     let key = warehouse_key(fields)?;
     let name = fields.column()?;
@@ -70,7 +70,7 @@ fn warehouse(fields: &mut Fields<'_>) -> Result<(WarehouseKey, Warehouse), LineF
 
 /// Reads all columns of a DISTRICT row.
 fn district(fields: &mut Fields<'_>) -> Result<(DistrictKey, District), LineFault>
-    ensures { row_as district_values result ≡ grouped district_forms fields.old }
+    ensures { row_as district_values result ≡ group_columns district_forms fields.old }
 {
     let key = district_key(fields)?;
     let name = fields.column()?;

@@ -1,9 +1,9 @@
 //! The texts of columns, each read whole.
 ghost use Rattle.std.specs.Prelude.{◌≡◌, ◌==◌, ◌<◌, ◌*◌, ◌+◌, ◌^◌, IfSome, length};
 ghost use Rattle.std.specs.List.{list_all};
-ghost use Rattle.oe_decode.specs.ColumnFronts.{checked};
+ghost use Rattle.oe_decode.specs.ColumnFronts.{text_within};
 ghost use Rattle.oe_lines.specs.Words.{stamp_of, within};
-ghost use Rattle.oe_file_rows.specs.Word.{is_word, number_of, number_within, cents_of, money_of, owed, owned, balance_of, rate_of, credit_of, flag_of, is_no_fraction, parted_of, stamp_at, is_null};
+ghost use Rattle.oe_file_rows.specs.Word.{is_word, number_of, number_within, cents_of, money_of, debt_cents, credit_cents, balance_of, rate_of, credit_of, flag_of, is_no_fraction, parted_of, stamp_at, is_null};
 
 use oe_rows::Credit;
 use oe_values::fronts::{after, decimal, pair};
@@ -73,7 +73,7 @@ pub(crate) fn money<const MOST: u64>(field: &[u8]) -> Option<Amount<MOST>>
 #[inline]
 fn owned(cents: u64) -> Option<Balance>
     requires { cents < 10 ^ 18 }
-    ensures { result ≡ owned cents }
+    ensures { result ≡ credit_cents cents }
 {
     Balance::new(cents as i64)
 }
@@ -82,7 +82,7 @@ fn owned(cents: u64) -> Option<Balance>
 #[inline]
 fn owed(cents: u64) -> Option<Balance>
     requires { cents < 10 ^ 18 }
-    ensures { result ≡ owed cents }
+    ensures { result ≡ debt_cents cents }
 {
     if cents == 0 {
         return None;
@@ -120,7 +120,7 @@ pub(crate) fn rate(field: &[u8]) -> Option<Rate>
 /// Reads a text, of a length in the range of its type.
 #[inline]
 pub(crate) fn text<const LEAST: usize, const MOST: usize>(field: &[u8]) -> Option<Text<LEAST, MOST>>
-    ensures { result ≡ checked LEAST MOST field.now }
+    ensures { result ≡ text_within LEAST MOST field.now }
 {
     Text::read_bytes(field)
 }

@@ -7,7 +7,7 @@ use Rattle.oe_theory.specs.World.{World, Open, set, bump, tx_of, at, newest, lat
 use Rattle.oe_theory.specs.Laws.{Laws}
 use Rattle.oe_theory.specs.Next.{Next, Step, Answer, Begin, Advance, Purge, Read}
 use Rattle.oe_theory.specs.Next.{Begun, More, Committed, Aborted, Rejected, Replied, Undo_full, No_memory}
-use Rattle.oe_theory.specs.Next.{IsQuiet, begun, moved, put_active, committed, begins, goes_on, commits}
+use Rattle.oe_theory.specs.Next.{IsQuiet, open_at_begin, open_after, put_active, after_commit, begins, goes_on, commits}
 use Rattle.oe_theory.specs.Next.{purges, stops, fails, is_busy, is_full, reads, misses, query_is_rejected}
 use Rattle.oe_theory.specs.Next.{is_rejected, is_open, number_is_rejected, not_open, too_old}
 use Rattle.oe_theory.specs.Next.{future, lacks_memory_at_begin, lacks_memory}
@@ -29,7 +29,7 @@ module _ (M : Machine) (L : Laws M) where
   begun_by w _ _ _ t q quiet (begins u r m) i a =
       let same_t : u ≡ t = cc in
       let same_q : r ≡ q = cc in
-      let v : World M = put_active M u (Some (begun M w u r)) w in
+      let v : World M = put_active M u (Some (open_at_begin M w u r)) w in
       subst (λ (z : ℕ). HasOpen M (between M w) z q v) same_t
       (subst (λ (z : Request). HasOpen M (between M w) u z v) same_q
       (record {
@@ -37,11 +37,11 @@ module _ (M : Machine) (L : Laws M) where
           known = subst (λ (z : Map). M.rejection r z ≡ None) (quiet_tables M L w quiet) m.known;
           numbered = m.counted;
         };
-        who = begun M w u r;
-        is_open = set_same u (Some (begun M w u r)) w.active u refl;
+        who = open_at_begin M w u r;
+        is_open = set_same u (Some (open_at_begin M w u r)) w.active u refl;
         asked = refl;
         number = refl;
-        alone = λ x ne. set_other u (Some (begun M w u r)) w.active x ne ∙ quiet x;
+        alone = λ x ne. set_other u (Some (open_at_begin M w u r)) w.active x ne ∙ quiet x;
         same = refl;
       }))
   begun_by w _ _ _ t q quiet n i a = cc
@@ -58,7 +58,7 @@ module _ (M : Machine) (L : Laws M) where
       let same : u ≡ t = cc in
       let k : HasOpen M b u q w = subst (λ (z : ℕ). HasOpen M b z q w) (sym same) h in
       let own : o ≡ k.who = some_inj _ _ (sym e ∙ k.is_open) in
-      let next : Open M = moved M w.layout o (M.ask (tx_of M u o) o.now.position (tables M w)) c p (tables M w) in
+      let next : Open M = open_after M w.layout o (M.ask (tx_of M u o) o.now.position (tables M w)) c p (tables M w) in
       let v : World M = put_active M u (Some next) w in
       subst (λ (z : ℕ). HasOpen M b z q v) same
       (record {
@@ -99,7 +99,7 @@ module _ (M : Machine) (L : Laws M) where
       → i ≡ Advance t → a ≡ Committed m y → Left w t v
   left_by w _ _ _ t m y (commits u o reply e g r) i a =
       let same : u ≡ t = cc in
-      let v : World M = committed M w u o reply in
+      let v : World M = after_commit M w u o reply in
       subst (λ (z : ℕ). Left w z v) same (record { counts = refl; active = refl })
   left_by w _ _ _ t m y n i a = cc
 

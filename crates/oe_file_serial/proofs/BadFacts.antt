@@ -6,7 +6,7 @@ use Rattle.std.proofs.lemmas.List.{length-append, length-take-le, take_all, take
 use Rattle.std.proofs.lemmas.List.Elements.{All-nil, All-cons}
 use Rattle.std.proofs.lemmas.Bool.{cases_lt}
 use Rattle.oe_reply_words.specs.Parts.{IsWithout}
-use Rattle.oe_file_serial.specs.Files.{IsTold, IsOpening, Unopened, Untold, unended, AreBadOf, AreBad}
+use Rattle.oe_file_serial.specs.Files.{IsTold, IsOpening, Unopened, Untold, last_line_fault, AreBadOf, AreBad}
 use Rattle.oe_file_serial.specs.Files.{lines_of, last_of}
 use Rattle.oe_file_serial.specs.declared.origins.Opening.{Opening}
 use Rattle.oe_file_serial.specs.declared.origins.Opening.TheVariants as opening
@@ -69,7 +69,7 @@ all_told n [] u = All-nil IsTold
 all_told n (line ∷ lines) (inl (told, u)) = All-cons IsTold line lines told (all_told (n + 1) lines u)
 all_told n (line ∷ lines) (inr (untold, (b, more, number, why, u, is))) = let not : ⊥ = cc in absurd not
 
-no_last : (n : ℕ) (last : List ℕ) → unended n last ≡ [] → last ≡ []
+no_last : (n : ℕ) (last : List ℕ) → last_line_fault n last ≡ [] → last ≡ []
 no_last n [] e = refl
 no_last n (b ∷ bs) e = cc
 
@@ -103,7 +103,7 @@ formed : (o : Opening) (lines : List (List ℕ)) (last : List ℕ) → AreBadOf 
 formed o [] [] u = absurd (empty_opens o (opened o [] u))
 formed o [] (b ∷ bs) e = let not : ⊥ = cc in absurd not
 formed o (line ∷ lines) last (first, more, is, u, e) =
-    let one = both_empty (first ++ more) (unended (length lines + 2) last) e in
+    let one = both_empty (first ++ more) (last_line_fault (length lines + 2) last) e in
     let two = both_empty first more (sym one.0) in
     record {
       opening = line;
@@ -132,13 +132,13 @@ pub none_bad : (o : Opening) (input : List ℕ) (first : List BadLine) → lengt
 none_bad o [] first none u = u
 none_bad o (b ∷ bs) first none u = absurd (omega (arith, none))
 
-last_bad : (o : Opening) (last : List ℕ) → length last ≢ 0 → AreBadOf o [] last (unended 1 last)
+last_bad : (o : Opening) (last : List ℕ) → length last ≢ 0 → AreBadOf o [] last (last_line_fault 1 last)
 last_bad o [] some = absurd (some refl)
 last_bad o (b ∷ bs) some = refl
 
 pub unended_bad : (o : Opening) (input : List ℕ) → IsWithout 10 input → length input ≢ 0
-    → AreBad o input (unended 1 input)
+    → AreBad o input (last_line_fault 1 input)
 unended_bad o input h some =
     let none = no_line input h in
-    subst (λ (ls : List (List ℕ)). AreBadOf o ls (last_of input) (unended 1 input)) (sym none.0)
-    (subst (λ (last : List ℕ). AreBadOf o [] last (unended 1 input)) (sym none.1) (last_bad o input some))
+    subst (λ (ls : List (List ℕ)). AreBadOf o ls (last_of input) (last_line_fault 1 input)) (sym none.0)
+    (subst (λ (last : List ℕ). AreBadOf o [] last (last_line_fault 1 input)) (sym none.1) (last_bad o input some))

@@ -3,7 +3,7 @@ use Rattle.std.proofs.Common.{◌≡◌, ℕ, List, Option, None, Result, Ok, Er
 use Rattle.oe_theory.specs.World.{World, Open, newest, latest}
 use Rattle.oe_theory.specs.Next as theory
 use Rattle.oe_theory.specs.Next.{Next, Begin, Advance, Purge, Read, Answer}
-use Rattle.oe_theory.specs.Theorems.{opened}
+use Rattle.oe_theory.specs.Theorems.{world_at_opening}
 use Rattle.oe_theory.proofs.Theorems.{opening_is_reached}
 use Rattle.oe_requests.specs.declared.requests.Query.{Query}
 use Rattle.oe_requests.specs.declared.requests.Request.{Request}
@@ -183,7 +183,7 @@ purge_keeps w v m a f n =
 
 -- WHERE THE FIRST TRANSACTION BEGINS
 
-opened_free : (x : Rows) (n : ℕ) → IsPopulation x → IsFree (opened system x n WholeRows)
+opened_free : (x : Rows) (n : ℕ) → IsPopulation x → IsFree (world_at_opening system x n WholeRows)
 opened_free x n p = record {
   live = (opening_is_reached system laws x n WholeRows (population_is_good x p), λ t. tt);
   quiet = λ t. refl;
@@ -191,7 +191,7 @@ opened_free x n p = record {
 
 module _ {A E : Type 0} (w : A → World system) where
   pub opened_so : (x : Rows) (n : ℕ) → IsPopulation x → (r : Result A E)
-      → IfOk r (λ c. w c ≡ opened system x n WholeRows)
+      → IfOk r (λ c. w c ≡ world_at_opening system x n WholeRows)
       → IfOk r (λ c. IsFree (w c) × (between system (w c) ≡ at_first system x))
   opened_so x n p (Ok c) e =
       (subst IsFree (sym e) (opened_free x n p), ap (λ (z : World system). between system z) e)

@@ -153,17 +153,17 @@ Untold n (line ∷ lines) bad =
     × (bad ≡ b ∷ more)))
 
 -- a last line without its end, which would be the n-th
-abbrev pub unended : ℕ → List ℕ → List BadLine
-unended n [] = []
-unended n (b ∷ bs) = record { number = n; why = why.Unended } ∷ []
+abbrev pub last_line_fault : ℕ → List ℕ → List BadLine
+last_line_fault n [] = []
+last_line_fault n (b ∷ bs) = record { number = n; why = why.Unended } ∷ []
 
 -- all lines that have no form, in order; a file without a line has no opening
 abbrev pub AreBadOf : Opening → List (List ℕ) → List ℕ → List BadLine → Type 0
 AreBadOf o [] [] bad = Unopened o [] bad
-AreBadOf o [] (b ∷ bs) bad = bad ≡ unended 1 (b ∷ bs)
+AreBadOf o [] (b ∷ bs) bad = bad ≡ last_line_fault 1 (b ∷ bs)
 AreBadOf o (line ∷ lines) last bad =
     (first more : List BadLine) × Unopened o line first × Untold 2 lines more
-    × (bad ≡ first ++ more ++ unended (length lines + 2) last)
+    × (bad ≡ first ++ more ++ last_line_fault (length lines + 2) last)
 
 abbrev pub AreBad : Opening → List ℕ → List BadLine → Type 0
 AreBad o input bad = AreBadOf o (lines_of input) (last_of input) bad

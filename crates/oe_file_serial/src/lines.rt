@@ -11,7 +11,7 @@ ghost use Rattle.oe_lines.specs.declared.commands.MomentChoice.TheVariants as mo
 ghost use Rattle.oe_file_serial.specs.declared.lines.Asked.{Asked};
 ghost use Rattle.oe_file_serial.specs.declared.reasons.BadLine.{BadLine};
 ghost use Rattle.oe_reply_words.specs.Parts.{IsWithout};
-ghost use Rattle.oe_file_serial.specs.Files.{Parts, AsksFor, Asks, IsTold, Opens, OpensRing, IsOpening, lines_of, last_of, unended, Unopened, Untold, AreBad, Shows};
+ghost use Rattle.oe_file_serial.specs.Files.{Parts, AsksFor, Asks, IsTold, Opens, OpensRing, IsOpening, lines_of, last_of, last_line_fault, Unopened, Untold, AreBad, Shows};
 
 use crate::origins::Opening;
 use crate::reasons::{BadLine, Why, why_line, why_opening};
@@ -285,7 +285,7 @@ fn note_line<'a>(bad: &mut BadLines<'a>, number: u128, line: &'a [u8])
 // Notes a last line without its end.
 fn note_last(bad: &mut BadLines, number: u128, last: &[u8])
     requires { bad.old.count + 1 < 2 ^ 128 }
-    ensures { (b : List BadLine) → Shows bad.old b → Shows bad.new (b ++ unended number last.now) }
+    ensures { (b : List BadLine) → Shows bad.old b → Shows bad.new (b ++ last_line_fault number last.now) }
 {
     if !last.is_empty() {
         bad.note(BadLine {
@@ -300,7 +300,7 @@ fn note_lines<'a>(bad: &mut BadLines<'a>, lines: &'a [u8])
     requires { bad.old.count ≤ 1 }
     ensures { (more : List BadLine) × Untold 2 (lines_of lines.now) more
         × ((b : List BadLine) → Shows bad.old b → Shows bad.new (b ++ more
-        ++ unended (length (lines_of lines.now) + 2) (last_of lines.now))) }
+        ++ last_line_fault (length (lines_of lines.now) + 2) (last_of lines.now))) }
 {
     let mut left = lines;
     let mut number = 2u128;

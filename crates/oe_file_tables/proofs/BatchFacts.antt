@@ -16,7 +16,7 @@ use Rattle.oe_file_tables.specs.declared.faults.TableFault.{TableFault}
 use Rattle.oe_file_tables.specs.declared.faults.Wrong.TheVariants as wrong
 use Rattle.oe_file_tables.specs.declared.lines.Numbered.{Numbered}
 use Rattle.oe_file_tables.specs.Batches.{Ascend, EndBelow, AreGathered, AreOrdered}
-use Rattle.oe_file_tables.specs.Fault.{Told, each_pushed}
+use Rattle.oe_file_tables.specs.Fault.{Told, with_each_fault}
 use Rattle.oe_file_tables.specs.Twice.{twice_behind, twice_in}
 
 -- ---- batches
@@ -109,5 +109,5 @@ module _ {K X : Type 0} (cmp : K → K → Ordering) where
         sorted = λ k d low h.
             (ranks_by total (λ (n : Numbered K X). n.key)).one_way (get_or rows k d) (get_or rows (k + 1) d)
             (ap is_lt (up k d h));
-        twice = ap (λ fs. each_pushed fs told) (sym (none_twice table key_of rows up));
+        twice = ap (λ fs. with_each_fault fs told) (sym (none_twice table key_of rows up));
       })

@@ -20,10 +20,11 @@ use Rattle.oe_file_tables.specs.declared.formats.Format.{Format}
 use Rattle.oe_file_tables.specs.declared.formats.Format.TheVariants as written
 use Rattle.oe_file_tables.specs.declared.lines.Numbered.{Numbered}
 use Rattle.oe_file_tables.specs.declared.lines.Reading as reading
-use Rattle.oe_file_tables.specs.Fault.{Told, shown, pushed, all_pushed}
+use Rattle.oe_file_tables.specs.Fault.{Told, in_64_bits, with_fault, with_faults}
 use Rattle.oe_file_tables.specs.Format.{text_in, heads, null_place, spelled_as}
 use Rattle.oe_file_tables.specs.Record.{line_of}
-use Rattle.oe_file_tables.specs.Lines.{IsInLine, ended, with_last, said_of, IsWrong, counts, Taken, Begins, TakesRow}
+use Rattle.oe_file_tables.specs.Lines.{IsInLine, with_line_end, with_last, said_of, IsWrong, counts, Taken, Begins}
+use Rattle.oe_file_tables.specs.Lines.{TakesRow}
 use Rattle.oe_file_tables.specs.Lines.{TakesHeading, TakesCount, TakesFault, Stands, Holds, AreAll}
 use Rattle.oe_file_tables.specs.Tables.{TableReadAs, TableRead, ReadWellAs, ReadWell}
 use Rattle.oe_file_tables.specs.Twice.{twice_in}
@@ -36,36 +37,37 @@ use Rattle.oe_file_tables.specs.Reading.{CountsOne, TakesOne, TakesRead, Standin
 
 -- ---- the number of the next line
 
-shown_below : (n : ℕ) → n < 18446744073709551615 → shown n ≡ n
+shown_below : (n : ℕ) → n < 18446744073709551615 → in_64_bits n ≡ n
 shown_below n h = omega arith
 
-shown_past : (n : ℕ) → 18446744073709551615 ≤ n → shown n ≡ 18446744073709551615
+shown_past : (n : ℕ) → 18446744073709551615 ≤ n → in_64_bits n ≡ 18446744073709551615
 shown_past n h = omega arith
 
-pub shown_next : (n m : ℕ) → n ≡ shown m → shown (n + 1) ≡ shown (m + 1)
+pub shown_next : (n m : ℕ) → n ≡ in_64_bits m → in_64_bits (n + 1) ≡ in_64_bits (m + 1)
 shown_next n m e = omega (arith, e)
 
 -- ---- one line more
 
 module _ {K X : Type 0} (format : Format) (spells : ℕ → List ℕ → K × X → Type 0) (table : Table)
-    (start : Told TableFault) (ls : List (List ℕ)) (line : List ℕ) (count n : ℕ) (next : n ≡ shown (count + 1)) where
-  at_next : count ≡ shown (length ls) → n ≡ shown (length ls + 1)
+    (start : Told TableFault) (ls : List (List ℕ)) (line : List ℕ) (count n : ℕ)
+    (next : n ≡ in_64_bits (count + 1)) where
+  at_next : count ≡ in_64_bits (length ls) → n ≡ in_64_bits (length ls + 1)
   at_next e = next ∙ shown_next count (length ls) e
 
-  at_end : count ≡ shown (length ls) → n ≡ shown (length (ls ++ line ∷ []))
-  at_end e = at_next e ∙ ap shown (sym (length_push ls line))
+  at_end : count ≡ in_64_bits (length ls) → n ≡ in_64_bits (length (ls ++ line ∷ []))
+  at_end e = at_next e ∙ ap in_64_bits (sym (length_push ls line))
 
   pub fault_stands : (counted headed : Bool) (rows : List (Numbered K X)) (told told' : Told TableFault) (w : Wrong)
       → Stands format spells table start ls counted headed count rows told
       → IsWrong format spells table counted headed n line w
-      → told' ≡ pushed (record { table = table; line = n; wrong = w }) told
+      → told' ≡ with_fault (record { table = table; line = n; wrong = w }) told
       → Stands format spells table start (ls ++ line ∷ []) (counts format spells table counted w) headed n rows told'
   fault_stands counted headed rows told told' w s wrong e =
       let at = at_next s.3 in (
-        record { table = table; line = shown (length ls + 1); wrong = w } ∷ s.0,
+        record { table = table; line = in_64_bits (length ls + 1); wrong = w } ∷ s.0,
         TakesFault line w s.1 (subst (λ (n : ℕ). IsWrong format spells table counted headed n line w) at wrong),
-        e ∙ ap (pushed (record { table = table; line = n; wrong = w })) s.2
-            ∙ ap (λ (m : ℕ). pushed (record { table = table; line = m; wrong = w }) (all_pushed s.0 start)) at,
+        e ∙ ap (with_fault (record { table = table; line = n; wrong = w })) s.2
+            ∙ ap (λ (m : ℕ). with_fault (record { table = table; line = m; wrong = w }) (with_faults s.0 start)) at,
         at_end s.3,
       )
 
@@ -202,7 +204,7 @@ module _ {K X : Type 0} (format : Format) (spells : ℕ → List ℕ → K × X 
   standing_bytes start input more r r' told free same keeps s = record {
     lines = s.lines;
     line = s.line ++ more;
-    whole = ap (λ z. z ++ more) s.whole ∙ append_assoc (flat_map ended s.lines) s.line more;
+    whole = ap (λ z. z ++ more) s.whole ∙ append_assoc (flat_map with_line_end s.lines) s.line more;
     each = s.each;
     tail = All-append (λ b. b ≢ 10) s.line more s.tail free;
     stands =
@@ -226,10 +228,10 @@ module _ {K X : Type 0} (format : Format) (spells : ℕ → List ℕ → K × X 
         lines = s.lines ++ line ∷ [];
         line = [];
         whole = ap (λ z. (z ++ last) ++ 10 ∷ []) s.whole
-            ∙ ap (λ z. z ++ 10 ∷ []) (append_assoc (flat_map ended s.lines) s.line last)
-            ∙ append_assoc (flat_map ended s.lines) line (10 ∷ [])
-            ∙ ap (λ z. flat_map ended s.lines ++ z) (sym (append-nil (line ++ 10 ∷ [])))
-            ∙ sym (flat_map-append ended s.lines (line ∷ [])) ∙ sym (append-nil _);
+            ∙ ap (λ z. z ++ 10 ∷ []) (append_assoc (flat_map with_line_end s.lines) s.line last)
+            ∙ append_assoc (flat_map with_line_end s.lines) line (10 ∷ [])
+            ∙ ap (λ z. flat_map with_line_end s.lines ++ z) (sym (append-nil (line ++ 10 ∷ [])))
+            ∙ sym (flat_map-append with_line_end s.lines (line ∷ [])) ∙ sym (append-nil _);
         each = All-push IsInLine s.lines line s.each (All-append (λ b. b ≢ 10) s.line last s.tail free);
         tail = all_none (λ b. b ≢ 10);
         stands = takes s.line s.holds start s.lines s.stands;
@@ -324,12 +326,13 @@ read_all E (Some a) (Some b) (Some d) read buf h g room =
 
 -- ---- where no fault was told
 
-pushed_some : (n : ℕ) → shown (n + 1) ≡ 0 → ⊥
+pushed_some : (n : ℕ) → in_64_bits (n + 1) ≡ 0 → ⊥
 pushed_some n e = omega (arith, e)
 
-pub none_pushed : (fs : List TableFault) (t : Told TableFault) → (all_pushed fs t).count ≡ 0 → (fs ≡ []) × (t.count ≡ 0)
+pub none_pushed : (fs : List TableFault) (t : Told TableFault) → (with_faults fs t).count ≡ 0 → (fs ≡ [])
+    × (t.count ≡ 0)
 none_pushed [] t e = (refl, e)
-none_pushed (f ∷ fs) t e = absurd (pushed_some (all_pushed fs t).count e)
+none_pushed (f ∷ fs) t e = absurd (pushed_some (with_faults fs t).count e)
 
 -- a file in which nothing was told
 pub table_read_as : {K X : Type 0} (format : Format) (cmp : K → K → Ordering) (total : IsTotalOrder cmp)

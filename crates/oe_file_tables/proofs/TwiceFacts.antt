@@ -17,21 +17,22 @@ use Rattle.oe_rows.specs.declared.keys.Key.{Key}
 use Rattle.oe_rows.specs.declared.keys.Table.{Table}
 use Rattle.oe_file_tables.specs.declared.faults.TableFault.{TableFault}
 use Rattle.oe_file_tables.specs.declared.lines.Numbered.{Numbered}
-use Rattle.oe_file_tables.specs.Fault.{Told, shown, pushed, each_pushed}
+use Rattle.oe_file_tables.specs.Fault.{Told, in_64_bits, with_fault, with_each_fault}
 use Rattle.oe_file_tables.specs.Twice.{twice_at, twice_behind, twice_in}
 
 -- ---- faults one after another
 
-each_append : {T : Type 0} (fs gs : List T) (t : Told T) → each_pushed (fs ++ gs) t ≡ each_pushed gs (each_pushed fs t)
+each_append : {T : Type 0} (fs gs : List T) (t : Told T) → with_each_fault (fs ++ gs) t
+    ≡ with_each_fault gs (with_each_fault fs t)
 each_append [] gs t = refl
-each_append (f ∷ fs) gs t = each_append fs gs (pushed f t)
+each_append (f ∷ fs) gs t = each_append fs gs (with_fault f t)
 
-one_told : (n : ℕ) → shown (n + 1) ≡ 0 → ⊥
+one_told : (n : ℕ) → in_64_bits (n + 1) ≡ 0 → ⊥
 one_told n e = omega (arith, e)
 
-pub none_each : {T : Type 0} (fs : List T) (t : Told T) → (each_pushed fs t).count ≡ 0 → (fs ≡ []) × (t.count ≡ 0)
+pub none_each : {T : Type 0} (fs : List T) (t : Told T) → (with_each_fault fs t).count ≡ 0 → (fs ≡ []) × (t.count ≡ 0)
 none_each [] t e = (refl, e)
-none_each (f ∷ fs) t e = absurd (one_told t.count (none_each fs (pushed f t) e).1)
+none_each (f ∷ fs) t e = absurd (one_told t.count (none_each fs (with_fault f t) e).1)
 
 -- ---- one row more
 
@@ -65,27 +66,27 @@ module _ {K X : Type 0} (cmp : K → K → Ordering) (table : Table) (key_of : K
   -- the faults with the row behind the first i ones
   told_more : (ns : List (Numbered K X)) (i : ℕ) (p n : Numbered K X) (start now : Told TableFault) → suc i < length ns
       → p ≡ get_or ns i p → n ≡ get_or ns (suc i) n
-      → now ≡ each_pushed (twice_in cmp table key_of (take (suc i) ns)) start
-      → each_pushed (twice_at cmp table key_of p n) now
-      ≡ each_pushed (twice_in cmp table key_of (take (suc (suc i)) ns)) start
+      → now ≡ with_each_fault (twice_in cmp table key_of (take (suc i) ns)) start
+      → with_each_fault (twice_at cmp table key_of p n) now
+      ≡ with_each_fault (twice_in cmp table key_of (take (suc (suc i)) ns)) start
   told_more ns i p n start now h is-p is-n told =
       let front = twice_in cmp table key_of (take (suc i) ns) in
-      ap (each_pushed (twice_at cmp table key_of p n)) told
+      ap (with_each_fault (twice_at cmp table key_of p n)) told
       ∙ sym (each_append front (twice_at cmp table key_of p n) start)
-      ∙ ap (λ fs. each_pushed fs start)
+      ∙ ap (λ fs. with_each_fault fs start)
       ((λ j. front ++ twice_at cmp table key_of (is-p j) (is-n j)) ∙ sym (twice_more ns i p n h))
 
   pub told_next : (ns : List (Numbered K X)) (at : ℕ) (p n : Numbered K X) (start now : Told TableFault) → 1 ≤ at
       → at < length ns → p ≡ get_or ns (at - 1) p → n ≡ get_or ns at n
-      → now ≡ each_pushed (twice_in cmp table key_of (take at ns)) start
-      → each_pushed (twice_at cmp table key_of p n) now
-      ≡ each_pushed (twice_in cmp table key_of (take (at + 1) ns)) start
+      → now ≡ with_each_fault (twice_in cmp table key_of (take at ns)) start
+      → with_each_fault (twice_at cmp table key_of p n) now
+      ≡ with_each_fault (twice_in cmp table key_of (take (at + 1) ns)) start
   told_next ns zero p n start now low high is-p is-n told = absurd (omega (arith, low))
   told_next ns (suc i) p n start now low high is-p is-n told =
       let next : suc (suc i) ≡ suc i + 1 = omega arith in
       let less : suc i - 1 ≡ i = omega arith in
-      subst (λ (m : ℕ). each_pushed (twice_at cmp table key_of p n) now
-      ≡ each_pushed (twice_in cmp table key_of (take m ns)) start) next
+      subst (λ (m : ℕ). with_each_fault (twice_at cmp table key_of p n) now
+      ≡ with_each_fault (twice_in cmp table key_of (take m ns)) start) next
       (told_more ns i p n start now high (subst (λ (m : ℕ). p ≡ get_or ns m p) less is-p) is-n told)
 
   pub twice_first : (ns : List (Numbered K X)) → twice_in cmp table key_of (take 1 ns) ≡ []

@@ -7,7 +7,7 @@ use Rattle.oe_rows.specs.declared.keys.Key.{Key}
 use Rattle.oe_rows.specs.declared.keys.Table.{Table}
 use Rattle.oe_file_tables.specs.declared.faults.TableFault.{TableFault}
 use Rattle.oe_file_tables.specs.declared.lines.Numbered.{Numbered}
-use Rattle.oe_file_tables.specs.Fault.{Told, each_pushed}
+use Rattle.oe_file_tables.specs.Fault.{Told, with_each_fault}
 use Rattle.oe_file_tables.specs.Twice.{twice_in}
 
 module _ {K X : Type 0} (cmp : K → K → Ordering) where
@@ -32,4 +32,4 @@ module _ {K X : Type 0} (cmp : K → K → Ordering) where
       (old new : Told TableFault) : Type 0 where
     pub moved : IsPermutation rows ordered
     pub sorted : IsSortedByKey (λ n. n.key) cmp ordered
-    pub twice : new ≡ each_pushed (twice_in cmp table key_of ordered) old
+    pub twice : new ≡ with_each_fault (twice_in cmp table key_of ordered) old

@@ -12,7 +12,7 @@ use Rattle.oe_file_tables.specs.declared.faults.Wrong.TheVariants as wrong
 use Rattle.oe_file_tables.specs.declared.formats.Format.{Format}
 use Rattle.oe_file_tables.specs.declared.formats.Format.TheVariants as written
 use Rattle.oe_file_tables.specs.declared.lines.Numbered.{Numbered}
-use Rattle.oe_file_tables.specs.Fault.{Told, shown, all_pushed}
+use Rattle.oe_file_tables.specs.Fault.{Told, in_64_bits, with_faults}
 use Rattle.oe_file_tables.specs.Format.{is_returned, text_in, heads, null_place, spelled_as}
 use Rattle.oe_file_tables.specs.Record.{line_of}
 
@@ -20,8 +20,8 @@ use Rattle.oe_file_tables.specs.Record.{line_of}
 abbrev pub IsInLine : List ℕ → Type 0
 IsInLine line = All (λ b. b ≢ 10) line
 
-abbrev pub ended : List ℕ → List ℕ
-ended line = line ++ 10 ∷ []
+abbrev pub with_line_end : List ℕ → List ℕ
+with_line_end line = line ++ 10 ∷ []
 
 -- the last line may lack its end
 abbrev pub with_last : List (List ℕ) → List ℕ → List (List ℕ)
@@ -32,7 +32,7 @@ with_last ls (b ∷ s) = ls ++ (b ∷ s) ∷ []
 pub record AreLines (bytes : List ℕ) (lines : List (List ℕ)) : Type 0 where
   pub whole : List (List ℕ)
   pub last : List ℕ
-  pub bytes_are : bytes ≡ flat_map ended whole ++ last
+  pub bytes_are : bytes ≡ flat_map with_line_end whole ++ last
   pub each : All IsInLine whole
   pub tail : IsInLine last
   pub lines_are : lines ≡ with_last whole last
@@ -85,36 +85,36 @@ module _ {K X : Type 0} (format : Format) (spells : ℕ → List ℕ → K × X 
     Begins : Taken [] false false [] []
     TakesHeading : {ls : List (List ℕ)} {headed : Bool} {rs : List (Numbered K X)} {fs : List TableFault}
         (line : List ℕ) → Taken ls false headed rs fs
-        → heads format (shown (length ls + 1)) (text_in format line) ≡ true
+        → heads format (in_64_bits (length ls + 1)) (text_in format line) ≡ true
         → Taken (ls ++ line ∷ []) false true rs fs
     TakesRow : {ls : List (List ℕ)} {headed : Bool} {rs : List (Numbered K X)} {fs : List TableFault} (line : List ℕ)
         (r : K × X)
-        → Taken ls false headed rs fs → Spelled (shown (length ls + 1)) line r
+        → Taken ls false headed rs fs → Spelled (in_64_bits (length ls + 1)) line r
         → Taken (ls ++ line ∷ []) false headed
-        (rs ++ record { line = shown (length ls + 1); key = r.0; row = r.1 } ∷ []) fs
+        (rs ++ record { line = in_64_bits (length ls + 1); key = r.0; row = r.1 } ∷ []) fs
     TakesCount : {ls : List (List ℕ)} {headed : Bool} {rs : List (Numbered K X)} {fs : List TableFault} (line : List ℕ)
         (said : ℕ)
         → Taken ls false headed rs fs → said_of (text_in format line) ≡ Some said
-        → said + beside_rows headed ≡ shown (length ls + 1)
+        → said + beside_rows headed ≡ in_64_bits (length ls + 1)
         → Taken (ls ++ line ∷ []) true headed rs fs
     TakesFault : {ls : List (List ℕ)} {rs : List (Numbered K X)} {fs : List TableFault} {counted headed : Bool}
         (line : List ℕ) (w : Wrong)
-        → Taken ls counted headed rs fs → IsWrong counted headed (shown (length ls + 1)) line w
+        → Taken ls counted headed rs fs → IsWrong counted headed (in_64_bits (length ls + 1)) line w
         → Taken (ls ++ line ∷ []) (counts counted w) headed rs
-        (record { table = table; line = shown (length ls + 1); wrong = w } ∷ fs)
+        (record { table = table; line = in_64_bits (length ls + 1); wrong = w } ∷ fs)
 
   -- lines were taken, and their faults told
   abbrev pub Stands : Told TableFault → List (List ℕ) → (counted headed : Bool) → ℕ → List (Numbered K X)
       → Told TableFault → Type 0
   Stands start ls counted headed count rows told =
-      (fs : List TableFault) × Taken ls counted headed rows fs × (told ≡ all_pushed fs start)
-      × (count ≡ shown (length ls))
+      (fs : List TableFault) × Taken ls counted headed rows fs × (told ≡ with_faults fs start)
+      × (count ≡ in_64_bits (length ls))
 
   -- the file's lines were taken, and their faults told
   abbrev pub IsRead : List ℕ → Told TableFault → List (Numbered K X) → Told TableFault → Type 0
   IsRead bytes start rows told =
       (lines : List (List ℕ)) × (counted : Bool) × (headed : Bool) × (fs : List TableFault) × AreLines bytes lines
-      × Taken lines counted headed rows fs × (told ≡ all_pushed fs start)
+      × Taken lines counted headed rows fs × (told ≡ with_faults fs start)
 
   -- A file was read to its end: the lines of all its bytes were taken.
   abbrev pub FileRead : Option Source → Option Source → Told TableFault → List (Numbered K X) → Told TableFault → Type 0

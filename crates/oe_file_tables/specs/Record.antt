@@ -68,9 +68,9 @@ line_of before_null bytes = line_from bytes Start before_null
 -- ---- how it is read
 
 -- what a step makes of the line so far
-abbrev pub appended : List ℕ → Option (List ℕ × Within × Option ℕ) → Option (List ℕ × Within × Option ℕ)
-appended line None = None
-appended line (Some a) = Some (line ++ a.0, a.1, a.2)
+abbrev pub line_onward : List ℕ → Option (List ℕ × Within × Option ℕ) → Option (List ℕ × Within × Option ℕ)
+line_onward line None = None
+line_onward line (Some a) = Some (line ++ a.0, a.1, a.2)
 
 -- the record stands so now, or it is none, or there was no memory
 abbrev pub ComesTo : {T : Type 0} → Option (List ℕ × Within × Option ℕ) → List ℕ → Within → Option ℕ → Result T Unread

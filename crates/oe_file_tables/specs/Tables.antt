@@ -9,7 +9,7 @@ use Rattle.oe_file_tables.specs.declared.faults.TableFault.{TableFault}
 use Rattle.oe_file_tables.specs.declared.formats.Format.{Format}
 use Rattle.oe_file_tables.specs.declared.formats.Format.TheVariants as written
 use Rattle.oe_file_tables.specs.declared.lines.Numbered.{Numbered}
-use Rattle.oe_file_tables.specs.Fault.{Told, each_pushed}
+use Rattle.oe_file_tables.specs.Fault.{Told, with_each_fault}
 use Rattle.oe_file_tables.specs.Lines.{AreLines, Taken, AreAll, FileRead}
 use Rattle.oe_file_tables.specs.Twice.{twice_in}
 
@@ -23,7 +23,7 @@ pub record TableReadAs (format : Format) {K X : Type 0} (cmp : K → K → Order
   pub read : FileRead format spells table old new start taken middle
   pub moved : IsPermutation taken rows
   pub sorted : IsSortedByKey (λ n. n.key) cmp rows
-  pub twice : told ≡ each_pushed (twice_in cmp table key_of rows) middle
+  pub twice : told ≡ with_each_fault (twice_in cmp table key_of rows) middle
 
 -- the same of a file that a dump prints
 abbrev pub TableRead : {K X : Type 0} → (K → K → Ordering) → (K → Key) → (ℕ → List ℕ → K × X → Type 0) → Table

@@ -1,6 +1,6 @@
 //! What is wrong with a file. At most twenty faults are kept, and all are counted.
 ghost use Rattle.std.specs.Prelude.{◌≡◌, ◌<◌, ◌≤◌, length, IfOk};
-ghost use Rattle.oe_file_tables.specs.Fault.{pushed, no_faults};
+ghost use Rattle.oe_file_tables.specs.Fault.{with_fault, no_faults};
 
 use oe_file_rows::LineFault;
 use oe_rows::{Key, Table};
@@ -74,7 +74,7 @@ impl<T: Drop> Firsts<T> {
 
     /// Adds a value, which is kept where there is room.
     pub fn push(&mut self, value: T)
-        ensures { self.new ≡ pushed value self.old }
+        ensures { self.new ≡ with_fault value self.old }
     {
         self.count = self.count.saturating_add(1);
         if self.kept.len() < KEPT {

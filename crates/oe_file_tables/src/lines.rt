@@ -6,7 +6,7 @@ ghost use Rattle.std.specs.Prelude.{◌≡◌, ◌≢◌, ◌<◌, ◌≤◌, �
 ghost use Rattle.oe_io.specs.Ports.{Source};
 ghost use Rattle.oe_file_tables.specs.declared.faults.Wrong.TheVariants as wrong;
 ghost use Rattle.oe_file_tables.specs.declared.faults.TableFault.{TableFault};
-ghost use Rattle.oe_file_tables.specs.Fault.{Told, shown, pushed};
+ghost use Rattle.oe_file_tables.specs.Fault.{Told, in_64_bits, with_fault};
 ghost use Rattle.oe_file_tables.specs.Lines.{said_of, beside_rows, Stands, Holds, FileRead};
 ghost use Rattle.oe_file_tables.specs.Reading.{TakesOne, TakesRead, CountsOne, Standing, Finished};
 ghost use Rattle.oe_file_tables.specs.declared.formats.Format.{Format};
@@ -108,7 +108,7 @@ impl<K: TableKey + Drop, R: RowLine<K> + Drop> Lot<K, R> {
     // Tells what is wrong with the line.
     fn tell(&self, wrong: Wrong, faults: &mut Faults)
         ensures { faults.new
-            ≡ pushed (record { table = R.own_table; line = self.now.count; wrong = wrong })
+            ≡ with_fault (record { table = R.own_table; line = self.now.count; wrong = wrong })
             faults.old }
     {
         faults.push(TableFault {

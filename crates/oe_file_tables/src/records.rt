@@ -6,7 +6,7 @@
 ghost use Rattle.std.specs.Prelude.{◌≡◌, ◌++◌, ◌∷◌, [], Some};
 ghost use Rattle.std.specs.Option.{option_map};
 ghost use Rattle.oe_file_tables.specs.declared.records.Within.TheVariants as within;
-ghost use Rattle.oe_file_tables.specs.Record.{past_column, may_be_null, empty_text, of_field, field_ends, step, at_end, line_of, appended, Makes, ComesTo};
+ghost use Rattle.oe_file_tables.specs.Record.{past_column, may_be_null, empty_text, of_field, field_ends, step, at_end, line_of, line_onward, Makes, ComesTo};
 
 use std::alloc::Global;
 
@@ -95,7 +95,7 @@ impl Record {
     // Takes a byte of a field.
     #[inline]
     fn add(&mut self, byte: u8, within: Within) -> Result<(), Unread>
-        ensures { ComesTo (appended self.old.line.items (of_field byte within self.old.before_null))
+        ensures { ComesTo (line_onward self.old.line.items (of_field byte within self.old.before_null))
             self.new.line.items self.new.within self.new.before_null result }
     {
         if byte == b'\t' {
@@ -107,7 +107,7 @@ impl Record {
     // Ends a field.
     #[inline]
     fn end_field(&mut self) -> Result<(), Unread>
-        ensures { ComesTo (appended self.old.line.items (field_ends [] self.old.before_null))
+        ensures { ComesTo (line_onward self.old.line.items (field_ends [] self.old.before_null))
             self.new.line.items self.new.within self.new.before_null result }
     {
         self.before_null = past_column(self.before_null);
@@ -117,7 +117,7 @@ impl Record {
     // Ends a field that has no byte and no quotes.
     #[inline]
     fn end_empty(&mut self) -> Result<(), Unread>
-        ensures { ComesTo (appended self.old.line.items
+        ensures { ComesTo (line_onward self.old.line.items
             (field_ends (empty_text self.old.before_null) self.old.before_null))
             self.new.line.items self.new.within self.new.before_null result }
     {
@@ -134,7 +134,7 @@ impl Record {
     #[inline]
     #[tactic(auto, unfolding(crate::specs::Record::step))]
     fn take_first(&mut self, byte: u8) -> Result<(), Unread>
-        ensures { ComesTo (appended self.old.line.items
+        ensures { ComesTo (line_onward self.old.line.items
             (step byte within.Start self.old.before_null))
             self.new.line.items self.new.within self.new.before_null result }
     {
@@ -152,7 +152,7 @@ impl Record {
     #[inline]
     #[tactic(auto, unfolding(crate::specs::Record::step))]
     fn take_plain(&mut self, byte: u8) -> Result<(), Unread>
-        ensures { ComesTo (appended self.old.line.items
+        ensures { ComesTo (line_onward self.old.line.items
             (step byte within.Plain self.old.before_null))
             self.new.line.items self.new.within self.new.before_null result }
     {
@@ -169,7 +169,7 @@ impl Record {
     #[inline]
     #[tactic(auto, unfolding(crate::specs::Record::step))]
     fn take_quoted(&mut self, byte: u8) -> Result<(), Unread>
-        ensures { ComesTo (appended self.old.line.items
+        ensures { ComesTo (line_onward self.old.line.items
             (step byte within.Quoted self.old.before_null))
             self.new.line.items self.new.within self.new.before_null result }
     {
@@ -184,7 +184,7 @@ impl Record {
     #[inline]
     #[tactic(auto, unfolding(crate::specs::Record::step))]
     fn take_behind_quote(&mut self, byte: u8) -> Result<(), Unread>
-        ensures { ComesTo (appended self.old.line.items
+        ensures { ComesTo (line_onward self.old.line.items
             (step byte within.Quote self.old.before_null))
             self.new.line.items self.new.within self.new.before_null result }
     {
@@ -200,7 +200,7 @@ impl Record {
     // Takes the next byte.
     #[inline]
     fn take(&mut self, byte: u8) -> Result<(), Unread>
-        ensures { ComesTo (appended self.old.line.items
+        ensures { ComesTo (line_onward self.old.line.items
             (step byte self.old.within self.old.before_null))
             self.new.line.items self.new.within self.new.before_null result }
     {

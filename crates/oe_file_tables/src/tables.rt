@@ -2,7 +2,7 @@
 ghost use Rattle.std.specs.Prelude.{◌≡◌, IfOk, OnOk};
 ghost use Rattle.std.specs.List.Sorted.{IsPermutation, IsSortedByKey};
 ghost use Rattle.oe_file_tables.specs.Batches.{AreOrdered};
-ghost use Rattle.oe_file_tables.specs.Fault.{each_pushed};
+ghost use Rattle.oe_file_tables.specs.Fault.{with_each_fault};
 ghost use Rattle.oe_file_tables.specs.Twice.{twice_at, twice_in};
 ghost use Rattle.oe_file_tables.specs.Tables.{TableReadAs, TableRead};
 
@@ -33,7 +33,7 @@ fn tell_same<K: TableKey, R: RowLine<K>>(
     faults: &mut Faults,
 )
     ensures { faults.new
-        ≡ each_pushed (twice_at K.cmp R.own_table R.key_of before.now row.now) faults.old }
+        ≡ with_each_fault (twice_at K.cmp R.own_table R.key_of before.now row.now) faults.old }
 {
     if before.key.cmp(&row.key).is_eq() {
         faults.push(TableFault {
@@ -47,7 +47,7 @@ fn tell_same<K: TableKey, R: RowLine<K>>(
 /// Tells of each row whose key the row before it has, where rows stand in the order of their keys.
 fn tell_twice<K: TableKey, R: RowLine<K>>(rows: &[Numbered<K, R>], faults: &mut Faults)
     ensures { faults.new
-        ≡ each_pushed (twice_in K.cmp R.own_table R.key_of rows.now) faults.old }
+        ≡ with_each_fault (twice_in K.cmp R.own_table R.key_of rows.now) faults.old }
 {
     for at in 1..rows.len() {
         tell_same(&rows[at - 1], &rows[at], faults);

@@ -9,7 +9,7 @@ use Rattle.std.proofs.lemmas.List.Elements.{All-push, All-append}
 use Rattle.std.proofs.lemmas.Grind.{flat_map-append}
 use Rattle.std.proofs.lemmas.Bool.{eqb-true, eq-eqb}
 use Rattle.memchr.specs.Find.{IsFirstByte, Nowhere, Passes, is_byte}
-use Rattle.oe_filelines.specs.Lines.{IsInLine, ended, with_last, AreAll, Holds, Standing, Finished}
+use Rattle.oe_filelines.specs.Lines.{IsInLine, with_line_end, with_last, AreAll, Holds, Standing, Finished}
 
 -- ---- what is held
 
@@ -68,7 +68,7 @@ module _ {T : Type 0} (taken : T → List (List ℕ) → T → Type 0) (start : 
   standing_bytes input more held held' over over' now free keeps s = record {
     lines = s.lines;
     line = s.line ++ more;
-    whole = ap (λ z. z ++ more) s.whole ∙ append_assoc (flat_map ended s.lines) s.line more;
+    whole = ap (λ z. z ++ more) s.whole ∙ append_assoc (flat_map with_line_end s.lines) s.line more;
     each = s.each;
     tail = All-append (λ b. b ≢ 10) s.line more s.tail free;
     stands = s.stands;
@@ -87,10 +87,10 @@ module _ {T : Type 0} (taken : T → List (List ℕ) → T → Type 0) (start : 
         lines = s.lines ++ line ∷ [];
         line = [];
         whole = ap (λ z. (z ++ last) ++ 10 ∷ []) s.whole
-            ∙ ap (λ z. z ++ 10 ∷ []) (append_assoc (flat_map ended s.lines) s.line last)
-            ∙ append_assoc (flat_map ended s.lines) line (10 ∷ [])
-            ∙ ap (λ z. flat_map ended s.lines ++ z) (sym (append-nil (line ++ 10 ∷ [])))
-            ∙ sym (flat_map-append ended s.lines (line ∷ [])) ∙ sym (append-nil _);
+            ∙ ap (λ z. z ++ 10 ∷ []) (append_assoc (flat_map with_line_end s.lines) s.line last)
+            ∙ append_assoc (flat_map with_line_end s.lines) line (10 ∷ [])
+            ∙ ap (λ z. flat_map with_line_end s.lines ++ z) (sym (append-nil (line ++ 10 ∷ [])))
+            ∙ sym (flat_map-append with_line_end s.lines (line ∷ [])) ∙ sym (append-nil _);
         each = All-push IsInLine s.lines line s.each (All-append (λ b. b ≢ 10) s.line last s.tail free);
         tail = all_none (λ b. b ≢ 10);
         stands = takes s.line s.holds start s.lines s.stands;

@@ -7,8 +7,8 @@ use Rattle.std.specs.List.{flat_map}
 abbrev pub IsInLine : List ℕ → Type 0
 IsInLine line = All (λ b. b ≢ 10) line
 
-abbrev pub ended : List ℕ → List ℕ
-ended line = line ++ 10 ∷ []
+abbrev pub with_line_end : List ℕ → List ℕ
+with_line_end line = line ++ 10 ∷ []
 
 -- the last line may lack its end
 abbrev pub with_last : List (List ℕ) → List ℕ → List (List ℕ)
@@ -19,7 +19,7 @@ with_last ls (b ∷ s) = ls ++ (b ∷ s) ∷ []
 pub record AreLines (bytes : List ℕ) (lines : List (List ℕ)) : Type 0 where
   pub whole : List (List ℕ)
   pub last : List ℕ
-  pub bytes_are : bytes ≡ flat_map ended whole ++ last
+  pub bytes_are : bytes ≡ flat_map with_line_end whole ++ last
   pub each : All IsInLine whole
   pub tail : IsInLine last
   pub lines_are : lines ≡ with_last whole last
@@ -40,7 +40,7 @@ module _ {T : Type 0} (taken : T → List (List ℕ) → T → Type 0) (start : 
   pub record Standing (input held : List ℕ) (over : Bool) (now : T) : Type 0 where
     pub lines : List (List ℕ)
     pub line : List ℕ
-    pub whole : input ≡ flat_map ended lines ++ line
+    pub whole : input ≡ flat_map with_line_end lines ++ line
     pub each : All IsInLine lines
     pub tail : IsInLine line
     pub stands : taken start lines now

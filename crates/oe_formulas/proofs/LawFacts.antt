@@ -25,7 +25,8 @@ use Rattle.oe_model.specs.Keys.{order_of_line}
 use Rattle.oe_model.specs.Rows.{Rows}
 use Rattle.oe_model.specs.Positions.{Filled}
 use Rattle.oe_model.specs.Effects.{◌>>=◌, in_range}
-use Rattle.oe_model.specs.NewOrder.{supplied, asked, after_lines, filled, all_filled, fill, item_at, stock_of}
+use Rattle.oe_model.specs.NewOrder.{stock_after, quantities_for, after_lines, line_filled_from, all_filled, fill}
+use Rattle.oe_model.specs.NewOrder.{item_at, stock_of}
 use Rattle.oe_model.specs.NewOrder.{stock_out}
 use Rattle.oe_model.specs.Rules.{AreSmall}
 use Rattle.oe_model.proofs.EffectFacts.{there, there_in_range}
@@ -48,17 +49,17 @@ stays_once false q n e small low high = let h = leb-false (n + 10) q e in
     ((let z : 10 ≤ q + 91 - n = omega arith in z), (let z : q + 91 - n ≤ 100 = omega arith in z))
 
 stays : (home : ℕ) (k : StockKey) (ns : List ℕ) (x : Stock) → AreSmall ns → IsInRange 10 100 x.quantity
-    → IsInRange 10 100 (fold (supplied home k) x ns).quantity
+    → IsInRange 10 100 (fold (stock_after home k) x ns).quantity
 stays home k [] x s h = h
 stays home k (n ∷ ns) x s h =
-    let once : (10 ≤ (supplied home k x n).quantity) × ((supplied home k x n).quantity ≤ 100) =
+    let once : (10 ≤ (stock_after home k x n).quantity) × ((stock_after home k x n).quantity ≤ 100) =
     stays_once (nat_le (n + 10) x.quantity) x.quantity n refl s.0 h.0 h.1 in
-    stays home k ns (supplied home k x n) s.1 (once.0, once.1)
+    stays home k ns (stock_after home k x n) s.1 (once.0, once.1)
 
 pub stock_is_refilled : Stock_is_refilled
 stock_is_refilled = record {
   exactly = λ home n k x small. let h = refills (nat_le (n + 10) x.quantity) x.quantity n refl small in (h.0, h.1);
-  stays = λ home ls k x s h. stays home k (asked k ls) x s h;
+  stays = λ home ls k x s h. stays home k (quantities_for k ls) x s h;
 }
 
 -- the lines of an order
@@ -69,7 +70,7 @@ module _ (q : NewOrderRequest) (r : Rows) where
   lines_are [] before (f ∷ fs) e = let no : ⊥ = cc in absurd no
   lines_are (l ∷ ls) before fs e =
       let P : Type 0 = AreLines (length before + 1) (l ∷ ls) fs in
-      there P (filled q r before l) _ fs e (λ f f_is e.
+      there P (line_filled_from q r before l) _ fs e (λ f f_is e.
       there P (item_at l.item r.items) _ f f_is (λ item _ f_is.
       there P (get r.stocks (stock_of l)) _ f f_is (λ stock _ f_is.
       there_in_range P stock_out (after_lines q.district.warehouse (before ++ l ∷ []) (stock_of l) stock) _ f f_is

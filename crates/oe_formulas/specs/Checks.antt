@@ -11,8 +11,8 @@ use Rattle.oe_model.specs.Keys.{customer_in}
 use Rattle.oe_model.specs.Payment.{paid_data}
 
 -- the row, or the first of its columns that leaves its range
-abbrev pub checked : {A : Type 0} → (A → Option Column) → A → Result A Column
-checked out x = elim (out x) [ None ↦ Ok x | Some c ↦ Err c ]
+abbrev pub row_in_ranges : {A : Type 0} → (A → Option Column) → A → Result A Column
+row_in_ranges out x = elim (out x) [ None ↦ Ok x | Some c ↦ Err c ]
 
 -- the row that such columns make, where they stay in their ranges
 abbrev pub row_with : {A B : Type 0} → (A → B) → Result A Column → Result B Column

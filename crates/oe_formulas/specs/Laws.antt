@@ -18,16 +18,16 @@ use Rattle.oe_model.specs.Rows.{Rows}
 use Rattle.oe_model.specs.Maps.{sum_of}
 use Rattle.oe_model.specs.Positions.{Filled}
 use Rattle.oe_model.specs.Rules.{AreSmall}
-use Rattle.oe_model.specs.NewOrder.{supplied, asked, after_lines, all_filled, fill, order_row}
+use Rattle.oe_model.specs.NewOrder.{stock_after, quantities_for, after_lines, all_filled, fill, order_row}
 use Rattle.oe_model.specs.Delivery.{lines_of, worth}
 
 -- the stock rule (clause 2.4.2.2)
 pub record Stock_is_refilled : Type 0 where
   -- 91 come in exactly where less than 10 would be left
   pub exactly : (home n : ℕ) (k : StockKey) (x : Stock)
-      → n ≤ 10 → ((supplied home k x n).quantity + n ≡ x.quantity + 91) ↔ (x.quantity < n + 10)
+      → n ≤ 10 → ((stock_after home k x n).quantity + n ≡ x.quantity + 91) ↔ (x.quantity < n + 10)
   -- a quantity from 10 to 100 stays there, whatever the lines of an order ask for
-  pub stays : (home : ℕ) (ls : List RequestLine) (k : StockKey) (x : Stock) → AreSmall (asked k ls)
+  pub stays : (home : ℕ) (ls : List RequestLine) (k : StockKey) (x : Stock) → AreSmall (quantities_for k ls)
       → IsInRange 10 100 x.quantity → IsInRange 10 100 (after_lines home ls k x).quantity
 
 -- the columns of an ORDER row

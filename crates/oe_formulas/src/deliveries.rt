@@ -1,6 +1,6 @@
 //! The rows after the delivery of an order (clause 2.7.4.2).
 ghost use Rattle.std.specs.Prelude.{◌≡◌, ◌↔◌, ◌+ℤ◌, pos, IsTrue, IsSome, IfSome};
-ghost use Rattle.oe_formulas.specs.Checks.{checked, row_with};
+ghost use Rattle.oe_formulas.specs.Checks.{row_in_ranges, row_with};
 ghost use Rattle.oe_model.specs.Delivery.{delivered_to, delivered_out};
 ghost use Rattle.oe_model.specs.Payment.{is_balance};
 
@@ -23,7 +23,7 @@ fn balance_after(balance: Balance, sum: Cents) -> Option<Balance>
 /// OL_AMOUNTs, C_DELIVERY_CNT by 1. Else the first of these columns that would leave its range.
 pub fn account_after_delivery(row: &Customer, sum: Cents) -> Result<Account, Column>
     ensures { row_with (λ a. record row.now { account = a }) result
-        ≡ checked delivered_out (delivered_to sum row.now) }
+        ≡ row_in_ranges delivered_out (delivered_to sum row.now) }
 {
     let Some(balance) = balance_after(row.account.balance, sum) else {
         return Err(Column::Balance);

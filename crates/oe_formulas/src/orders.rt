@@ -5,8 +5,8 @@ ghost use Rattle.oe_rows.specs.Item.{with_counters};
 ghost use Rattle.oe_requests.specs.declared.replies.Reply.{Reply};
 ghost use Rattle.oe_requests.specs.Reply.{told_reply};
 ghost use Rattle.oe_formulas.specs.Orders.{with_quantity, seen_by};
-ghost use Rattle.oe_formulas.specs.Checks.{checked, row_with, with_next_order};
-ghost use Rattle.oe_model.specs.NewOrder.{supplied, stock_of, stock_out, brand, fill, order_row, with_next, next_out, seen, ordered_reply};
+ghost use Rattle.oe_formulas.specs.Checks.{row_in_ranges, row_with, with_next_order};
+ghost use Rattle.oe_model.specs.NewOrder.{stock_after, stock_of, stock_out, brand, fill, order_row, with_next, next_out, first_reads, ordered_reply};
 
 use oe_requests::{Brand, Column, LineReplies, LineReply, NewOrderRequest, ReplyRef, RequestLine};
 use oe_rows::{
@@ -21,7 +21,7 @@ use oe_values::{
 /// Gives D_NEXT_O_ID after a new order: it rises by 1. Else D_NEXT_O_ID, which would leave its
 /// range.
 pub fn next_order_after(row: &District) -> Result<OrderNumber, Column>
-    ensures { row_with (with_next_order row.now) result ≡ checked next_out (with_next row.now) }
+    ensures { row_with (with_next_order row.now) result ≡ row_in_ranges next_out (with_next row.now) }
 {
     match OrderNumber::new(row.next_order.get() + 1) {
         Some(next_order) => Ok(next_order),
@@ -115,7 +115,7 @@ pub fn counters_after_line(
     quantity: Quantity,
 ) -> Result<StockCounters, Column>
     ensures { row_with (λ n. with_counters n row.now) result
-        ≡ checked stock_out (supplied home key row.now quantity) }
+        ≡ row_in_ranges stock_out (stock_after home key row.now quantity) }
 {
     let Some(ytd) = StockYtd::new(row.ytd.get() + quantity.get()) else {
         return Err(Column::StockYtd);
@@ -208,7 +208,7 @@ pub struct Seen {
 impl Seen {
     /// Gives what it reads in these rows, where the district's is the one before the order.
     pub fn new(warehouse: &Warehouse, district: &District, customer: &Customer) -> Self
-        ensures { seen_by result ≡ seen warehouse.now district.now customer.now }
+        ensures { seen_by result ≡ first_reads warehouse.now district.now customer.now }
     {
         Seen {
             order: district.next_order,

@@ -1,7 +1,7 @@
 //! The rows after a payment (clause 2.5.2.2), and the columns that it sets.
 ghost use Rattle.std.specs.Prelude.{◌≡◌, ℕ};
 ghost use Rattle.oe_rows.specs.Credit.{credit_entry};
-ghost use Rattle.oe_formulas.specs.Checks.{checked, row_with, with_warehouse_ytd, with_district_ytd, paid_with, credit_ids};
+ghost use Rattle.oe_formulas.specs.Checks.{row_in_ranges, row_with, with_warehouse_ytd, with_district_ytd, paid_with, credit_ids};
 ghost use Rattle.oe_model.specs.Payment.{paid_warehouse, paid_warehouse_out, paid_district, paid_district_out, paid_customer, paid_customer_out, history_data, history_row, history_key, paid_reply};
 
 use oe_requests::{Column, PaymentReply, PaymentRequest};
@@ -17,7 +17,7 @@ use oe_values::{
 /// Gives W_YTD after a payment: it rises by the amount. Else W_YTD, which would leave its range.
 pub fn warehouse_ytd_after(row: &Warehouse, request: &PaymentRequest) -> Result<YearToDate, Column>
     ensures { row_with (with_warehouse_ytd row.now) result
-        ≡ checked paid_warehouse_out (paid_warehouse request.now row.now) }
+        ≡ row_in_ranges paid_warehouse_out (paid_warehouse request.now row.now) }
 {
     match YearToDate::new(row.ytd.cents() + u64::from(request.amount.get())) {
         Some(ytd) => Ok(ytd),
@@ -28,7 +28,7 @@ pub fn warehouse_ytd_after(row: &Warehouse, request: &PaymentRequest) -> Result<
 /// Gives D_YTD after a payment: it rises by the amount. Else D_YTD, which would leave its range.
 pub fn district_ytd_after(row: &District, request: &PaymentRequest) -> Result<YearToDate, Column>
     ensures { row_with (with_district_ytd row.now) result
-        ≡ checked paid_district_out (paid_district request.now row.now) }
+        ≡ row_in_ranges paid_district_out (paid_district request.now row.now) }
 {
     match YearToDate::new(row.ytd.cents() + u64::from(request.amount.get())) {
         Some(ytd) => Ok(ytd),
@@ -58,7 +58,7 @@ pub fn bad_credit_entry(number: CustomerNumber, request: &PaymentRequest) -> Tex
 /// amount, C_PAYMENT_CNT rises by 1. Else the first of these columns that would leave its range.
 pub fn account_after(row: &Customer, request: &PaymentRequest) -> Result<Account, Column>
     ensures { (c : ℕ) → row_with (paid_with c request.now row.now) result
-        ≡ checked paid_customer_out (paid_customer c request.now row.now) }
+        ≡ row_in_ranges paid_customer_out (paid_customer c request.now row.now) }
 {
     let amount = request.amount.get();
     let Some(balance) = Balance::new(row.account.balance.cents() - i64::from(amount)) else {

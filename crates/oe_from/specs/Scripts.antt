@@ -1,6 +1,6 @@
 -- What a script comes to that begins opened, on the population of a folder.
 use Rattle.std.specs.Prelude.{◌≡◌, ℕ, Option, Some, Result, Ok, Err}
-use Rattle.oe_theory.specs.Theorems.{opened}
+use Rattle.oe_theory.specs.Theorems.{world_at_opening}
 use Rattle.oe_rows.specs.declared.layouts.Layout.{Layout}
 use Rattle.oe_model.specs.Rows.{Rows}
 use Rattle.oe_model.specs.System.{system}
@@ -18,10 +18,10 @@ use Rattle.oe_from.specs.declared.scripts.OpenedFault.TheVariants as ended
 -- read or written.
 abbrev pub OpenedRan : Rows → ℕ → Layout → Option Source → Option Source → Option Sink → Option Sink
     → Result (Unit {0}) OpenedFault → Type 0
-OpenedRan r extents layout a b c d (Ok x) = ScriptRan (Some (opened system r extents layout)) a b c d (Ok x)
+OpenedRan r extents layout a b c d (Ok x) = ScriptRan (Some (world_at_opening system r extents layout)) a b c d (Ok x)
 OpenedRan r extents layout a b c d (Err ended.NoMemory) = (b ≡ a) × (d ≡ c)
 OpenedRan r extents layout a b c d (Err (ended.Script f)) =
-    ScriptRan (Some (opened system r extents layout)) a b c d (Err f)
+    ScriptRan (Some (world_at_opening system r extents layout)) a b c d (Err f)
 
 -- The files of the folder, of this format, are a population of exactly their rows, and the script ran from it; or they
 -- are none, and nothing of the script was read, and nothing written.

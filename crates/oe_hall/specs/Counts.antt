@@ -18,26 +18,26 @@ pub record Tally : Type 0 where
 abbrev pub none : Counts
 none = record { begun = 0; committed = 0; rolled_back = 0 }
 
-abbrev pub untold : ℕ → Tally
-untold n = record { parts = n; begun = 0; committed = 0; rolled_back = 0 }
+abbrev pub tally_of : ℕ → Tally
+tally_of n = record { parts = n; begun = 0; committed = 0; rolled_back = 0 }
 
-abbrev pub begun_once : Counts → Counts
-begun_once c = record c { begun = c.begun + 1 }
+abbrev pub with_begin : Counts → Counts
+with_begin c = record c { begun = c.begun + 1 }
 
-abbrev pub committed_once : Counts → Counts
-committed_once c = record c { committed = c.committed + 1 }
+abbrev pub with_commit : Counts → Counts
+with_commit c = record c { committed = c.committed + 1 }
 
-abbrev pub rolled_back_once : Counts → Counts
-rolled_back_once c = record c { rolled_back = c.rolled_back + 1 }
+abbrev pub with_rollback : Counts → Counts
+with_rollback c = record c { rolled_back = c.rolled_back + 1 }
 
-abbrev pub told_begun : Tally → Tally
-told_begun c = record c { begun = c.begun + 1 }
+abbrev pub tally_with_begin : Tally → Tally
+tally_with_begin c = record c { begun = c.begun + 1 }
 
-abbrev pub told_committed : Tally → Tally
-told_committed c = record c { committed = c.committed + 1 }
+abbrev pub tally_with_commit : Tally → Tally
+tally_with_commit c = record c { committed = c.committed + 1 }
 
-abbrev pub told_rolled_back : Tally → Tally
-told_rolled_back c = record c { rolled_back = c.rolled_back + 1 }
+abbrev pub tally_with_rollback : Tally → Tally
+tally_with_rollback c = record c { rolled_back = c.rolled_back + 1 }
 
 -- a hand with these parts that was told so
 abbrev pub tally : ℕ → Counted → Tally

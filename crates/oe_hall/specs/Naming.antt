@@ -3,7 +3,7 @@
 use Rattle.std.specs.Prelude.{ℕ, []}
 use Rattle.atomic_table.specs.Seated.{TableId}
 use Rattle.oe_theory.specs.World.{World}
-use Rattle.oe_theory.specs.Theorems.{opened}
+use Rattle.oe_theory.specs.Theorems.{world_at_opening}
 use Rattle.oe_rows.specs.declared.layouts.Layout.{Layout}
 use Rattle.oe_rows.specs.declared.layouts.Layout.TheVariants.{WholeRows}
 use Rattle.oe_model.specs.System.{system}
@@ -28,8 +28,8 @@ pub record TheNames : Type 0 where
   pub opened : World system
 
 -- a shop with these marks that opens in this world
-abbrev pub named : TheMarks → World system → TheNames
-named m w = record {
+abbrev pub names_at_opening : TheMarks → World system → TheNames
+names_at_opening m w = record {
   words = m.words;
   history = m.history;
   begun = m.begun;
@@ -51,5 +51,5 @@ nameless = record {
   committed = 0;
   rolled_back = 0;
   layout = WholeRows;
-  opened = opened system no_rows 0 WholeRows;
+  opened = world_at_opening system no_rows 0 WholeRows;
 }

@@ -25,8 +25,8 @@ use Rattle.oe_requests.specs.declared.answers.Answer.{Answer}
 use Rattle.oe_requests.specs.declared.answers.Answer.TheVariants as answer
 use Rattle.oe_history.specs.Views.{entry}
 use Rattle.oe_history.specs.Calls.{TheHistory, TheCaller, Extends, with_entry}
-use Rattle.oe_hall.specs.Counts.{Counts, Tally, begun_once, committed_once, rolled_back_once, told_begun}
-use Rattle.oe_hall.specs.Counts.{told_committed, told_rolled_back}
+use Rattle.oe_hall.specs.Counts.{Counts, Tally, with_begin, with_commit, with_rollback, tally_with_begin}
+use Rattle.oe_hall.specs.Counts.{tally_with_commit, tally_with_rollback}
 
 -- what a clause sees of a core with the history that has led to it
 pub record TheRecord : Type 0 where
@@ -49,8 +49,8 @@ abbrev pub with_history : TheHistory → TheHall → TheHall
 with_history x h = record h { history = x }
 
 -- the keeper has looked at the desk of a pin, and found that word
-abbrev pub looked_for : ThePin → ℕ → TheHall → TheHall
-looked_for p n h = record h { keeper = saw_pin (p.terminal - 1) n h.keeper }
+abbrev pub after_search : ThePin → ℕ → TheHall → TheHall
+after_search p n h = record h { keeper = saw_pin (p.terminal - 1) n h.keeper }
 
 -- how many transactions are open
 abbrev pub open_count : World system → ℕ
@@ -102,21 +102,21 @@ IsHall h = AreCounts h.counts (world h) × (h.keeper.horizon ≡ horizon system 
 
 -- what one hand is told of a begin
 abbrev pub begin_told : Result (Unit {0}) Refusal → Tally → Tally
-begin_told (Ok u) c = told_begun c
+begin_told (Ok u) c = tally_with_begin c
 begin_told (Err e) c = c
 
 -- what is counted of an advance, and told
-abbrev pub counted : Advanced → Counts → Counts
-counted advanced.More c = c
-counted (advanced.Kept e) c = c
-counted (advanced.Committed m) c = committed_once c
-counted (advanced.RolledBack e) c = rolled_back_once c
+abbrev pub counts_with : Advanced → Counts → Counts
+counts_with advanced.More c = c
+counts_with (advanced.Kept e) c = c
+counts_with (advanced.Committed m) c = with_commit c
+counts_with (advanced.RolledBack e) c = with_rollback c
 
-abbrev pub told_of : Advanced → Tally → Tally
-told_of advanced.More c = c
-told_of (advanced.Kept e) c = c
-told_of (advanced.Committed m) c = told_committed c
-told_of (advanced.RolledBack e) c = told_rolled_back c
+abbrev pub tally_after : Advanced → Tally → Tally
+tally_after advanced.More c = c
+tally_after (advanced.Kept e) c = c
+tally_after (advanced.Committed m) c = tally_with_commit c
+tally_after (advanced.RolledBack e) c = tally_with_rollback c
 
 -- the reply that was kept stays, unless a commit has left its own, and then there is one
 abbrev pub LeavesReply : Advanced → Option Reply → Option Reply → Type 0
@@ -136,7 +136,7 @@ HasSamePins h h' = (h'.words ≡ h.words) × (h'.keeper ≡ h.keeper)
 -- a begin is one step
 abbrev pub BeginTurn : TheHall → ℕ → Request → Result (Unit {0}) Refusal → TheHall → Type 0
 BeginTurn h t q (Ok u) h' = Carries (world h) (step.Begin t q) answer.Begun (world h')
-    × IsWritten t (step.Begin t q) answer.Begun h h' × (h'.counts ≡ begun_once h.counts) × HasSamePins h h'
+    × IsWritten t (step.Begin t q) answer.Begun h h' × (h'.counts ≡ with_begin h.counts) × HasSamePins h h'
 BeginTurn h t q (Err e) h' = Carries (world h) (step.Begin t q) (answer.Refused e) (world h')
     × IsWritten t (step.Begin t q) (answer.Refused e) h h' × (h'.counts ≡ h.counts) × HasSamePins h h'
 
@@ -152,18 +152,18 @@ advance_answer (advanced.RolledBack e) y = answer.Refused e
 abbrev pub AdvanceTurn : TheHall → ℕ → Advanced → Option Reply → TheHall → Type 0
 AdvanceTurn h t r reply h' = Advances (world h) t r (world h') reply
     × IsWritten t (step.Advance t) (advance_answer r reply) h h'
-    × (h'.counts ≡ counted r h.counts) × HasSamePins h h'
+    × (h'.counts ≡ counts_with r h.counts) × HasSamePins h h'
 
 abbrev pub end_answer : Result (Unit {0}) Refusal → Answer
 end_answer (Ok u) = answer.RolledBack
 end_answer (Err e) = answer.Refused e
 
 abbrev pub end_counts : Result (Unit {0}) Refusal → Counts → Counts
-end_counts (Ok u) c = rolled_back_once c
+end_counts (Ok u) c = with_rollback c
 end_counts (Err e) c = c
 
 abbrev pub end_told : Result (Unit {0}) Refusal → Tally → Tally
-end_told (Ok u) c = told_rolled_back c
+end_told (Ok u) c = tally_with_rollback c
 end_told (Err e) c = c
 
 -- an end is one step
@@ -181,8 +181,8 @@ abbrev pub ReadTurn : TheHall → ℕ → ThePin → Query → Result QueryReply
 ReadTurn h t p q r h' =
     Carries (world h) (step.Read p.moment q) (read_answer r) (world h')
     × (h' ≡ with_history (with_entry (entry t (step.Read p.moment q) (read_answer r)) h.history)
-    (looked_for p (sure_word p.moment) h))
-    ⊎ (n : ℕ) × (r ≡ Err (refusal.NotPinned n)) × (n ≢ sure_word p.moment) × (h' ≡ looked_for p n h)
+    (after_search p (sure_word p.moment) h))
+    ⊎ (n : ℕ) × (r ≡ Err (refusal.NotPinned n)) × (n ≢ sure_word p.moment) × (h' ≡ after_search p n h)
 
 -- the keeper claimed a moment and passed each desk's pin: its horizon is the later of the old one and the least of that
 -- moment and those pins

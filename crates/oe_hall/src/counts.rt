@@ -4,7 +4,7 @@
 //! A `Told` has as many parts of each ledger, by its invariant. What all parts were told is the
 //! total in the `Totals`. Nothing can fail, and nothing takes memory or room.
 ghost use Rattle.std.specs.Prelude.{◌≡◌, ◌+◌, ◌<◌, ◌≤◌, ◌^◌};
-ghost use Rattle.oe_hall.specs.Counts.{Counts, Tally, none, untold, tally, with_one_more, AreTotals, begun_once, committed_once, rolled_back_once, told_begun, told_committed, told_rolled_back};
+ghost use Rattle.oe_hall.specs.Counts.{Counts, Tally, none, tally_of, tally, with_one_more, AreTotals, with_begin, with_commit, with_rollback, tally_with_begin, tally_with_commit, tally_with_rollback};
 
 use crate::naming::Naming;
 use std::marker::{Model, PhantomData};
@@ -152,7 +152,7 @@ pub(crate) fn open_ledgers<J: Naming>(unopened: UnopenedLedgers) -> (Totals<J>, 
     requires begun { unopened.begun.name ≡ J.names.begun }
     requires committed { unopened.committed.name ≡ J.names.committed }
     requires rolled_back { unopened.rolled_back.name ≡ J.names.rolled_back }
-    ensures { (result.0 ≡ none) × (result.1 ≡ untold 65) }
+    ensures { (result.0 ≡ none) × (result.1 ≡ tally_of 65) }
 {
     let UnopenedLedgers {
         begun,
@@ -180,7 +180,7 @@ impl<J: Naming> Told<J> {
     /// Gives one part away, with nothing told.
     pub(crate) fn split_one(&mut self) -> Told<J>
         requires { 1 < self.old.parts }
-        ensures one { result ≡ untold 1 }
+        ensures one { result ≡ tally_of 1 }
         ensures rest { self.old ≡ record self.new { parts = self.new.parts + 1 } }
     {
         Told {
@@ -210,8 +210,8 @@ impl<J: Naming> Totals<J> {
     /// Counts a transaction that was begun, and that this hand is told of it.
     pub(crate) fn add_begun(&mut self, told: &mut Told<J>)
         requires { 0 < told.old.parts }
-        ensures total { self.new ≡ begun_once self.old }
-        ensures told { told.new ≡ told_begun told.old }
+        ensures total { self.new ≡ with_begin self.old }
+        ensures told { told.new ≡ tally_with_begin told.old }
     {
         self.begun.add(&mut told.begun, 1);
     }
@@ -219,8 +219,8 @@ impl<J: Naming> Totals<J> {
     /// Counts a commit, and that this hand is told of it.
     pub(crate) fn add_committed(&mut self, told: &mut Told<J>)
         requires { 0 < told.old.parts }
-        ensures total { self.new ≡ committed_once self.old }
-        ensures told { told.new ≡ told_committed told.old }
+        ensures total { self.new ≡ with_commit self.old }
+        ensures told { told.new ≡ tally_with_commit told.old }
     {
         self.committed.add(&mut told.committed, 1);
     }
@@ -228,8 +228,8 @@ impl<J: Naming> Totals<J> {
     /// Counts a transaction that was rolled back, and that this hand is told of it.
     pub(crate) fn add_rolled_back(&mut self, told: &mut Told<J>)
         requires { 0 < told.old.parts }
-        ensures total { self.new ≡ rolled_back_once self.old }
-        ensures told { told.new ≡ told_rolled_back told.old }
+        ensures total { self.new ≡ with_rollback self.old }
+        ensures told { told.new ≡ tally_with_rollback told.old }
     {
         self.rolled_back.add(&mut told.rolled_back, 1);
     }

@@ -16,7 +16,7 @@ ghost use Rattle.oe_moments.specs.Rule.{at_start};
 ghost use Rattle.oe_moments.specs.Pins.{AreOfDesks};
 ghost use Rattle.oe_hall.specs.Counts.{none, AreTotals};
 ghost use Rattle.oe_hall.specs.Histories.{IsHistory, HasHappened, is_open};
-ghost use Rattle.oe_hall.specs.Turns.{IsHall, BeginCall, AdvanceCall, EndCall, ReadCall, PurgeCall, BeginLeaves, AdvanceLeaves, EndLeaves, open_count, BeginTurn, AdvanceTurn, LeavesReply, EndTurn, ReadTurn, PurgeTurn, begin_told, told_of, end_told, IsYoung};
+ghost use Rattle.oe_hall.specs.Turns.{IsHall, BeginCall, AdvanceCall, EndCall, ReadCall, PurgeCall, BeginLeaves, AdvanceLeaves, EndLeaves, open_count, BeginTurn, AdvanceTurn, LeavesReply, EndTurn, ReadTurn, PurgeTurn, begin_told, tally_after, end_told, IsYoung};
 
 use crate::counts::{Told, Totals};
 use crate::naming::Naming;
@@ -143,7 +143,7 @@ impl<J: Naming> Hall<J> {
         ensures hall { IsHall self.old × IsHall self.new }
         ensures turn { AdvanceTurn self.old terminal result reply.new self.new }
         ensures reply { LeavesReply result reply.old reply.new }
-        ensures told { told.new ≡ told_of result told.old }
+        ensures told { told.new ≡ tally_after result told.old }
         ensures called { AdvanceCall caller.old terminal result reply.new caller.new }
         ensures here { (caller.new.table ≡ caller.old.table) × (caller.new.by ≡ caller.old.by) }
         ensures run { HasHappened J.names.opened caller.new.seen }

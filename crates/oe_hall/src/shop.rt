@@ -12,20 +12,20 @@ ghost use Rattle.std.specs.Option.{option_copied};
 ghost use Rattle.atomic_table.specs.Seated.{TableId};
 ghost use Rattle.oe_theory.specs.World.{newest, horizon};
 ghost use Rattle.oe_theory.specs.Next.{IsQuiet};
-ghost use Rattle.oe_theory.specs.Theorems.{opened};
+ghost use Rattle.oe_theory.specs.Theorems.{world_at_opening};
 ghost use Rattle.oe_model.specs.Conditions.{IsPopulation};
 ghost use Rattle.oe_model.specs.System.{system};
 ghost use Rattle.oe_store.specs.Places.{rows};
 ghost use Rattle.oe_core.specs.Core.{world_of};
-ghost use Rattle.oe_moments.specs.Rule.{saw, turn, with_pin, at_start, pin_word};
+ghost use Rattle.oe_moments.specs.Rule.{notes_after_sight, turn, with_pin, at_start, pin_word};
 ghost use Rattle.oe_moments.specs.Pins.{AreOfDesks, with_notes, is_pinned, Holds};
 ghost use Rattle.oe_moments.specs.declared.notes.PinState.TheVariants.{Free};
 ghost use Rattle.oe_history.specs.Views.{calls_by};
 ghost use Rattle.oe_history.specs.Calls.{TheHistory, TheCaller, Knows};
-ghost use Rattle.oe_hall.specs.Naming.{named};
-ghost use Rattle.oe_hall.specs.Counts.{untold, tally, with_one_more, AreTotals};
+ghost use Rattle.oe_hall.specs.Naming.{names_at_opening};
+ghost use Rattle.oe_hall.specs.Counts.{tally_of, tally, with_one_more, AreTotals};
 ghost use Rattle.oe_hall.specs.Histories.{IsHistory, HasHappened, is_open};
-ghost use Rattle.oe_hall.specs.Turns.{TheHall, IsHall, open_count, begin_told, told_of, end_told, LeavesReply, IsYoung, BeginLeaves, AdvanceLeaves, EndLeaves};
+ghost use Rattle.oe_hall.specs.Turns.{TheHall, IsHall, open_count, begin_told, tally_after, end_told, LeavesReply, IsYoung, BeginLeaves, AdvanceLeaves, EndLeaves};
 ghost use Rattle.oe_hall.specs.Seats.{ThePlace, TheRoom, IsHere, AreHere, HasCalled, HaveCalled, silent, fresh_seat, fresh_place, AreFresh, waiting};
 ghost use Rattle.oe_hall.specs.Desks.{TheDesk, TheShop, TheSeats, AreSums, AreOpen, begun_by, committed_by, rolled_back_by, with_told, with_reply, with_seat, with_calls, seat_for, IsOwn, Keeps, KeepsOnErr, begins, advances, ends, IsBalanced, ABegin, AnAdvance, AnEnd, ARead, AreKnown, IsNobodys, HasRoomToCount};
 
@@ -158,7 +158,7 @@ impl<J: Naming> Model for Shop<J> {
         × AreFresh (record { words = s.front; history = J.names.history; name = s.name })
         s.seats.items
         × (s.rest.parts + s.given ≡ 65)
-        × (waiting s.seats.items + s.given ≡ 64) × (s.rest ≡ untold s.rest.parts)
+        × (waiting s.seats.items + s.given ≡ 64) × (s.rest ≡ tally_of s.rest.parts)
         × (s.front ≡ J.names.words) };
 }
 
@@ -345,8 +345,8 @@ impl<J: Naming> Shop<J> {
         seats: Seats,
     ) -> Result<(Shop<J>, Purger<J>), NoMemory>
         requires population { IsPopulation (rows tables) }
-        requires names { named seats.names
-            (opened system (rows tables) extents seats.names.layout) ≡ J.names }
+        requires names { names_at_opening seats.names
+            (world_at_opening system (rows tables) extents seats.names.layout) ≡ J.names }
         ensures new { IfOk result (λ s. (s.0.room.name ≡ seats.shop) × (s.0.given ≡ 0)) }
         ensures free { IfOk result (λ s. (t : ℕ) → seat_for s.0 t ≢ Some None) }
         ensures purger { IfOk result (λ s. s.1 ≡ silent J.names.history 0) }
@@ -361,7 +361,7 @@ impl<J: Naming> Shop<J> {
         requires newest { newest system (world_of core) ≡ 0 }
         requires quiet { open_count (world_of core) ≡ 0 }
         requires horizon { horizon system (world_of core) ≡ 0 }
-        requires names { named seats.names (world_of core) ≡ J.names }
+        requires names { names_at_opening seats.names (world_of core) ≡ J.names }
         requires layout { (world_of core).layout ≡ J.names.layout }
         requires none { IsQuiet system (world_of core) }
         ensures new { (result.0.room.name ≡ seats.shop) × (result.0.given ≡ 0) }
@@ -406,7 +406,7 @@ impl<J: Naming> Shop<J> {
             d ≡ record {
               seat = fresh_seat self.old.room.words self.old.room.name (terminal - 1);
               calls = silent self.old.room.history (suc (terminal - 1));
-              told = untold 1;
+              told = tally_of 1;
               reply = None;
             }) }
         ensures given { OnOk result ((self.new.given ≡ self.old.given + 1)
@@ -683,7 +683,7 @@ impl<J: Naming> Desk<J> {
             (is_open self.old.calls.mine) (is_open self.new.calls.mine) }
         ensures reply { LeavesReply (advances result) self.old.reply self.new.reply }
         ensures told { self.new ≡ with_calls self.new.calls
-            (with_told (told_of (advances result) self.old.told)
+            (with_told (tally_after (advances result) self.old.told)
             (with_reply self.new.reply self.old)) }
     {
         if !began(&self.seat, &work) {
@@ -768,7 +768,7 @@ impl<J: Naming> Desk<J> {
     /// Loads the newest moment, which is at least each that this desk saw or told.
     pub fn newest(&mut self, front: &Front<J>) -> Moment
         ensures desk { self.new ≡
-            with_seat (with_notes (saw result self.old.seat.notes) self.old.seat) self.old }
+            with_seat (with_notes (notes_after_sight result self.old.seat.notes) self.old.seat) self.old }
         ensures rises { self.old.seat.notes.seen ≤ result }
     {
         let moments = &*front.moments;
@@ -778,7 +778,7 @@ impl<J: Naming> Desk<J> {
     /// Tells a moment: from then on this desk sees no earlier one as the newest.
     pub fn told(&mut self, front: &Front<J>, moment: Moment)
         ensures desk { self.new ≡ with_seat (with_notes
-            (saw self.new.seat.notes.seen self.old.seat.notes) self.old.seat) self.old }
+            (notes_after_sight self.new.seat.notes.seen self.old.seat.notes) self.old.seat) self.old }
         ensures rises { self.old.seat.notes.seen ≤ self.new.seat.notes.seen }
         ensures told { moment ≤ self.new.seat.notes.seen }
     {

@@ -1,11 +1,11 @@
 //! A day in a shop, as the head of `oe_hall` tells it: one terminal orders, and another reads beside
 //! a purge what was before.
 ghost use Rattle.std.specs.Prelude.{◌≡◌, ◌≢◌, ℕ, length, Some, None};
-ghost use Rattle.oe_theory.specs.Theorems.{opened};
+ghost use Rattle.oe_theory.specs.Theorems.{world_at_opening};
 ghost use Rattle.oe_model.specs.Conditions.{IsPopulation};
 ghost use Rattle.oe_model.specs.System.{system};
 ghost use Rattle.oe_store.specs.Places.{rows};
-ghost use Rattle.oe_hall.specs.Naming.{named};
+ghost use Rattle.oe_hall.specs.Naming.{names_at_opening};
 
 use crate::asks::{Ask, Look, query, request};
 use crate::scripts::PLACES;
@@ -121,8 +121,8 @@ fn opened_for<J: Naming, H: Wait + Abort>(
     extents: ExtentCount,
 ) -> Seen
     requires population { IsPopulation (rows tables) }
-    requires names { named seats.names
-        (opened system (rows tables) extents seats.names.layout) ≡ J.names }
+    requires names { names_at_opening seats.names
+        (world_at_opening system (rows tables) extents seats.names.layout) ≡ J.names }
 {
     let at = &PLACES[0];
     let (shop, purger) = opened::<J>(rt, alloc, tables, seats, extents);

@@ -1,10 +1,10 @@
 //! Drives in which each terminal carries out one request, or leaves a delivery to the worker.
 ghost use Rattle.std.specs.Prelude.{◌≡◌};
-ghost use Rattle.oe_theory.specs.Theorems.{opened};
+ghost use Rattle.oe_theory.specs.Theorems.{world_at_opening};
 ghost use Rattle.oe_model.specs.Conditions.{IsPopulation};
 ghost use Rattle.oe_model.specs.System.{system};
 ghost use Rattle.oe_store.specs.Places.{rows};
-ghost use Rattle.oe_hall.specs.Naming.{named};
+ghost use Rattle.oe_hall.specs.Naming.{names_at_opening};
 
 use crate::asks::{Ask, request};
 use crate::scripts::PLACES;
@@ -55,8 +55,8 @@ fn driven<J: Naming + Send + Sync, H: Threads + Wait + Abort + Sync, G: Gate + S
     asks: &[Ask],
 ) -> (Counted, Deeds)
     requires population { IsPopulation (rows tables) }
-    requires names { named seats.names
-        (opened system (rows tables) extents seats.names.layout) ≡ J.names }
+    requires names { names_at_opening seats.names
+        (world_at_opening system (rows tables) extents seats.names.layout) ≡ J.names }
 {
     let (shop, purger) = opened::<J>(rt, alloc, tables, seats, extents);
     let plans = plans(rt, alloc, asks);

@@ -1,10 +1,10 @@
 //! Desks that pay and read in threads of their own, beside a third thread that purges.
 ghost use Rattle.std.specs.Prelude.{◌≡◌};
-ghost use Rattle.oe_theory.specs.Theorems.{opened};
+ghost use Rattle.oe_theory.specs.Theorems.{world_at_opening};
 ghost use Rattle.oe_model.specs.Conditions.{IsPopulation};
 ghost use Rattle.oe_model.specs.System.{system};
 ghost use Rattle.oe_store.specs.Places.{rows};
-ghost use Rattle.oe_hall.specs.Naming.{named};
+ghost use Rattle.oe_hall.specs.Naming.{names_at_opening};
 
 use crate::asks::{Ask, Look, Place};
 use crate::desks::{asked, moment};
@@ -160,8 +160,8 @@ fn day<J: Naming + Send + Sync, H: Threads + Wait + Abort + Sync>(
     extents: ExtentCount,
 ) -> (u64, u32)
     requires population { IsPopulation (rows tables) }
-    requires names { named seats.names
-        (opened system (rows tables) extents seats.names.layout) ≡ J.names }
+    requires names { names_at_opening seats.names
+        (world_at_opening system (rows tables) extents seats.names.layout) ≡ J.names }
 {
     let (shop, mut desks, mut purger) = seated::<J>(rt, alloc, tables, seats, extents, [1, 2, 3]);
     let is_run = all_at_once(rt, shop.front(), desks.as_mut_slice(), &mut purger);

@@ -1,8 +1,8 @@
 //! Small shops, and scripts that their desks and a core play alike.
 ghost use Rattle.std.specs.Prelude.{◌≡◌, ◌≢◌, ◌+◌, ℕ, length, [], None, Some};
-ghost use Rattle.oe_theory.specs.Theorems.{opened};
+ghost use Rattle.oe_theory.specs.Theorems.{world_at_opening};
 ghost use Rattle.oe_hall.specs.Desks.{seat_for};
-ghost use Rattle.oe_hall.specs.Naming.{named};
+ghost use Rattle.oe_hall.specs.Naming.{names_at_opening};
 ghost use Rattle.oe_model.specs.Conditions.{IsPopulation};
 ghost use Rattle.oe_model.specs.System.{system};
 ghost use Rattle.oe_store.specs.Places.{rows};
@@ -83,8 +83,8 @@ pub(crate) fn opened<J: Naming>(
     extents: ExtentCount,
 ) -> (Shop<J>, Purger<J>)
     requires population { IsPopulation (rows tables) }
-    requires names { named seats.names
-        (opened system (rows tables) extents seats.names.layout) ≡ J.names }
+    requires names { names_at_opening seats.names
+        (world_at_opening system (rows tables) extents seats.names.layout) ≡ J.names }
     ensures new { result.0.given ≡ 0 }
     ensures free { (t : ℕ) → seat_for result.0 t ≢ Some None }
     ensures silent { result.1.mine ≡ [] }
@@ -124,8 +124,8 @@ pub(crate) fn seated<J: Naming>(
     terminals: [u32; 3],
 ) -> (Shop<J>, Vec<Desk<J>>, Purger<J>)
     requires population { IsPopulation (rows tables) }
-    requires names { named seats.names
-        (opened system (rows tables) extents seats.names.layout) ≡ J.names }
+    requires names { names_at_opening seats.names
+        (world_at_opening system (rows tables) extents seats.names.layout) ≡ J.names }
     ensures { length result.1.items ≡ result.0.given }
 {
     let (mut shop, purger) = opened::<J>(rt, alloc, tables, seats, extents);
@@ -211,8 +211,8 @@ fn played<J: Naming, H: Wait + Abort>(
     hands: &mut Hands,
 )
     requires population { IsPopulation (rows tables) }
-    requires names { named seats.names
-        (opened system (rows tables) extents seats.names.layout) ≡ J.names }
+    requires names { names_at_opening seats.names
+        (world_at_opening system (rows tables) extents seats.names.layout) ≡ J.names }
 {
     let seated = seated::<J>(rt, alloc, tables, seats, extents, show.terminals);
     let (shop, mut desks, mut purger) = seated;
@@ -268,8 +268,8 @@ fn two_shops<J: Naming, H: Wait + Abort>(
     at: &Place,
 )
     requires population { IsPopulation (rows tables) }
-    requires names { named seats.names
-        (opened system (rows tables) extents seats.names.layout) ≡ J.names }
+    requires names { names_at_opening seats.names
+        (world_at_opening system (rows tables) extents seats.names.layout) ≡ J.names }
 {
     let (show, other) = shows;
     let seated = seated::<J>(rt, alloc, tables, seats, extents, show.terminals);

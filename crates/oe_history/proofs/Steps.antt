@@ -8,7 +8,7 @@ use Rattle.atomic_table.proofs.Lists.{at_set, set_again}
 use Rattle.oe_history.specs.declared.views.Entry.{Entry}
 use Rattle.oe_history.specs.declared.views.View.{View}
 use Rattle.oe_history.specs.Views.{calls_by, keeper, both, nobody, keeper_of, caller_of, dealt_on, next_caller}
-use Rattle.oe_history.specs.Views.{IsCaller, IsKeeper, Fits, Kept, IsKept, appended, Appended, Looked}
+use Rattle.oe_history.specs.Views.{IsCaller, IsKeeper, Fits, Kept, IsKept, with_entry, Appended, Looked}
 use Rattle.oe_history.proofs.Lists.{calls-own, calls-other, prefix-longer, append-nothing}
 
 off : false ≡ true → ⊥
@@ -221,7 +221,7 @@ appends key slots id me e on is by s k _ at _ =
     let calls : IsCaller k.log k.dealt v = (k.each id v at).1 is in
     let log : List Entry = k.log ++ e ∷ [] in
     let same : v.log ++ e ∷ [] ≡ log = ap (λ (w : List Entry). w ++ e ∷ []) keeps_it.all in
-    let kept : Kept (set s.views id (appended e v)) = kept_set k.seat log k.dealt id s.views (appended e v)
+    let kept : Kept (set s.views id (with_entry e v)) = kept_set k.seat log k.dealt id s.views (with_entry e v)
     (record {
       each = λ j u ne eu. (
         (λ (c : u.keeps ≡ true). absurd (ne (((k.each j u eu).0 c).here ∙ sym keeps_it.here))),
@@ -242,7 +242,7 @@ appends key slots id me e on is by s k _ at _ =
       }),
     )
     (λ j u ne eu _ cu q. ne (k.apart j id u v eu at cu is (sym q))) in (
-      appended e v,
+      with_entry e v,
       keeps,
       tt,
       kept,

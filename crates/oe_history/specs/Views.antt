@@ -118,8 +118,8 @@ abbrev pub IsKept : ℕ → State ℕ View → Type 0
 IsKept key s = Kept s.views
 
 -- the view after an entry
-abbrev pub appended : Entry → View → View
-appended e v = record {
+abbrev pub with_entry : Entry → View → View
+with_entry e v = record {
   keeps = v.keeps;
   log = v.log ++ e ∷ [];
   dealt = v.dealt;
@@ -131,7 +131,7 @@ appended e v = record {
 
 -- the entry was added; before it, the caller that is there had seen a beginning of the history, with its calls
 abbrev pub Appended : Entry → table.Step ℕ → Me ℕ View → ℕ → Me ℕ View → Type 0
-Appended e s v found w = (w ≡ (appended e v.0, v.1)) × IsCaller v.0.log v.0.dealt v.0
+Appended e s v found w = (w ≡ (with_entry e v.0, v.1)) × IsCaller v.0.log v.0.dealt v.0
 
 -- so it is with the caller that is there, and nobody else has an entry
 abbrev pub Looked : table.Step ℕ → Me ℕ View → ℕ → Me ℕ View → Type 0

@@ -24,15 +24,15 @@ abbrev pub mask : ℕ → List Bool → List ℕ
 mask width bits = number width (binary bits * 2 ^ (8 * width - length bits))
 
 -- the column's image, if the column is there
-abbrev pub kept : {X : Type 0} → (X → List ℕ) → Option X → List ℕ
-kept image None = []
-kept image (Some x) = image x
+abbrev pub image_where_there : {X : Type 0} → (X → List ℕ) → Option X → List ℕ
+image_where_there image None = []
+image_where_there image (Some x) = image x
 
 abbrev pub kept_text : Option (List ℕ) → List ℕ
-kept_text = kept text
+kept_text = image_where_there text
 
 abbrev pub kept_number : ℕ → Option ℕ → List ℕ
-kept_number width = kept (number width)
+kept_number width = image_where_there (number width)
 
 -- which columns are there
 abbrev pub address_bits : AddressBefore → List Bool
@@ -73,7 +73,7 @@ account_bits a =
 
 unfoldable pub account_columns : AccountBefore → List ℕ
 account_columns a =
-    kept_number 8 a.credit_limit ++ (kept_number 2 a.discount ++ (kept balance a.balance
+    kept_number 8 a.credit_limit ++ (kept_number 2 a.discount ++ (image_where_there balance a.balance
     ++ (kept_number 8 a.ytd_payment ++ (kept_number 2 a.payment_count ++ kept_number 2 a.delivery_count))))
 
 abbrev pub customer_bits : CustomerBefore → List Bool
@@ -84,7 +84,8 @@ customer_bits c =
 unfoldable pub customer_columns : CustomerBefore → List ℕ
 customer_columns c =
     name_columns c.name ++ (address_columns c.address ++ (kept_text c.phone
-    ++ (kept_number 8 c.since ++ (kept credit c.credit ++ (account_columns c.account ++ kept_text c.data)))))
+    ++ (kept_number 8 c.since ++ (image_where_there credit c.credit
+    ++ (account_columns c.account ++ kept_text c.data)))))
 
 abbrev pub order_bits : OrderBefore → List Bool
 order_bits o =
@@ -93,7 +94,8 @@ order_bits o =
 unfoldable pub order_columns : OrderBefore → List ℕ
 order_columns o =
     kept_number 2 o.customer ++ (kept_number 8 o.entry
-    ++ (kept (optional (λ c. number 1 c)) o.carrier ++ (kept_number 1 o.line_count ++ kept flag o.all_local)))
+    ++ (image_where_there (optional (λ c. number 1 c)) o.carrier
+    ++ (kept_number 1 o.line_count ++ image_where_there flag o.all_local)))
 
 abbrev pub order_line_bits : OrderLineBefore → List Bool
 order_line_bits l =
@@ -102,7 +104,7 @@ order_line_bits l =
 
 unfoldable pub order_line_columns : OrderLineBefore → List ℕ
 order_line_columns l =
-    kept_number 4 l.item ++ (kept_number 2 l.supply ++ (kept (optional (λ s. number 8 s)) l.delivery
+    kept_number 4 l.item ++ (kept_number 2 l.supply ++ (image_where_there (optional (λ s. number 8 s)) l.delivery
     ++ (kept_number 1 l.quantity ++ (kept_number 8 l.amount ++ kept_text l.dist_info))))
 
 -- S_DIST_01 to S_DIST_10

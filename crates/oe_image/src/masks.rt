@@ -1,7 +1,7 @@
 //! A column that an update may have changed: its bit in a mask, and its image where it is there.
 ghost use Rattle.std.specs.Prelude.{◌≡◌, ◌≤◌, ◌<◌, ◌+◌, ◌^◌, length, cond, is_some};
 ghost use Rattle.oe_extent.specs.Images.{Writes};
-ghost use Rattle.oe_image.specs.Before.{kept, kept_number};
+ghost use Rattle.oe_image.specs.Before.{image_where_there, kept_number};
 
 use crate::columns::Imaged;
 use oe_extent::numbers::write_number;
@@ -23,7 +23,7 @@ pub(crate) fn bit<T>(column: &Option<T>, weight: u32) -> u32
 #[inline(always)]
 pub(crate) fn kept_length<T: Imaged>(column: &Option<T>) -> usize
     requires { T.most ≤ 65535 }
-    ensures value { result ≡ length (kept T.image column.now) }
+    ensures value { result ≡ length (image_where_there T.image column.now) }
     ensures short { result ≤ T.most }
 {
     match column {
@@ -37,8 +37,8 @@ pub(crate) fn kept_length<T: Imaged>(column: &Option<T>) -> usize
 #[inline(always)]
 pub(crate) fn write_kept<T: Imaged>(column: &Option<T>, bytes: &mut [u8], start: usize) -> usize
     requires small { T.most ≤ 65535 }
-    requires room { start + length (kept T.image column.now) ≤ length bytes.old }
-    ensures { Writes bytes.old start (kept T.image column.now) bytes.new result }
+    requires room { start + length (image_where_there T.image column.now) ≤ length bytes.old }
+    ensures { Writes bytes.old start (image_where_there T.image column.now) bytes.new result }
 {
     match column {
         Some(value) => value.write(bytes, start),

@@ -5,7 +5,7 @@ ghost use Rattle.std.specs.Prelude.{◌≡◌, ◌≤◌, ◌+◌, length, optio
 ghost use Rattle.oe_extent.specs.Images.{Writes, number};
 ghost use Rattle.oe_rows.specs.Before.{account_before};
 ghost use Rattle.oe_image.specs.Columns.{optional};
-ghost use Rattle.oe_image.specs.Before.{mask, kept, kept_text, account_columns};
+ghost use Rattle.oe_image.specs.Before.{mask, image_where_there, kept_text, account_columns};
 ghost use Rattle.oe_image.specs.Before.{warehouse_before, district_before, customer_before, order_before};
 ghost use Rattle.oe_image.specs.Before.{order_line_before, stock_before};
 ghost use Rattle.oe_image.specs.Before.{warehouse_bits, district_bits, customer_bits, order_bits};
@@ -283,8 +283,8 @@ fn carrier(carrier: &Option<Option<Carrier>>) -> Option<Option<u8>>
 /// Writes O_CARRIER_ID, if it is there, from offset `start` on, and answers the offset behind it.
 #[inline(always)]
 fn write_carrier(column: &Option<Option<Carrier>>, bytes: &mut [u8], start: usize) -> usize
-    requires { start + length (kept (optional (λ c. number 1 c)) column.now) ≤ length bytes.old }
-    ensures { Writes bytes.old start (kept (optional (λ c. number 1 c)) column.now) bytes.new
+    requires { start + length (image_where_there (optional (λ c. number 1 c)) column.now) ≤ length bytes.old }
+    ensures { Writes bytes.old start (image_where_there (optional (λ c. number 1 c)) column.now) bytes.new
         result }
 {
     write_kept(&carrier(column), bytes, start)

@@ -19,7 +19,7 @@ use Rattle.oe_table.specs.Table.{place, rows_of}
 use Rattle.oe_table.specs.Shelf.{IsAscending}
 use Rattle.oe_table.proofs.TableFacts.{tied}
 use Rattle.oe_model.proofs.EntryFacts.{EachOf, each_of, entries_at}
-use Rattle.oe_index.specs.Listed.{Keys, with_row, found, IsListed, ListsMore, ListsAtMost, Unlists, AreListed}
+use Rattle.oe_index.specs.Listed.{Keys, with_row, rows_at_keys, IsListed, ListsMore, ListsAtMost, Unlists, AreListed}
 
 both : (a b : Bool) → T a → T b → T (a && b)
 both true b p q = q
@@ -83,19 +83,19 @@ module _ {K X : Type 0} {cmp : K → K → Ordering} (total : IsTotalOrder cmp) 
       (subst (λ r. T (is_lt r)) (sym less) tt) h
 
   found-below : (k : K) (es : Keys K) → AllByRecursion (λ y. cmp k y ≡ Less) (keys_of es)
-      → T (below_all cmp k (found cmp m es))
+      → T (below_all cmp k (rows_at_keys cmp m es))
   found-below k [] h = tt
-  found-below k (e ∷ es) h = row-below k e.0 (get m e.0) (found cmp m es) h.0 (found-below k es h.1)
+  found-below k (e ∷ es) h = row-below k e.0 (get m e.0) (rows_at_keys cmp m es) h.0 (found-below k es h.1)
 
   row-sorted : (e : K) (o : Option X) (rest : List (K × X)) → T (below_all cmp e rest) → T (is_sorted cmp rest)
       → T (is_sorted cmp (with_row e o rest))
   row-sorted e None rest below h = h
   row-sorted e (Some x) rest below h = both (below_all cmp e rest) (is_sorted cmp rest) below h
 
-  found-sorted : (es : Keys K) → IsAscending cmp es → T (is_sorted cmp (found cmp m es))
+  found-sorted : (es : Keys K) → IsAscending cmp es → T (is_sorted cmp (rows_at_keys cmp m es))
   unfolding IsStrictlySortedBy
   found-sorted [] up = tt
-  found-sorted (e ∷ es) up = row-sorted e.0 (get m e.0) (found cmp m es) (found-below e.0 es up.0)
+  found-sorted (e ∷ es) up = row-sorted e.0 (get m e.0) (rows_at_keys cmp m es) (found-below e.0 es up.0)
       (found-sorted es up.1)
 
   row-at : (k e : K) (v : Option (Unit {0})) (b : Bool) → eq_by_cmp cmp k e ≡ b → (o : Option X) → get m e ≡ o
@@ -111,16 +111,17 @@ module _ {K X : Type 0} {cmp : K → K → Ordering} (total : IsTotalOrder cmp) 
   row-at k e v false t None g p rest h = h
   row-at k e v false t (Some x) g p rest h = ap (λ c. cond c (Some x) (find cmp k rest)) t ∙ h
 
-  found-at : (k : K) (es : Keys K) → find cmp k (found cmp m es) ≡ cond (is_some (place cmp es k)) (get m k) None
+  found-at : (k : K) (es : Keys K) → find cmp k (rows_at_keys cmp m es) ≡ cond (is_some (place cmp es k)) (get m k) None
   found-at k [] = refl
-  found-at k (e ∷ es) = row-at k e.0 e.1 (eq_by_cmp cmp k e.0) refl (get m e.0) refl (place cmp es k) (found cmp m es)
+  found-at k (e ∷ es) = row-at k e.0 e.1 (eq_by_cmp cmp k e.0) refl (get m e.0) refl (place cmp es k)
+      (rows_at_keys cmp m es)
       (found-at k es)
 
   kept-at : (q : K → Bool) (k : K) → cond (q k) (get m k) None ≡ find cmp k (entries (retain_keys m q))
   kept-at q k = sym (get-retain_keys m q k (λ x e. ap q (sym (exact k x e)))) ∙ get-entries (retain_keys m q) k
 
   found-kept : (es : Keys K) → IsAscending cmp es
-      → found cmp m es ≡ entries (retain_keys m (λ k. is_some (place cmp es k)))
+      → rows_at_keys cmp m es ≡ entries (retain_keys m (λ k. is_some (place cmp es k)))
   found-kept es up =
       same_entries cmp total exact _ _ (found-sorted es up)
       (entries_sorted (retain_keys m (λ k. is_some (place cmp es k))))
@@ -136,7 +137,7 @@ module _ {K X : Type 0} {cmp : K → K → Ordering} (total : IsTotalOrder cmp) 
   -- what a function gives of a list's rows it gives of all, where it gives nothing of those that are not listed
   found-all : {Y : Type 0} (f : K × X → Option Y) (es : Keys K) → IsAscending cmp es
       → ((k : K) (x : X) → get m k ≡ Some x → is_some (place cmp es k) ≡ false → f (k, x) ≡ None)
-      → filter_map f (found cmp m es) ≡ filter_map f (entries m)
+      → filter_map f (rows_at_keys cmp m es) ≡ filter_map f (entries m)
   found-all f es up out =
       ap (filter_map f) (found-kept es up ∙ sym (kept-filter (λ k. is_some (place cmp es k))))
       ∙ kept_only f (λ e. is_some (place cmp es e.0)) (entries m)
@@ -236,7 +237,7 @@ pub all-found : {K X Y : Type 0} {cmp : K → K → Ordering} (total : IsTotalOr
     (number_of : K → X → ℕ) (f : K × X → Option Y) (n : ℕ) (m : FinMap cmp X)
     (ls : List (Keys K)) (es : Keys K) → AreListed cmp number_of true ls m → es ≡ get_or ls n [] → IsAscending cmp es
     → ((k : K) (x : X) → (number_of k x ≡ n → ⊥) → f (k, x) ≡ None)
-    → filter_map f (found cmp m es) ≡ filter_map f (entries m)
+    → filter_map f (rows_at_keys cmp m es) ≡ filter_map f (entries m)
 all-found {K = K} {cmp = cmp} total exact number_of f n m ls es listed is up out =
     found-all total exact m f es up (λ k x at absent.
     out k x (λ same.

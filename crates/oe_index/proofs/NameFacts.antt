@@ -14,9 +14,9 @@ use Rattle.oe_rows.proofs.KeyFacts.{district_total, exact_district, customer_tot
 use Rattle.oe_rows.specs.declared.customers.Customer.{Customer}
 use Rattle.oe_table.specs.Shelf.{IsAscending}
 use Rattle.oe_model.specs.Keys.{district_of_customer}
-use Rattle.oe_model.specs.Choice.{named, namesakes}
+use Rattle.oe_model.specs.Choice.{first_name_of, namesakes}
 use Rattle.oe_model.proofs.MapFacts.{is_same}
-use Rattle.oe_index.specs.Listed.{Keys, found, IsListed, ListsMore, Unlists, AreListed, is_name, HasOtherName}
+use Rattle.oe_index.specs.Listed.{Keys, rows_at_keys, IsListed, ListsMore, Unlists, AreListed, is_name, HasOtherName}
 use Rattle.oe_index.specs.Numbers.{list_number, list_of_name, is_list_of, ForgetsName}
 use Rattle.oe_index.specs.Own.{named_of}
 use Rattle.oe_index.proofs.FoundFacts.{never, both_true, all-found}
@@ -26,16 +26,17 @@ exact_text = slice_cmp-IsAntisymmetric nat_cmp-IsAntisymmetric
 
 named-none : (h : DistrictKey) (last : List ℕ) (k : CustomerKey) (x : Customer) (b : Bool)
     → (eq_by_cmp district_cmp (district_of_customer k) h && eq_by_cmp (slice_cmp nat_cmp) x.name.last last) ≡ b
-    → (b ≡ true → ⊥) → named h last k x ≡ None
+    → (b ≡ true → ⊥) → first_name_of h last k x ≡ None
 named-none h last k x true e out = absurd (out refl)
 named-none h last k x false e out = ap (λ c. cond {A = Option (List ℕ × ℕ)} c (Some (x.name.first, k.customer)) None) e
 
 pub all-met : (h : DistrictKey) (last : List ℕ) (m : FinMap customer_cmp Customer) (ls : List (Keys CustomerKey))
     (es : Keys CustomerKey) → AreListed customer_cmp list_of_name true ls m
     → es ≡ get_or ls (list_number h last) [] → IsAscending customer_cmp es
-    → named_of h last (found customer_cmp m es) ≡ namesakes h last m
+    → named_of h last (rows_at_keys customer_cmp m es) ≡ namesakes h last m
 all-met h last m ls es listed is up =
-    all-found customer_total exact_customer list_of_name (λ e. named h last e.0 e.1) (list_number h last) m ls es listed
+    all-found customer_total exact_customer list_of_name (λ e. first_name_of h last e.0 e.1)
+    (list_number h last) m ls es listed
     is up (λ k x other.
     named-none h last k x _ refl (λ t.
     let parts = both_true (eq_by_cmp district_cmp (district_of_customer k) h)
@@ -63,14 +64,14 @@ pub listed-under : (ls : List (Keys CustomerKey)) (m : FinMap customer_cmp Custo
     ⊎ IsListed customer_cmp ls (list_number (district_of_customer key) last) key)
     → AreListed customer_cmp list_of_name true ls m
     → IsListed customer_cmp ls (list_number (district_of_customer key) last) key
-listed-under ls m key last (inl named) h = listed-name ls m key last true (sym named) h refl
+listed-under ls m key last (inl first_name_of) h = listed-name ls m key last true (sym first_name_of) h refl
 listed-under ls m key last (inr there) h = there
 
 -- of one that has another, the list under it tells
-pub told-under : (ls : List (Keys CustomerKey)) (key : CustomerKey) (named there : Bool) (n m : ℕ) → n ≡ m
-    → false ≡ named → ((there ≡ true) ↔ IsListed customer_cmp ls n key)
-    → (there ≡ true) ↔ ((named ≡ true) ⊎ IsListed customer_cmp ls m key)
-told-under ls key named there n m same other told = (
+pub told-under : (ls : List (Keys CustomerKey)) (key : CustomerKey) (first_name_of there : Bool) (n m : ℕ) → n ≡ m
+    → false ≡ first_name_of → ((there ≡ true) ↔ IsListed customer_cmp ls n key)
+    → (there ≡ true) ↔ ((first_name_of ≡ true) ⊎ IsListed customer_cmp ls m key)
+told-under ls key first_name_of there n m same other told = (
   (λ t. inr (subst (λ i. IsListed customer_cmp ls i key) same (told.0 t))),
   λ h. elim h [
     | inl is ↦ never (sym is ∙ sym other)

@@ -18,7 +18,7 @@ use Rattle.oe_table.proofs.TableFacts.{row_in, get-rows_of}
 use Rattle.oe_model.specs.Keys.{customer_of_order, customer_in, district_of_order}
 use Rattle.oe_model.specs.Queries.{orders_of}
 use Rattle.oe_model.proofs.MapFacts.{is_same}
-use Rattle.oe_index.specs.Listed.{Keys, found, IsListed, AreListed}
+use Rattle.oe_index.specs.Listed.{Keys, rows_at_keys, IsListed, AreListed}
 use Rattle.oe_index.specs.Numbers.{owner_number, list_of_owner}
 use Rattle.oe_index.specs.Own.{own_of, is_owner}
 use Rattle.oe_index.proofs.FoundFacts.{never, all-found}
@@ -45,9 +45,9 @@ module _ (c : CustomerKey) where
 
   pub all-own : (m : FinMap order_cmp Order) (ls : List (Keys OrderKey)) (es : Keys OrderKey)
       → AreListed order_cmp list_of_owner true ls m → es ≡ get_or ls (owner_number c) []
-      → IsAscending order_cmp es → own_of c (found order_cmp m es) ≡ orders_of c m
+      → IsAscending order_cmp es → own_of c (rows_at_keys order_cmp m es) ≡ orders_of c m
   all-own m ls es listed is up =
-      by-map is_own (found order_cmp m es)
+      by-map is_own (rows_at_keys order_cmp m es)
       ∙ all-found order_total exact_order list_of_owner (λ e. cond (is_own e) (Some e) None) (owner_number c) m ls es
       listed is up (λ k x other.
       not-own (k, x) (is_own (k, x)) refl

@@ -68,9 +68,9 @@ module _ {K : Type 0} (cmp : K → K → Ordering) where
 
   module _ {X : Type 0} where
     -- the rows at the keys of a list
-    abbrev pub found : FinMap cmp X → Keys K → List (K × X)
-    found m [] = []
-    found m (e ∷ es) = with_row e.0 (get m e.0) (found m es)
+    abbrev pub rows_at_keys : FinMap cmp X → Keys K → List (K × X)
+    rows_at_keys m [] = []
+    rows_at_keys m (e ∷ es) = with_row e.0 (get m e.0) (rows_at_keys m es)
 
     -- each row's key is in the list of its number, unless the lists were given up
     abbrev pub AreListed : (K → X → ℕ) → Bool → List (Keys K) → FinMap cmp X → Type 0

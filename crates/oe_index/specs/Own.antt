@@ -8,12 +8,12 @@ use Rattle.oe_rows.specs.declared.keys.OrderKey.{OrderKey}
 use Rattle.oe_rows.specs.declared.keys.DistrictKey.{DistrictKey}
 use Rattle.oe_rows.specs.declared.customers.Customer.{Customer}
 use Rattle.oe_rows.specs.declared.orders.Order.{Order}
-use Rattle.oe_model.specs.Choice.{named}
+use Rattle.oe_model.specs.Choice.{first_name_of}
 use Rattle.oe_model.specs.Keys.{customer_of_order}
 
 -- C_FIRST and C_ID of the customers of the district with this C_LAST
 abbrev pub named_of : DistrictKey → List ℕ → List (CustomerKey × Customer) → List (List ℕ × ℕ)
-named_of h last es = filter_map (λ e. named h last e.0 e.1) es
+named_of h last es = filter_map (λ e. first_name_of h last e.0 e.1) es
 
 -- the orders that are the customer's
 abbrev pub own_of : CustomerKey → List (OrderKey × Order) → List (OrderKey × Order)

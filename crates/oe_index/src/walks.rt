@@ -5,7 +5,7 @@
 ghost use Rattle.std.specs.Prelude.{List, cond};
 ghost use Rattle.std.specs.Iterator.{YieldsFirstBy, item_count};
 ghost use Rattle.oe_table.specs.Table.{rows_of};
-ghost use Rattle.oe_index.specs.Listed.{found};
+ghost use Rattle.oe_index.specs.Listed.{rows_at_keys};
 
 use crate::key_lists::KeyWalk;
 use oe_table::shelf_walks::Rows;
@@ -27,7 +27,7 @@ impl<'a, K: ShelvedKey, R> Model for Found<'a, K, R> {
     ghost Value = { List (K × R) };
 
     ghost view = { λ w. cond w.is_listed
-        (found K.cmp (rows_of K.cmp w.rows.now) w.listed) w.others };
+        (rows_at_keys K.cmp (rows_of K.cmp w.rows.now) w.listed) w.others };
 }
 
 impl<'a, K: ShelvedKey, R> Iterator for Found<'a, K, R> {

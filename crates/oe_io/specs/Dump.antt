@@ -16,12 +16,12 @@ abbrev pub row_lines : {K X : Type 0} → (K → X → List (List ℕ)) → List
 row_lines columns es = flat_map (λ e. line_of (columns e.0 e.1)) es
 
 -- the count, as 64 bits hold it: no memory has room for more rows
-abbrev pub shown : ℕ → ℕ
-shown n = min n (2 ^ 64 - 1)
+abbrev pub in_64_bits : ℕ → ℕ
+in_64_bits n = min n (2 ^ 64 - 1)
 
 -- the rows, and their count
 abbrev pub rows_text : {K X : Type 0} {cmp : K → K → Ordering} → (K → X → List (List ℕ)) → FinMap cmp X → List ℕ
-rows_text columns m = row_lines columns (entries m) ++ count_line (shown (length (entries m)))
+rows_text columns m = row_lines columns (entries m) ++ count_line (in_64_bits (length (entries m)))
 
 -- the rows of one table, which stand as they are now, open work included
 abbrev pub dump_text : Table → Rows → List ℕ

@@ -4,7 +4,7 @@ ghost use Rattle.arrayvec.specs.ArrayVec.{array_vec_len};
 ghost use Rattle.oe_store.specs.Places.{rows};
 ghost use Rattle.oe_texts.specs.Column.{line_of};
 ghost use Rattle.oe_texts.specs.Dump.{count_line};
-ghost use Rattle.oe_io.specs.Dump.{row_lines, shown, dump_text};
+ghost use Rattle.oe_io.specs.Dump.{row_lines, in_64_bits, dump_text};
 ghost use Rattle.oe_io.specs.Ports.{Streams};
 
 use crate::output::make_room;
@@ -128,7 +128,7 @@ fn lines<K, R: DumpedRow<K>, W: Outlet>(
 ) -> Result<u64, Failed>
     ensures stream { Streams (W.sink to.old) out.old.items (W.sink to.new) out.new.items
         (row_lines R.columns walk.entry) result }
-    ensures count { IfOk result (λ n. n ≡ shown (length walk.entry)) }
+    ensures count { IfOk result (λ n. n ≡ in_64_bits (length walk.entry)) }
 {
     let mut count = 0u64;
     for (key, row) in walk {
@@ -160,7 +160,7 @@ fn dump_rows<K, R: DumpedRow<K>, W: Outlet>(
     to: &mut W,
 ) -> Result<(), Failed>
     ensures { Streams (W.sink to.old) out.old.items (W.sink to.new) out.new.items
-        (row_lines R.columns walk.entry ++ count_line (shown (length walk.entry))) result }
+        (row_lines R.columns walk.entry ++ count_line (in_64_bits (length walk.entry))) result }
 {
     match lines(walk, out, to) {
         Ok(count) => total(count, out, to),

@@ -16,7 +16,7 @@ use Rattle.oe_store.specs.Places.{rows, HasPlace}
 use Rattle.oe_store.specs.Places as tables
 use Rattle.oe_change.specs.PutBack.{CanPutBack, Stands}
 use Rattle.oe_log.specs.Records.{Logged, newest_of}
-use Rattle.oe_log.specs.Log.{SegmentLog, Open, active_at, records_at, with_records, popped}
+use Rattle.oe_log.specs.Log.{SegmentLog, Open, active_at, records_at, with_records, without_newest}
 use Rattle.oe_log.specs.Stands.{model_records, undo_of, seals_of, counts_of}
 use Rattle.oe_journal.specs.GoesBack.{CanUnwind, HavePlaces}
 use Rattle.oe_journal.specs.Named.{GivesUpUnnamed, PutsBack}
@@ -87,22 +87,24 @@ pub goes : (ts ts' ts'' : tables.Places) (v v' : SegmentLog) (t count : ℕ) (o 
     (b : OwnRecord) → length v'.terminals ≡ terminal_limit
     → active_at v t ≡ Some o → newest_before rs ≡ Some (record_of_own b)
     → rows ts'' ≡ put_back (record_of_own b) (rows ts')
-    → PutsBack (record_of_own b) (record_key (record_of_own b)) ts' ts'' (popped v' t)
-    → GoesBack ts ts' v v' t count rs (suc left) → GoesBack ts ts'' v (popped v' t) t count (drop 1 rs) left
+    → PutsBack (record_of_own b) (record_key (record_of_own b)) ts' ts'' (without_newest v' t)
+    → GoesBack ts ts' v v' t count rs (suc left) → GoesBack ts ts'' v (without_newest v' t) t count (drop 1 rs) left
 goes ts ts' ts'' v v' t count o [] left b size is e put back h = cc
 goes ts ts' ts'' v v' t count o (r ∷ rs) left b size is e put back h =
     let same : r.before ≡ record_of_own b = some_inj _ _ e in
     let now : rows ts'' ≡ put_back r.before (rows ts') = put ∙ ap (λ z. put_back z (rows ts')) (sym same) in
-    let gone : popped v' t ≡ with_records v t rs = ap (λ z. popped z t) h.log ∙ one_popped v t o (r ∷ rs) is in
+    let gone : without_newest v' t ≡ with_records v t rs = ap (λ z. without_newest z t) h.log
+    ∙ one_popped v t o (r ∷ rs) is in
     let active : (undo_of v').active t ≡ record_of_own b ∷ model_records rs =
     ap (λ z. (undo_of z).active t) h.log ∙ ap model_records (records_are v t o (r ∷ rs) is)
     ∙ ap (λ z. z ∷ model_records rs) same in
-    let after : undo_of (popped v' t) ≡ put_records system t (model_records rs) (undo_of v') =
+    let after : undo_of (without_newest v' t) ≡ put_records system t (model_records rs) (undo_of v') =
     ap undo_of gone ∙ (records_stand v t o rs is).undo
     ∙ sym (put_twice t (model_records rs) (model_records (r ∷ rs)) (undo_of v))
     ∙ ap (put_records system t (model_records rs)) (sym (ap undo_of h.log ∙ (records_stand v t o (r ∷ rs) is).undo)) in
-    let sized : length (popped v' t).terminals ≡ terminal_limit = records_size v' t (drop 1 (records_at v' t)) ∙ size in
-    let step = one_given_up b ts' ts'' v' (popped v' t) t (model_records rs) sized active after
+    let sized : length (without_newest v' t).terminals ≡ terminal_limit = records_size v' t (drop 1 (records_at v' t))
+    ∙ size in
+    let step = one_given_up b ts' ts'' v' (without_newest v' t) t (model_records rs) sized active after
     (subst (λ z. Stands z (rows ts')) same h.can.0) put back in
     record {
       log = gone;
@@ -116,7 +118,7 @@ goes ts ts' ts'' v v' t count o (r ∷ rs) left b size is e put back h =
           (sym (ap (λ (z : SegmentLog). (undo_of z).active t) gone ∙ ap model_records (records_are v t o rs is)))
           has)))
           h.own.1;
-      given_up = then_given_up ts ts' ts'' (undo_of v) (undo_of v') (undo_of (popped v' t)) h.given_up step;
+      given_up = then_given_up ts ts' ts'' (undo_of v) (undo_of v') (undo_of (without_newest v' t)) h.given_up step;
     }
 
 -- they are what the terminal then has
@@ -124,7 +126,7 @@ pub goes_on : (ts ts' ts'' : tables.Places) (v v' w : SegmentLog) (t count left 
     → length v'.terminals ≡ terminal_limit
     → is_some (active_at v t) ≡ true → newest_before (records_at v' t) ≡ Some (record_of_own b)
     → rows ts'' ≡ put_back (record_of_own b) (rows ts')
-    → PutsBack (record_of_own b) (record_key (record_of_own b)) ts' ts'' w → w ≡ popped v' t
+    → PutsBack (record_of_own b) (record_key (record_of_own b)) ts' ts'' w → w ≡ without_newest v' t
     → GoesBack ts ts' v v' t count (records_at v' t) (suc left) → GoesBack ts ts'' v w t count (records_at w t) left
 goes_on ts ts' ts'' v v' w t count left b size open_is e put back pop h =
     let o = some_of (active_at v t) open_is in

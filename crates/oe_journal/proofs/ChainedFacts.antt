@@ -14,14 +14,14 @@ use Rattle.oe_log.specs.Records.{Logged}
 use Rattle.oe_log.specs.Log.{SegmentLog, idle, records_in, records_at, total_count}
 use Rattle.oe_undo.specs.declared.holders.Link.{Link}
 use Rattle.oe_undo.specs.declared.holders.Holder.TheVariants.{Open}
-use Rattle.oe_undo.specs.Held.{Held, held_by, held_open, held_commits, held, of_key, horizon}
+use Rattle.oe_undo.specs.Held.{Held, held_by, held_open, held_commits, all_held, of_key, horizon}
 use Rattle.oe_undo.specs.Chains.{IsChain, AreChained}
 use Rattle.oe_undo.specs.Laws.{IsWhole}
 use Rattle.oe_undo.proofs.ChainWalkFacts.{of_key-append}
 use Rattle.oe_undo.specs.declared.links.OwnedLink.{OwnedLink}
 use Rattle.oe_undo.specs.Links.{place_of, link_in, HasPlace, SamePlaces}
-use Rattle.oe_undo.specs.Owners.{followed}
-use Rattle.oe_undo.specs.Undo.{UndoState, seen, GivesBack}
+use Rattle.oe_undo.specs.Owners.{link_by_now}
+use Rattle.oe_undo.specs.Undo.{UndoState, link_seen, GivesBack}
 use Rattle.oe_undo.proofs.LeadFacts.{set_leads}
 use Rattle.oe_journal.proofs.LinkedFacts.{no_links_set}
 
@@ -54,7 +54,8 @@ module _ (k : Key) where
   some_link h l [] some c = absurd (some refl)
   some_link h l (r ∷ rs) some c = ap is_some c.0.leads
 
-has_link : (u : SegmentLog) (p : Option (Option OwnedLink)) → is_some (followed u (link_in p)) ≡ true → is_some p ≡ true
+has_link : (u : SegmentLog) (p : Option (Option OwnedLink)) → is_some (link_by_now u (link_in p)) ≡ true → is_some p
+    ≡ true
 has_link u None h = h
 has_link u (Some l) h = refl
 
@@ -67,14 +68,15 @@ known_by_record u t r rs e =
           (sym (get_or_past u.terminals t idle past)) ∙ e in cc
     ]
 
-pub linked_place : (s : UndoState) (t : ℕ) (r : Logged) (rs : List Logged) → IsWhole s.log → AreChained s.log (seen s)
+pub linked_place : (s : UndoState) (t : ℕ) (r : Logged) (rs : List Logged) → IsWhole s.log
+    → AreChained s.log (link_seen s)
     → records_at s.log t ≡ r ∷ rs
     → HasPlace s.links (record_key r.before)
 linked_place s t r rs whole chained e =
     let u : SegmentLog = s.log in
     let k : Key = record_key r.before in
     let less : t < terminal_limit = subst (λ n. t < n) whole.terminals (known_by_record u t r rs e) in
-    has_link u (place_of s.links k) (some_link k (horizon u) (seen s k) (of_key k (held u)) (λ none.
+    has_link u (place_of s.links k) (some_link k (horizon u) (link_seen s k) (of_key k (all_held u)) (λ none.
     let open_none = none_first _ _
     (sym (of_key-append k (held_open (records_at u) (all_below system terminal_limit))
     (held_commits (total_count u) u.committed)) ∙ none) in
@@ -87,7 +89,7 @@ linked_place s t r rs whole chained e =
     cc) (chained k))
 
 -- so the newest record that is taken off leaves the places
-pub same_given_back : (old new : UndoState) (t : ℕ) → IsWhole old.log → AreChained old.log (seen old)
+pub same_given_back : (old new : UndoState) (t : ℕ) → IsWhole old.log → AreChained old.log (link_seen old)
     → GivesBack old new t (records_at old.log t)
     → SamePlaces old.links new.links
 same_given_back old new t whole chained back = go (records_at old.log t) refl back

@@ -22,7 +22,7 @@ use Rattle.oe_table.specs.Table.{place}
 use Rattle.oe_rows.specs.declared.layouts.Layout.{Layout}
 use Rattle.oe_theory.specs.Next.{record_on}
 use Rattle.oe_model.specs.Rows.{Rows, is_key, row_at}
-use Rattle.oe_model.specs.Changes.{Change, Record, key_of, row_of, record_key, changed}
+use Rattle.oe_model.specs.Changes.{Change, Record, key_of, row_of, record_key, rows_after}
 use Rattle.oe_model.specs.System.{system}
 use Rattle.oe_model.proofs.RowFacts.{key_true, at_changed, in_layout_key}
 use Rattle.oe_model.proofs.PresenceFacts.{some-map}
@@ -126,7 +126,7 @@ others_unnamed d t b k none = (λ same. none.0 t (here (inl same)), (at, none.1)
     ]
 
 pub made_needed : (l : Layout) (ts ts' : Places) (d d' : Undo system) (t : ℕ) (c : Change) → AddsPlace ts ts' (key_of c)
-    → rows ts' ≡ changed c (rows ts)
+    → rows ts' ≡ rows_after c (rows ts)
     → d' ≡ put_records system t (record_on system l c (rows ts) ∷ d.active t) d → AreNeeded ts d → AreNeeded ts' d'
 made_needed l ts ts' d d' t c adds is undo needed k p none =
     let b : Record = record_on system l c (rows ts) in
@@ -147,7 +147,7 @@ made_needed l ts ts' d d' t c adds is undo needed k p none =
 -- that is taken back
 pub exactly_back : (l : Layout) (ts ts' ts'' : Places) (u u' u'' : SegmentLog) (t : ℕ) (c : Change)
     → AddsPlace ts ts' (key_of c)
-    → rows ts' ≡ changed c (rows ts)
+    → rows ts' ≡ rows_after c (rows ts)
     → undo_of u' ≡ put_records system t (record_on system l c (rows ts) ∷ (undo_of u).active t) (undo_of u)
     → AreExact ts (undo_of u)
     → GivesUpUnnamed ts' ts'' (undo_of u') (undo_of u'') → rows ts'' ≡ rows ts → undo_of u'' ≡ undo_of u

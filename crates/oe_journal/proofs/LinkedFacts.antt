@@ -19,8 +19,8 @@ use Rattle.oe_change.specs.PutBack.{LeavesPlaces}
 use Rattle.oe_undo.specs.Shelf.{content_in}
 use Rattle.oe_undo.specs.Links.{LinkMaps, place_of, links_of, HasPlace, SetsLink, SamePlaces, LeadsTo, GivesUpLink}
 use Rattle.oe_undo.proofs.LeadFacts.{set_leads}
-use Rattle.oe_undo.specs.Owners.{followed}
-use Rattle.oe_undo.specs.Undo.{UndoState, seen}
+use Rattle.oe_undo.specs.Owners.{link_by_now}
+use Rattle.oe_undo.specs.Undo.{UndoState, link_seen}
 use Rattle.oe_journal.specs.Linked.{MayChange, AreLinked, SameLinks, StayLinked, GivesUpOwn}
 
 -- ---- a key's link is set
@@ -28,15 +28,15 @@ use Rattle.oe_journal.specs.Linked.{MayChange, AreLinked, SameLinks, StayLinked,
 -- it is set, and then it leads again where it led, in the same log
 pub given_back : (old mid new : UndoState) (own : Key) (l p : Option OwnedLink) → LeadsTo old.links mid.links own l
     → SetsLink mid.links new.links own p
-    → new.log ≡ old.log → followed new.log p ≡ seen old own → SameLinks old new
+    → new.log ≡ old.log → link_by_now new.log p ≡ link_seen old own → SameLinks old new
 given_back old mid new own l p leads back log was k =
-    ap (followed new.log) ((set_leads mid.links new.links own p back).links k) ∙ go (is_key own k) refl
+    ap (link_by_now new.log) ((set_leads mid.links new.links own p back).links k) ∙ go (is_key own k) refl
   where
-    go : (b : Bool) → is_key own k ≡ b → followed new.log (cond b p (links_of mid.links k)) ≡ seen old k
-    go true e = was ∙ ap (seen old) (key_true own k e)
+    go : (b : Bool) → is_key own k ≡ b → link_by_now new.log (cond b p (links_of mid.links k)) ≡ link_seen old k
+    go true e = was ∙ ap (link_seen old) (key_true own k e)
     go false e =
-        ap (followed new.log) (leads.links k ∙ ap (λ b. cond b l (links_of old.links k)) e)
-        ∙ ap (λ v. followed v (links_of old.links k)) log
+        ap (link_by_now new.log) (leads.links k ∙ ap (λ b. cond b l (links_of old.links k)) e)
+        ∙ ap (λ v. link_by_now v (links_of old.links k)) log
 
 -- ---- keys of the tables have places for their links
 
@@ -146,7 +146,8 @@ left_leads (Some (Some x)) = refl
 -- an empty place that is given up leads nowhere still
 pub given_up_leads : (b : Record) (old new : UndoState) → new.log ≡ old.log → GivesUpOwn b old.links new.links
     → SameLinks old new
-given_up_leads b old new log g k = ap (followed new.log) (same b g) ∙ ap (λ v. followed v (links_of old.links k)) log
+given_up_leads b old new log g k = ap (link_by_now new.log) (same b g)
+    ∙ ap (λ v. link_by_now v (links_of old.links k)) log
   where
     of : (own : Key) (q : Bool) → content_in (cond q (left_of (place_of old.links k)) (place_of old.links k)) ≡ links_of
         old.links k

@@ -11,14 +11,14 @@ use Rattle.oe_model.specs.System.{system}
 use Rattle.oe_model.proofs.RowFacts.{in_layout_key}
 use Rattle.oe_store.specs.Places.{Places, rows}
 use Rattle.oe_change.specs.Applies.{Applies}
-use Rattle.oe_log.specs.Records.{Logged, logged}
-use Rattle.oe_log.specs.Log.{SegmentLog, Open as OpenSegment, active_at, records_at, popped}
+use Rattle.oe_log.specs.Records.{Logged, log_entry}
+use Rattle.oe_log.specs.Log.{SegmentLog, Open as OpenSegment, active_at, records_at, without_newest}
 use Rattle.oe_log.specs.Stands.{model_records}
 use Rattle.oe_log.specs.Laws.{StandsWith}
 use Rattle.oe_undo.specs.Held.{horizon}
 use Rattle.oe_undo.specs.Laws.{IsWhole}
 use Rattle.oe_undo.specs.Links.{HasPlace, links_of, Comes, GivesAtMost}
-use Rattle.oe_undo.specs.Undo.{UndoState, seen, unended, IsGivenBack, GivesBack}
+use Rattle.oe_undo.specs.Undo.{UndoState, link_seen, link_above, IsGivenBack, GivesBack}
 use Rattle.oe_journal.specs.Linked.{AreLinked, SameLinks}
 use Rattle.oe_journal.specs.Recorded.{HasMore, IsRecorded}
 use Rattle.oe_log.proofs.StateFacts.{some_of, records_open, records_size, records_are, records_stand, pushed_popped}
@@ -43,7 +43,7 @@ own_key a b e = ap record_key (sym (some_inj _ _ e))
 
 module _ (b : Record) (u u' : UndoState) (t : ℕ) (h : HasMore b u u' t) where
   abbrev pushed_record : Logged
-  pushed_record = logged h.pushed.address h.previous b
+  pushed_record = log_entry h.pushed.address h.previous b
 
   is_open_still : (x : ℕ) → is_some (active_at u'.log x) ≡ is_some (active_at u.log x)
   is_open_still x = ap (λ z. is_some (active_at z x)) h.pushed.log ∙ records_open u.log t
@@ -94,11 +94,11 @@ module _ (o : Option Record) (u u' : UndoState) (t : ℕ) (is : is_some (active_
       is_open_still b.0 u u' t b.2 t ∙ is
 
   -- the log is as it was
-  pub unpushed : (v : SegmentLog) → v ≡ popped u'.log t → v ≡ u.log
+  pub unpushed : (v : SegmentLog) → v ≡ without_newest u'.log t → v ≡ u.log
   unpushed v pop =
       let b = there_is (λ b. HasMore b u u' t) o push in
       let a = some_of (active_at u.log t) is in
-      pop ∙ ap (λ z. popped z t) b.2.pushed.log ∙ pushed_popped u.log t a.0 (pushed_record b.0 u u' t b.2) a.1
+      pop ∙ ap (λ z. without_newest z t) b.2.pushed.log ∙ pushed_popped u.log t a.0 (pushed_record b.0 u u' t b.2) a.1
 
   -- the record's key is given its previous link back
   key_given_back : (x : UndoState) → GivesBack u' x t (records_at u'.log t)
@@ -112,13 +112,14 @@ module _ (o : Option Record) (u u' : UndoState) (t : ℕ) (is : is_some (active_
       (b.0, b.2, subst (GivesBack u' x t) newest back)
 
   -- which leads where it led, since its commit is kept
-  pub links_given_back : (x : UndoState) → IsWhole x.log → x.log ≡ popped u'.log t
+  pub links_given_back : (x : UndoState) → IsWhole x.log → x.log ≡ without_newest u'.log t
       → GivesBack u' x t (records_at u'.log t) → SameLinks u x
   links_given_back x whole pop back =
       let log : x.log ≡ u.log = unpushed x.log pop in
       let b = key_given_back x back in
       given_back u u' x (record_key b.0) _ b.2.link b.1.pushed.link b.2.set log
-      (b.2.leads ∙ ap (unended (horizon x.log)) b.1.leads ∙ ap (λ v. unended (horizon v) (seen u (record_key b.0))) log
+      (b.2.leads ∙ ap (link_above (horizon x.log)) b.1.leads
+      ∙ ap (λ v. link_above (horizon v) (link_seen u (record_key b.0))) log
       ∙ followed_unended u.log (links_of u.links (record_key b.0)) (subst IsWhole log whole).commits)
 
   -- no key has a place more but the record's, and those that come with it

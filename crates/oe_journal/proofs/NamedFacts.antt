@@ -31,7 +31,7 @@ use Rattle.oe_log.specs.Log.{SegmentLog, Committed, records_at, total_count}
 use Rattle.oe_log.specs.Stands.{model_records, undo_of}
 use Rattle.oe_undo.specs.declared.holders.Holder.{Holder}
 use Rattle.oe_undo.specs.declared.holders.Holder.TheVariants.{Open, At}
-use Rattle.oe_undo.specs.Held.{Held, held_by, held_open, held_commits, held, of_key}
+use Rattle.oe_undo.specs.Held.{Held, held_by, held_open, held_commits, all_held, of_key}
 use Rattle.oe_undo.proofs.ChainWalkFacts.{of_key-append}
 use Rattle.oe_journal.specs.GivesUp.{HasNoRecord}
 use Rattle.oe_journal.specs.GoesBack.{HavePlaces, AllHavePlaces}
@@ -309,13 +309,13 @@ module _ (o : OwnRecord) (ts ts' : Places) (v w : SegmentLog) (t : ℕ) (bs : Li
       (sym (ap (λ (r : Rows). row_at r k) put ∙ row_other (record_of_own o) (rows ts) k e)) h
 
   fewer_places : (k : Key) → HasPlace ts' k → HasPlace ts k
-  fewer_places k p = elim (is_none (of_key own_key (held w))) [
+  fewer_places k p = elim (is_none (of_key own_key (all_held w))) [
     | inl none ↦ left_places (record_of_own o) ts ts' (back.gone none) k p
     | inr some ↦ (back.kept some k).0 p
   ]
 
   named_places : (k : Key) → HasPlace ts k → (IsUnnamed (undo_of w) k → ⊥) → HasPlace ts' k
-  named_places k p named = elim (is_none (of_key own_key (held w))) [
+  named_places k p named = elim (is_none (of_key own_key (all_held w))) [
     | inl none ↦ other_places (record_of_own o) ts ts' (back.gone none) k
         (λ same. named (subst (IsUnnamed (undo_of w)) (sym same) (unnamed_left w own_key size none))) p
     | inr some ↦ (back.kept some k).1 p

@@ -7,7 +7,7 @@ use Rattle.std.proofs.lemmas.List.{take_all}
 use Rattle.oe_rows.specs.declared.keys.NewOrderKey.{NewOrderKey}
 use Rattle.oe_rows.specs.declared.keys.Key.{Key}
 use Rattle.oe_rows.specs.declared.keys.Key.TheVariants as key
-use Rattle.oe_theory.specs.Store.{Slot, purged_to}
+use Rattle.oe_theory.specs.Store.{Slot, after_purge}
 use Rattle.oe_model.specs.Rows.{Rows, row_at}
 use Rattle.oe_model.specs.Changes.{Record}
 use Rattle.oe_model.specs.Changes as model
@@ -69,7 +69,7 @@ one_cut v w k enough is =
 
 -- in the theory's words
 pub purged_is : (u : SegmentLog) (m : ℕ) (r : Rows) (slots : ℕ → Option (Slot system))
-    → store_with r (with_newest (newest u - m) u) slots ≡ purged_to system m (store_with r u slots)
+    → store_with r (with_newest (newest u - m) u) slots ≡ after_purge system m (store_with r u slots)
 purged_is u m r slots =
     let c = stands.cuts u (newest u - m) in
     λ i. record {

@@ -18,7 +18,7 @@ use Rattle.oe_change.specs.declared.writes.Write.TheVariants.{BadCredit, Custome
 use Rattle.oe_change.specs.declared.writes.Write.TheVariants.{DeliveryDate}
 use Rattle.oe_change.specs.declared.writes.Write.TheVariants.{InsertHistory, InsertNewOrder, InsertOrder}
 use Rattle.oe_change.specs.declared.writes.Write.TheVariants.{InsertOrderLine, DeleteNewOrder}
-use Rattle.oe_change.specs.Writes.{key_written, written}
+use Rattle.oe_change.specs.Writes.{key_written, change_of}
 use Rattle.oe_store.specs.Places.{Places, rows}
 use Rattle.oe_log.specs.Log.{SegmentLog, active_at}
 use Rattle.oe_undo.specs.Undo.{UndoState}
@@ -76,7 +76,7 @@ writes_may (DeleteNewOrder k) = tt
 
 -- ---- a record that was pushed makes the write a change
 
-pub pushed_there : (w : Write) (r : Rows) (u u' : UndoState) (t : ℕ) → HasWritten w r u u' t → IsSome (written w r)
+pub pushed_there : (w : Write) (r : Rows) (u u' : UndoState) (t : ℕ) → HasWritten w r u u' t → IsSome (change_of w r)
 pushed_there w r u u' t h =
     let b = there_is (λ b. HasMore b u u' t) (record_of_write u.log.layout w r) h in
     recorded u.log.layout w r (ap is_some b.1)
@@ -86,23 +86,23 @@ pub made_recorded : (w : Write) (old new : Places) (u u' : UndoState) (t : ℕ) 
     → HasWritten w (rows old) u u' t → IsMade w old new → HasRecorded w old new u u' t
 made_recorded w old new u u' t is push made =
     let l : Layout = u.log.layout in
-    let c = there_is (λ c. IsApplied c old new) (written w (rows old)) made in
+    let c = there_is (λ c. IsApplied c old new) (change_of w (rows old)) made in
     let b = there_is (λ b. HasMore b u u' t) (record_of_write l w (rows old)) push in
     let o = some_of (active_at u.log t) is in
     let same : b.0 ≡ record_on system l c.0 (rows old) =
     some_inj _ _ (sym b.1 ∙ write_records l w c.0 (rows old) c.1 (c.2 l).accepted) in
-    of_some (λ c. IsRecorded c old new u u' t) (written w (rows old)) c.0 c.1
+    of_some (λ c. IsRecorded c old new u u' t) (change_of w (rows old)) c.0 c.1
     (more_stands b.0 c.0 old new u u' t o.0 o.1 same (c.2 l) b.2)
 
 pub made_linked : (w : Write) (old new : Places) (u u' : UndoState) (t : ℕ) → is_some (active_at u.log t) ≡ true
     → HasWritten w (rows old) u u' t → IsMade w old new → AreLinked old u.links → AreLinked new u'.links
 made_linked w old new u u' t is push made linked =
-    let c = there_is (λ c. IsRecorded c old new u u' t) (written w (rows old))
+    let c = there_is (λ c. IsRecorded c old new u u' t) (change_of w (rows old))
     (made_recorded w old new u u' t is push made) in
     recorded_linked c.0 old new u u' t linked c.2
 
 -- ---- refusals
 
-pub absent_write : (w : Write) (s : Places) (u : SegmentLog) (t : ℕ) (e : Refusal) → written w (rows s) ≡ None
+pub absent_write : (w : Write) (s : Places) (u : SegmentLog) (t : ℕ) (e : Refusal) → change_of w (rows s) ≡ None
     → e ≡ NoSuchRow (key_written w) → CantWrite w s u t e
 absent_write w s u t e none is = subst (CantWrite w s u t) (sym is) (Absent none)

@@ -13,9 +13,9 @@ use Rattle.oe_theory.specs.Store.{Seal, counts_before, commit_count}
 use Rattle.oe_model.specs.Changes.{Record}
 use Rattle.oe_model.specs.System.{system}
 use Rattle.oe_log.specs.Log.{SegmentLog, Open, TerminalState, Committed, idle, records_in, active_at, records_at}
-use Rattle.oe_log.specs.Log.{count_at, open_total, with_records, dropped, reopened}
+use Rattle.oe_log.specs.Log.{count_at, open_total, with_records, without_segment, with_reopening}
 use Rattle.oe_log.specs.Stands.{model_records, undo_of, seal_of, seals_of, counts_of}
-use Rattle.oe_journal.specs.Rewinds.{uncounted, without_newest, StandsRewound}
+use Rattle.oe_journal.specs.Rewinds.{without_first_commit, without_newest, StandsRewound}
 use Rattle.oe_log.proofs.StateFacts.{set_twice, seen_same, records_are}
 
 abbrev see_records : TerminalState → List Record
@@ -63,7 +63,7 @@ one_plus : (n : ℕ) → 1 + n ≡ suc n
 one_plus n = omega arith
 
 -- the newest commit gone
-one_less : (v : SegmentLog) (cs : List Committed) → v.committed ≡ cs → StandsRewound (uncounted v cs) v 1
+one_less : (v : SegmentLog) (cs : List Committed) → v.committed ≡ cs → StandsRewound (without_first_commit v cs) v 1
 one_less v [] e = record {
   undo = λ i. record {
     active = (undo_of v).active;
@@ -105,7 +105,7 @@ count_more u n (c ∷ cs) = go (u == c.tx.terminal)
 pub rewinds : (v : SegmentLog) (n : ℕ) → StandsRewound (without_newest n v) v n
 rewinds v zero = record { undo = refl; seals = refl; counts = fun_ext (λ u. minus_none (counts_of v u)) }
 rewinds v (suc n) =
-    let w : SegmentLog = uncounted v v.committed in
+    let w : SegmentLog = without_first_commit v v.committed in
     let one = one_less v v.committed refl in
     let rest = rewinds w n in
     record {
@@ -137,7 +137,7 @@ none_open v none t =
 
 -- none is open then
 pub quiet_still : (v : SegmentLog) (cs : List Committed) → ((t : ℕ) → active_at v t ≡ None) → (t : ℕ)
-    → active_at (uncounted v cs) t ≡ None
+    → active_at (without_first_commit v cs) t ≡ None
 quiet_still v [] h t = h t
 quiet_still v (c ∷ cs) h t =
     elim (cases_eq t c.terminal) [
@@ -153,7 +153,7 @@ quiet_still v (c ∷ cs) h t =
     s = record { count = count_at v c.terminal - 1; active = active_at v c.terminal }
 
 pub left_over : (v : SegmentLog) (cs : List Committed) (n : ℕ) → v.committed ≡ cs → suc n ≤ length cs
-    → n ≤ length (uncounted v cs).committed
+    → n ≤ length (without_first_commit v cs).committed
 left_over v [] n e h = let no : ⊥ = omega arith in absurd no
 left_over v (c ∷ cs) n e h = omega arith
 
@@ -180,7 +180,7 @@ open_again c = record { terminal = c.terminal; number = c.number; records = c.re
 
 -- it is its terminal's open segment then
 pub active_reopened : (v : SegmentLog) (c : Committed) (cs : List Committed) → c.terminal < length v.terminals
-    → active_at (reopened v (c ∷ cs)) c.terminal ≡ Some (open_again c)
+    → active_at (with_reopening v (c ∷ cs)) c.terminal ≡ Some (open_again c)
 active_reopened v c cs within =
     ap (λ (s : TerminalState). s.active)
     (get_or-set_same v.terminals c.terminal
@@ -189,7 +189,8 @@ active_reopened v c cs within =
 -- and it goes without a trace but the count
 dropped_reopened : (v : SegmentLog) (c : Committed) (cs : List Committed) → c.terminal < length v.terminals
     → active_at v c.terminal ≡ None
-    → dropped (with_records (reopened v (c ∷ cs)) c.terminal []) c.terminal ≡ uncounted v (c ∷ cs)
+    → without_segment (with_records (with_reopening v (c ∷ cs)) c.terminal []) c.terminal
+    ≡ without_first_commit v (c ∷ cs)
 dropped_reopened v c cs within quiet =
     let t : ℕ = c.terminal in
     let again : TerminalState = record { count = count_at v t - 1; active = Some (open_again c) } in
@@ -213,15 +214,15 @@ dropped_reopened v c cs within quiet =
     λ i. record { terminals = states i; committed = cs; extents = v.extents; layout = v.layout }
 
 -- of the newest commit of a log in which no segment is open
-module _ (v u : SegmentLog) (t : ℕ) (n : IsNewest v t) (is : u ≡ reopened v v.committed) where
-  again : u ≡ reopened v (n.newest ∷ n.older)
-  again = is ∙ ap (reopened v) n.are
+module _ (v u : SegmentLog) (t : ℕ) (n : IsNewest v t) (is : u ≡ with_reopening v v.committed) where
+  again : u ≡ with_reopening v (n.newest ∷ n.older)
+  again = is ∙ ap (with_reopening v) n.are
 
   inside : n.newest.terminal < length v.terminals
   inside = subst (λ k. k < length v.terminals) (sym n.own) n.within
 
   pub newest_open : active_at u t ≡ Some (open_again n.newest)
-  newest_open = ap (λ z. active_at z t) again ∙ ap (active_at (reopened v (n.newest ∷ n.older))) (sym n.own)
+  newest_open = ap (λ z. active_at z t) again ∙ ap (active_at (with_reopening v (n.newest ∷ n.older))) (sym n.own)
       ∙ active_reopened v n.newest n.older inside
 
   pub newest_records : records_at u t ≡ n.newest.records
@@ -229,15 +230,15 @@ module _ (v u : SegmentLog) (t : ℕ) (n : IsNewest v t) (is : u ≡ reopened v 
 
   pub newest_gone : ((k : ℕ) → active_at v k ≡ None) → (w : SegmentLog)
       → w ≡ with_records u t (drop (length (records_at u t)) (records_at u t))
-      → dropped w t ≡ without_newest 1 v
+      → without_segment w t ≡ without_newest 1 v
   newest_gone quiet w e =
       let none : drop (length (records_at u t)) (records_at u t) ≡ [] =
       drop_all (length (records_at u t)) (records_at u t) (omega arith) in
       let all : w ≡ with_records u t [] = e ∙ ap (with_records u t) none in
-      ap (λ z. dropped z t) all ∙ ap (λ z. dropped (with_records z t []) t) again
-      ∙ ap (λ k. dropped (with_records (reopened v (n.newest ∷ n.older)) k []) k) (sym n.own)
+      ap (λ z. without_segment z t) all ∙ ap (λ z. without_segment (with_records z t []) t) again
+      ∙ ap (λ k. without_segment (with_records (with_reopening v (n.newest ∷ n.older)) k []) k) (sym n.own)
       ∙ dropped_reopened v n.newest n.older inside (quiet n.newest.terminal)
-      ∙ ap (uncounted v) (sym n.are)
+      ∙ ap (without_first_commit v) (sym n.are)
 
   pub none_recorded : (w : SegmentLog) → w ≡ with_records u t (drop (length (records_at u t)) (records_at u t))
       → records_at w t ≡ []

@@ -4,18 +4,18 @@ use Rattle.std.proofs.Common.{map, take, drop, Option, None}
 use Rattle.std.proofs.lemmas.List.{length-map}
 use Rattle.oe_theory.specs.World.{set}
 use Rattle.oe_theory.specs.Undo.{Undo, unwind, unwind_commits}
-use Rattle.oe_theory.specs.Store.{Slot, rewound_to}
+use Rattle.oe_theory.specs.Store.{Slot, after_rewind}
 use Rattle.oe_model.specs.Changes.{Record}
 use Rattle.oe_model.specs.System.{system}
 use Rattle.oe_store.specs.Places.{rows}
 use Rattle.oe_store.specs.Places as tables
 use Rattle.oe_log.specs.Records.{Logged}
-use Rattle.oe_log.specs.Log.{SegmentLog, Committed, active_at, records_in, records_at, reopened, dropped}
+use Rattle.oe_log.specs.Log.{SegmentLog, Committed, active_at, records_in, records_at, with_reopening, without_segment}
 use Rattle.oe_log.proofs.LawFacts as stands
 use Rattle.oe_log.specs.Stands.{model_records, undo_of}
 use Rattle.oe_journal.specs.GoesBack.{CanUnwind, CanUnwindAll, HavePlaces, AllHavePlaces}
 use Rattle.oe_log.specs.Moments.{store_with, newest}
-use Rattle.oe_journal.specs.Rewinds.{uncounted, without_newest}
+use Rattle.oe_journal.specs.Rewinds.{without_first_commit, without_newest}
 use Rattle.oe_journal.specs.Named.{GivesUpUnnamed}
 use Rattle.oe_journal.proofs.NamedFacts.{NamesAlike, reopened_names, alike_before, none_given_up, then_given_up}
 use Rattle.oe_journal.proofs.NamedFacts.{history_placed}
@@ -33,7 +33,8 @@ first_are : (v : SegmentLog) (t : ℕ) (n : IsNewest v t)
     → (undo_of v).history ≡ model_records n.newest.records ∷ map (λ (c : Committed). model_records c.records) n.older
 first_are v t n = ap (map (λ (c : Committed). model_records c.records)) n.are
 
-module _ (ts : tables.Places) (v u : SegmentLog) (t : ℕ) (n : IsNewest v t) (is : u ≡ reopened v v.committed) where
+module _ (ts : tables.Places) (v u : SegmentLog) (t : ℕ) (n : IsNewest v t)
+    (is : u ≡ with_reopening v v.committed) where
   own_are : (undo_of u).active t ≡ model_records n.newest.records
   own_are = ap model_records (newest_records v u t n is)
 
@@ -57,8 +58,8 @@ module _ (ts : tables.Places) (v u : SegmentLog) (t : ℕ) (n : IsNewest v t) (i
 
 -- opened again, they are named as before, so that places go as they are taken back
 pub newest_given_up : (ts ts' : tables.Places) (v u w x : SegmentLog) (t : ℕ) (n : IsNewest v t)
-    → u ≡ reopened v v.committed → active_at v t ≡ None
-    → GivesUpUnnamed ts ts' (undo_of u) (undo_of w) → x ≡ dropped w t → records_at w t ≡ []
+    → u ≡ with_reopening v v.committed → active_at v t ≡ None
+    → GivesUpUnnamed ts ts' (undo_of u) (undo_of w) → x ≡ without_segment w t → records_at w t ≡ []
     → GivesUpUnnamed ts ts' (undo_of v) (undo_of x)
 newest_given_up ts ts' v u w x t n is quiet given_up gone empty =
     subst (λ (z : Undo system). GivesUpUnnamed ts ts' (undo_of v) z)
@@ -155,7 +156,8 @@ one_undone ts ts' ts'' u u' u'' count left gone put given_up h =
 -- in the theory's words
 pub rewound_is : (ts ts' : tables.Places) (u : SegmentLog) (m : ℕ) (slots : ℕ → Option (Slot system))
     → rows ts' ≡ unwind_commits system (take (newest u - m) (undo_of u).history) (rows ts)
-    → store_with (rows ts') (without_newest (newest u - m) u) slots ≡ rewound_to system m (store_with (rows ts) u slots)
+    → store_with (rows ts') (without_newest (newest u - m) u) slots
+    ≡ after_rewind system m (store_with (rows ts) u slots)
 rewound_is ts ts' u m slots put =
     let r = rewinds u (newest u - m) in
     λ i. record {
@@ -168,18 +170,18 @@ rewound_is ts ts' u m slots put =
       layout = layout_is (newest u - m) u i;
     }
   where
-    of_one : (v : SegmentLog) (cs : List Committed) → (uncounted v cs).extents ≡ v.extents
+    of_one : (v : SegmentLog) (cs : List Committed) → (without_first_commit v cs).extents ≡ v.extents
     of_one v [] = refl
     of_one v (c ∷ cs) = refl
 
     extents_are : (n : ℕ) (v : SegmentLog) → (without_newest n v).extents ≡ v.extents
     extents_are zero v = refl
-    extents_are (suc n) v = extents_are n (uncounted v v.committed) ∙ of_one v v.committed
+    extents_are (suc n) v = extents_are n (without_first_commit v v.committed) ∙ of_one v v.committed
 
-    layout_of_one : (v : SegmentLog) (cs : List Committed) → (uncounted v cs).layout ≡ v.layout
+    layout_of_one : (v : SegmentLog) (cs : List Committed) → (without_first_commit v cs).layout ≡ v.layout
     layout_of_one v [] = refl
     layout_of_one v (c ∷ cs) = refl
 
     layout_is : (n : ℕ) (v : SegmentLog) → (without_newest n v).layout ≡ v.layout
     layout_is zero v = refl
-    layout_is (suc n) v = layout_is n (uncounted v v.committed) ∙ layout_of_one v v.committed
+    layout_is (suc n) v = layout_is n (without_first_commit v v.committed) ∙ layout_of_one v v.committed

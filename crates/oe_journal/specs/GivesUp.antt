@@ -8,7 +8,7 @@ use Rattle.oe_model.specs.Rows.{row_at}
 use Rattle.oe_model.specs.Changes.{Record, DeletedNewOrder}
 use Rattle.oe_store.specs.Places.{Places, rows, HasPlace}
 use Rattle.oe_log.specs.Log.{SegmentLog}
-use Rattle.oe_undo.specs.Held.{held, of_key}
+use Rattle.oe_undo.specs.Held.{all_held, of_key}
 
 -- the record is of a delete of this NEW-ORDER row
 abbrev pub IsDelete : NewOrderKey → Record → Type 0
@@ -34,7 +34,7 @@ IsDeletedIn k ss = (o : NewOrderKey) × (k ≡ key.NewOrder o) × HasDeleteIn o 
 
 -- the log has no record of the key, open or committed
 abbrev pub HasNoRecord : SegmentLog → Key → Type 0
-HasNoRecord u k = of_key k (held u) ≡ []
+HasNoRecord u k = of_key k (all_held u) ≡ []
 
 -- a key of this kind that has no row has no place any more, and each other key has one as before
 abbrev pub GivesUpThose : Places → Places → (Key → Type 0) → Type 0

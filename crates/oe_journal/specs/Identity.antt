@@ -17,9 +17,9 @@ use Rattle.oe_log.specs.Stands.{undo_of}
 use Rattle.oe_undo.specs.declared.holders.Link.{Link}
 use Rattle.oe_undo.specs.declared.holders.Holder.TheVariants.{Open}
 use Rattle.oe_undo.specs.Held.{horizon}
-use Rattle.oe_undo.specs.Chains.{link_from, linked}
+use Rattle.oe_undo.specs.Chains.{link_from, with_link}
 use Rattle.oe_undo.specs.Laws.{IsWhole}
-use Rattle.oe_undo.specs.Undo.{UndoState, seen, unended}
+use Rattle.oe_undo.specs.Undo.{UndoState, link_seen, link_above}
 use Rattle.oe_journal.specs.GoesBack.{CanUnwind, HavePlaces}
 use Rattle.oe_journal.specs.Linked.{SameLinks}
 use Rattle.oe_journal.specs.Named.{AreExact}
@@ -28,15 +28,16 @@ use Rattle.oe_journal.specs.Recorded.{HasRecorded}
 
 -- Where the keys lead once these records of a terminal's open segment, the newest first, are taken off: each gives its
 -- key the link back that led to the record before, or none where that record's commit was given up
-abbrev pub led_back : ℕ → ℕ → List Logged → (Key → Option Link) → Key → Option Link
-led_back h t [] links = links
-led_back h t (r ∷ rs) links = led_back h t rs
-    (linked links (record_key r.before) (unended h (link_from (Open t) r.previous)))
+abbrev pub links_behind : ℕ → ℕ → List Logged → (Key → Option Link) → Key → Option Link
+links_behind h t [] links = links
+links_behind h t (r ∷ rs) links = links_behind h t rs
+    (with_link links (record_key r.before) (link_above h (link_from (Open t) r.previous)))
 
 -- the links lead so after the `count` newest records were put back
 abbrev pub LeadBack : UndoState → UndoState → ℕ → ℕ → Type 0
-LeadBack old new t count = (k : Key) → seen new k ≡ led_back (horizon old.log) t (take count (records_at old.log t))
-    (seen old) k
+LeadBack old new t count = (k : Key) → link_seen new k
+    ≡ links_behind (horizon old.log) t (take count (records_at old.log t))
+    (link_seen old) k
 
 -- the newest record of the terminal can be put back
 pub record MayTakeBack (ts : Places) (u : SegmentLog) (t : ℕ) : Type 0 where

@@ -6,7 +6,7 @@ use Rattle.oe_store.specs.Places.{Places}
 use Rattle.oe_store.specs.Places as tables
 use Rattle.oe_model.specs.Changes.{Record, InsertedHistory}
 use Rattle.oe_undo.specs.Links.{LinkMaps, HasPlace, GivesUpLink}
-use Rattle.oe_undo.specs.Undo.{UndoState, seen}
+use Rattle.oe_undo.specs.Undo.{UndoState, link_seen}
 
 -- rows of this key's table are changed; ITEM rows never are
 abbrev pub MayChange : Key → Type 0
@@ -20,7 +20,7 @@ AreLinked ts links = (k : Key) → MayChange k → tables.HasPlace ts k → HasP
 
 -- each key leads where it led
 abbrev pub SameLinks : UndoState → UndoState → Type 0
-SameLinks old new = (k : Key) → seen new k ≡ seen old k
+SameLinks old new = (k : Key) → link_seen new k ≡ link_seen old k
 
 -- no key is given a place for its link, and where each key of the tables had one, each has
 pub record StayLinked (ts ts' : Places) (old new : LinkMaps) : Type 0 where

@@ -9,7 +9,7 @@ use Rattle.oe_model.specs.Changes.{Change, Record, record_key}
 use Rattle.oe_model.specs.Lengths.{record_length}
 use Rattle.oe_model.specs.System.{system}
 use Rattle.oe_change.specs.declared.writes.Write.{Write}
-use Rattle.oe_change.specs.Writes.{key_written, written}
+use Rattle.oe_change.specs.Writes.{key_written, change_of}
 use Rattle.oe_layout.specs.declared.links.Previous.{Previous}
 use Rattle.oe_store.specs.Places.{Places, rows, HasPlace}
 use Rattle.oe_change.specs.Applies.{Applies}
@@ -18,7 +18,7 @@ use Rattle.oe_log.specs.Stands.{undo_of}
 use Rattle.oe_log.specs.Laws.{StandsWith}
 use Rattle.oe_undo.specs.declared.holders.Holder.TheVariants.{Open}
 use Rattle.oe_undo.specs.Chains.{link_from}
-use Rattle.oe_undo.specs.Undo.{UndoState, seen, HasPushed}
+use Rattle.oe_undo.specs.Undo.{UndoState, link_seen, HasPushed}
 use Rattle.oe_writes.specs.Records.{record_of_write}
 use Rattle.oe_writes.specs.Made.{RefusesWrite}
 use Rattle.oe_journal.specs.declared.writes.NotPushed.{NotPushed}
@@ -27,7 +27,7 @@ use Rattle.oe_journal.specs.declared.writes.NotPushed.TheVariants as pushes
 -- a terminal's open segment has this record more, with its key's link, which leads to it then
 pub record HasMore (b : Record) (u u' : UndoState) (t : ℕ) : Type 0 where
   pub previous : Previous
-  pub leads : link_from (Open t) previous ≡ seen u (record_key b)
+  pub leads : link_from (Open t) previous ≡ link_seen u (record_key b)
   pub pushed : HasPushed u u' t previous b
 
 -- a terminal's open segment has the write's record more
@@ -47,7 +47,7 @@ pub record IsRecorded (c : Change) (old new : Places) (u u' : UndoState) (t : �
 
 -- the change that the write is of these rows has been recorded so
 abbrev pub HasRecorded : Write → Places → Places → UndoState → UndoState → ℕ → Type 0
-HasRecorded w old new u u' t = IsSomeAnd (written w (rows old)) (λ c. IsRecorded c old new u u' t)
+HasRecorded w old new u u' t = IsSomeAnd (change_of w (rows old)) (λ c. IsRecorded c old new u u' t)
 
 -- the write's record fits the rest of the terminal's newest extent, or an extent is free
 abbrev pub HasRoomFor : Write → Rows → SegmentLog → ℕ → Type 0
@@ -59,15 +59,15 @@ IsFullForWrite w r u t = IsSomeAnd (record_of_write u.layout w r) (λ b. IsFull 
 
 -- why its record is not pushed
 abbrev pub IsNotPushed : Write → Places → SegmentLog → ℕ → NotPushed → Type 0
-IsNotPushed w s u t pushes.Absent = written w (rows s) ≡ None
+IsNotPushed w s u t pushes.Absent = change_of w (rows s) ≡ None
 IsNotPushed w s u t pushes.Full = IsFullForWrite w (rows s) u t
 IsNotPushed w s u t pushes.Unplaced =
-    IsSome (written w (rows s)) × HasRoomFor w (rows s) u t × (HasPlace s (key_written w) → ⊥)
+    IsSome (change_of w (rows s)) × HasRoomFor w (rows s) u t × (HasPlace s (key_written w) → ⊥)
 
 -- why a write is refused, by its first cause
 pub data CantWrite (w : Write) (s : Places) (u : SegmentLog) (t : ℕ) : Refusal → Type 0 where
   -- the row to be updated is absent
-  Absent : written w (rows s) ≡ None → CantWrite w s u t (NoSuchRow (key_written w))
+  Absent : change_of w (rows s) ≡ None → CantWrite w s u t (NoSuchRow (key_written w))
   -- the record has no room
   Full : IsFullForWrite w (rows s) u t → CantWrite w s u t UndoFull
   -- it has, and the tables refuse the change: they never say `UndoFull`

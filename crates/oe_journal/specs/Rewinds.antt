@@ -9,9 +9,9 @@ use Rattle.oe_log.specs.Moments.{IsUnkept}
 use Rattle.oe_log.specs.Stands.{undo_of, seals_of, counts_of}
 
 -- the first of these commits gone, which its terminal no longer counts
-abbrev pub uncounted : SegmentLog → List Committed → SegmentLog
-uncounted v [] = v
-uncounted v (c ∷ cs) =
+abbrev pub without_first_commit : SegmentLog → List Committed → SegmentLog
+without_first_commit v [] = v
+without_first_commit v (c ∷ cs) =
     record {
       terminals = set v.terminals c.terminal
           (record { count = count_at v c.terminal - 1; active = active_at v c.terminal });
@@ -23,7 +23,7 @@ uncounted v (c ∷ cs) =
 -- the newest n commits gone
 abbrev pub without_newest : ℕ → SegmentLog → SegmentLog
 without_newest zero v = v
-without_newest (suc n) v = without_newest n (uncounted v v.committed)
+without_newest (suc n) v = without_newest n (without_first_commit v v.committed)
 
 -- a log stands for another without its newest n commits, which are no longer counted
 pub record StandsRewound (w v : SegmentLog) (n : ℕ) : Type 0 where

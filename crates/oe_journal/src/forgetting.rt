@@ -8,7 +8,7 @@ ghost use Rattle.std.specs.FinMap.{get};
 ghost use Rattle.oe_index.specs.Numbers.{name_number};
 ghost use Rattle.oe_layout.specs.Records.{record_of_own};
 ghost use Rattle.oe_store.specs.Places.{rows};
-ghost use Rattle.oe_undo.specs.Held.{held, of_key, horizon};
+ghost use Rattle.oe_undo.specs.Held.{all_held, of_key, horizon};
 ghost use Rattle.oe_undo.specs.Restored.{later_of};
 ghost use Rattle.oe_journal.specs.Forgetting.{tells_name, one_tells, other_last, name_lost};
 
@@ -82,7 +82,7 @@ pub(crate) fn forget_lost(
 fn had_later(undo: &Undo, key: &CustomerKey, last: &Text<0, 16>, moment: Moment) -> bool
     requires { horizon undo.now.log ≤ moment }
     ensures { result ≡ one_tells (name_number last.now)
-        (later_of moment (of_key (Key.Customer key.now) (held undo.now.log))) }
+        (later_of moment (of_key (Key.Customer key.now) (all_held undo.now.log))) }
 {
     undo.is_chained();
     let mut ticks = Ticks::new();

@@ -2,7 +2,7 @@
 //! place.
 ghost use Rattle.std.specs.Prelude.{◌↔◌, IsTrue};
 ghost use Rattle.oe_undo.specs.Chains.{IsForgotten, IsEnd};
-ghost use Rattle.oe_undo.specs.Undo.{seen};
+ghost use Rattle.oe_undo.specs.Undo.{link_seen};
 ghost use Rattle.oe_journal.specs.GivesUp.{HasNoRecord};
 
 use oe_rows::Key;
@@ -22,7 +22,7 @@ pub(crate) fn is_unnamed(undo: &Undo, key: &Key) -> bool
 /// Tells whether a key's link leads to no record of an open transaction, nor of a commit after the
 /// moment.
 pub(crate) fn has_ended(undo: &Undo, key: &Key, moment: Moment) -> bool
-    ensures { IsTrue result ↔ IsEnd moment (seen undo.now key.now) }
+    ensures { IsTrue result ↔ IsEnd moment (link_seen undo.now key.now) }
 {
     match undo.link(key) {
         None => true,

@@ -3,7 +3,7 @@
 //! customer is also taken off the list of the last name before, once nothing has it any more: for
 //! that the customer's later records are read. Else the cost grows with the commits that go alone.
 ghost use Rattle.std.specs.Prelude.{◌≡◌, ◌-◌, ◌<◌, ◌≤◌, ◌↔◌, [], ℕ, Option, length, drop, get_or, IsTrue, IfErr, OnOk, OnErr};
-ghost use Rattle.oe_theory.specs.Store.{Slot, purged_to};
+ghost use Rattle.oe_theory.specs.Store.{Slot, after_purge};
 ghost use Rattle.oe_model.specs.Rows.{Rows};
 ghost use Rattle.oe_model.specs.System.{system};
 ghost use Rattle.oe_store.specs.Places.{rows};
@@ -12,7 +12,7 @@ ghost use Rattle.oe_log.specs.Stands.{undo_of, model_records};
 ghost use Rattle.oe_log.specs.Moments.{store_with, newest, IsKeptMoment, IsUnkept};
 ghost use Rattle.oe_undo.specs.Chains.{IsEnd};
 ghost use Rattle.oe_undo.specs.Held.{horizon};
-ghost use Rattle.oe_undo.specs.Undo.{seen};
+ghost use Rattle.oe_undo.specs.Undo.{link_seen};
 ghost use Rattle.oe_journal.specs.GivesUp.{IsDeleted, GivesUpThose, GivesUpDeleted};
 
 use crate::forgetting::forget_name;
@@ -44,7 +44,7 @@ pub fn purge(
     ensures purged { OnOk result
         ((r : Rows) (slots : ℕ → Option (Slot system))
         → store_with r undo.new.log slots
-        ≡ purged_to system moment (store_with r undo.old.log slots)) }
+        ≡ after_purge system moment (store_with r undo.old.log slots)) }
     ensures rows { rows tables.new ≡ rows tables.old }
     ensures places { OnOk result (GivesUpDeleted tables.old tables.new
         (drop (newest undo.old.log - moment) (undo_of undo.old.log).history) undo.new.log) }
@@ -125,7 +125,7 @@ fn give_up_deleted(tables: &mut Tables, undo: &Undo, later: usize, moment: Momen
     ensures rows { rows tables.new ≡ rows tables.old }
     ensures places { GivesUpThose tables.old tables.new
         (λ k. IsDeleted k (model_records (get_or (committed_records undo.now.log) later []))
-        × IsEnd moment (seen undo.now k)) }
+        × IsEnd moment (link_seen undo.now k)) }
 {
     for key in undo.segments().deleted(later) {
         give_up_key(tables, undo, key, moment);
@@ -136,7 +136,7 @@ fn give_up_deleted(tables: &mut Tables, undo: &Undo, later: usize, moment: Momen
 fn give_up_key(tables: &mut Tables, undo: &Undo, key: NewOrderKey, moment: Moment)
     ensures rows { rows tables.new ≡ rows tables.old }
     ensures places { GivesUpThose tables.old tables.new
-        (λ k. (k ≡ Key.NewOrder key) × IsEnd moment (seen undo.now k)) }
+        (λ k. (k ≡ Key.NewOrder key) × IsEnd moment (link_seen undo.now k)) }
 {
     if new_order_has_ended(undo, &key, moment) {
         tables.give_up_new_order(key);
@@ -146,7 +146,7 @@ fn give_up_key(tables: &mut Tables, undo: &Undo, key: NewOrderKey, moment: Momen
 /// Tells whether a NEW-ORDER key's link leads to no record of an open transaction, nor of a commit
 /// after the moment.
 fn new_order_has_ended(undo: &Undo, key: &NewOrderKey, moment: Moment) -> bool
-    ensures { IsTrue result ↔ IsEnd moment (seen undo.now (Key.NewOrder key.now)) }
+    ensures { IsTrue result ↔ IsEnd moment (link_seen undo.now (Key.NewOrder key.now)) }
 {
     has_ended(undo, &Key::NewOrder(*key), moment)
 }

@@ -2,7 +2,7 @@
 //! open. It takes no memory, and refused it changes nothing.
 ghost use Rattle.std.specs.Prelude.{◌≡◌, ◌-◌, ◌<◌, ◌≤◌, ℕ, Option, None, length, take, IfErr, OnOk, OnErr};
 ghost use Rattle.oe_theory.specs.Undo.{unwind_commits};
-ghost use Rattle.oe_theory.specs.Store.{Slot, rewound_to};
+ghost use Rattle.oe_theory.specs.Store.{Slot, after_rewind};
 ghost use Rattle.oe_model.specs.System.{system};
 ghost use Rattle.oe_store.specs.Places.{rows};
 ghost use Rattle.oe_log.specs.Log.{active_at, open_total};
@@ -38,7 +38,7 @@ pub fn rewind(tables: &mut Tables, undo: &mut Undo, moment: Moment) -> Result<()
     ensures rewound { OnOk result
         ((slots : ℕ → Option (Slot system))
         → store_with (rows tables.new) undo.new.log slots
-        ≡ rewound_to system moment (store_with (rows tables.old) undo.old.log slots)) }
+        ≡ after_rewind system moment (store_with (rows tables.old) undo.old.log slots)) }
     ensures places { GivesUpUnnamed tables.old tables.new
         (undo_of undo.old.log) (undo_of undo.new.log) }
     ensures links { StayLinked tables.old tables.new undo.old.links undo.new.links }

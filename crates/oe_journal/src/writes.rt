@@ -1,6 +1,6 @@
 //! What a transaction writes to one row, with its record.
 ghost use Rattle.std.specs.Prelude.{◌≡◌, Some, IsSome, IfErr, OnOk, OnErr};
-ghost use Rattle.oe_change.specs.Writes.{key_written, written};
+ghost use Rattle.oe_change.specs.Writes.{key_written, change_of};
 ghost use Rattle.oe_store.specs.Places.{rows};
 ghost use Rattle.oe_log.specs.Log.{active_at};
 ghost use Rattle.oe_undo.specs.Chains.{IsAlone};
@@ -38,7 +38,7 @@ pub fn write<W: OneWrite>(
     requires open { IsSome (active_at undo.old.log segment) }
     requires alone { IsAlone undo.old.log segment (key_written (W.write write.now)) }
     requires linked { AreLinked tables.old undo.old.links }
-    ensures there { OnOk result (IsSome (written (W.write write.now) (rows tables.old))) }
+    ensures there { OnOk result (IsSome (change_of (W.write write.now) (rows tables.old))) }
     ensures written { OnOk result
         (HasRecorded (W.write write.now) tables.old tables.new undo.old undo.new segment) }
     ensures room { OnOk result

@@ -41,7 +41,8 @@ use Rattle.oe_image.specs.Keys.{warehouse_key, district_key, customer_key, histo
 use Rattle.oe_image.specs.Keys.{order_line_key, item_key, stock_key, key_image}
 use Rattle.oe_image.specs.Rows.{address, warehouse, district, customer_name, account, customer, history, order}
 use Rattle.oe_image.specs.Rows.{order_line, item, stock, row_image, IsRow}
-use Rattle.oe_image.specs.Before.{mask, binary, kept, kept_text, kept_number, address_columns, name_columns}
+use Rattle.oe_image.specs.Before.{mask, binary, image_where_there, kept_text, kept_number, address_columns}
+use Rattle.oe_image.specs.Before.{name_columns}
 use Rattle.oe_image.specs.Before.{account_columns, ten_columns, warehouse_bits, warehouse_columns, district_bits}
 use Rattle.oe_image.specs.Before.{district_columns, customer_bits, customer_columns, order_bits, order_columns}
 use Rattle.oe_image.specs.Before.{order_line_bits, order_line_columns, stock_bits, stock_columns, warehouse_before}
@@ -59,7 +60,7 @@ use Rattle.oe_model.specs.Lengths.{account_columns_length, customer_columns_leng
 use Rattle.oe_model.specs.Lengths.{order_line_columns_length, stock_columns_length, columns_length}
 use Rattle.oe_layout.specs.Links.{LinkNumbers, link_numbers, link_image}
 use Rattle.oe_layout.specs.Kinds.{kind_numbers, kind_image, kind_of}
-use Rattle.oe_layout.specs.Records.{before_image, followed, contents, body_image, record_image, IsBefore}
+use Rattle.oe_layout.specs.Records.{before_image, key_and_before, contents, body_image, record_image, IsBefore}
 use Rattle.oe_layout.specs.Records.{IsInRanges}
 use Rattle.oe_layout.specs.declared.links.Previous.{Previous}
 use Rattle.oe_layout.specs.declared.kinds.RecordKind.{RecordKind}
@@ -237,7 +238,7 @@ key_long (key.Stock k) = joined_long (number_long 2 k.warehouse) (number_long 4 
 -- ---- columns before an update
 
 column_long : {X : Type 0} (image : X → List ℕ) (long : X → ℕ) → ((x : X) → IsLong (image x) (long x)) → (v : Option X)
-    → IsLong (kept image v) (column_length long v)
+    → IsLong (image_where_there image v) (column_length long v)
 column_long image long each None = record { is = refl }
 column_long image long each (Some x) = each x
 
@@ -381,7 +382,7 @@ IsLongBefore None n = n ≡ 0
 IsLongBefore (Some bytes) n = IsLong bytes n
 
 followed_long : (k : Key) (v : Option (List ℕ)) (n : ℕ) → IsLongBefore v n
-    → IsLong (followed (key_image k) v) (key_length k + n)
+    → IsLong (key_and_before (key_image k) v) (key_length k + n)
 followed_long k None n h = recast (key_long k) (omega (arith, h))
 followed_long k (Some bytes) n h = joined_long (key_long k) h
 

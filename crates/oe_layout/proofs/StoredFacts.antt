@@ -16,10 +16,11 @@ use Rattle.oe_model.specs.Changes.{Record, record_key}
 use Rattle.oe_model.specs.Lengths.{record_length}
 use Rattle.oe_layout.specs.Links.{previous_image, previous_at, IsPrevious, link_numbers}
 use Rattle.oe_layout.specs.Kinds.{kind_image, kind_of, kind_at}
-use Rattle.oe_layout.specs.Records.{before_image, followed, contents, record_image, IsInRanges}
+use Rattle.oe_layout.specs.Records.{before_image, key_and_before, contents, record_image, IsInRanges}
 use Rattle.oe_layout.specs.Records.{record_of_own}
 use Rattle.oe_layout.specs.RecordFronts.{record_at}
-use Rattle.oe_layout.specs.Stored.{IsStoredRecord, told_of, told, table_changed, deleted_new_order, deleted_key}
+use Rattle.oe_layout.specs.Stored.{IsStoredRecord, record_stored, record_in_bytes, table_changed, deleted_new_order}
+use Rattle.oe_layout.specs.Stored.{deleted_key}
 use Rattle.oe_layout.specs.declared.links.Previous.{Previous}
 use Rattle.oe_layout.specs.declared.records.OwnRecord.{OwnRecord}
 use Rattle.oe_layout.proofs.LengthFacts.{joined_long, number_long, kind_long, link_long}
@@ -30,21 +31,22 @@ use Rattle.oe_layout.proofs.RecordFacts.{record_finds}
 
 pub told_by : (bytes : List ℕ) (p : Previous) (b : OwnRecord) → IsPrevious p → IsInRanges (record_of_own b)
     → bytes ≡ record_image p (record_of_own b)
-    → told bytes ≡ record_of_own b
-told_by bytes p b hp hb e = ap told_of (record_finds (p, b) bytes (hp, hb) e)
+    → record_in_bytes bytes ≡ record_of_own b
+told_by bytes p b hp hb e = ap record_stored (record_finds (p, b) bytes (hp, hb) e)
 
-pub told_is : (bytes : List ℕ) (h : IsStoredRecord bytes) → told bytes ≡ record_of_own h.before
+pub told_is : (bytes : List ℕ) (h : IsStoredRecord bytes) → record_in_bytes bytes ≡ record_of_own h.before
 told_is bytes h = told_by bytes h.previous h.before h.link h.ranges h.image
 
-pub IsStored-told : (bytes : List ℕ) → IsStoredRecord bytes → (p : Previous) × (bytes ≡ record_image p (told bytes))
-    × IsInRanges (told bytes)
+pub IsStored-told : (bytes : List ℕ) → IsStoredRecord bytes → (p : Previous)
+    × (bytes ≡ record_image p (record_in_bytes bytes))
+    × IsInRanges (record_in_bytes bytes)
 IsStored-told bytes h =
     let same = sym (told_is bytes h) in
     (h.previous, h.image ∙ ap (record_image h.previous) same, subst IsInRanges same h.ranges)
 
 -- it is read whole
 pub read_is : (bytes : List ℕ) (r : Option (Previous × OwnRecord)) → IsStoredRecord bytes → r ≡ record_at bytes
-    → (v : Previous × OwnRecord) × (r ≡ Some v) × (record_of_own v.1 ≡ told bytes)
+    → (v : Previous × OwnRecord) × (r ≡ Some v) × (record_of_own v.1 ≡ record_in_bytes bytes)
 read_is bytes r h e =
     let v : Previous × OwnRecord = (h.previous, h.before) in
     (v, e ∙ record_finds v bytes (h.link, h.ranges) h.image, sym (told_is bytes h))
@@ -79,10 +81,11 @@ front_length p b = (joined_long (number_long 2 (record_length b))
 
 -- the kind stands behind the length
 pub kind_there : (bytes : List ℕ) → IsStoredRecord bytes
-    → (rest : List ℕ) × (kind_at (take (length bytes - 2) (drop 2 bytes)) ≡ Some (kind_of (told bytes), rest))
+    → (rest : List ℕ) × (kind_at (take (length bytes - 2) (drop 2 bytes))
+    ≡ Some (kind_of (record_in_bytes bytes), rest))
 kind_there bytes h =
     let s = IsStored-told bytes h in
-    let b = told bytes in
+    let b = record_in_bytes bytes in
     let rest = (previous_image s.0 ++ contents b) ++ length_image b in
     let here : take (length bytes - 2) (drop 2 bytes) ≡ kind_image (kind_of b) ++ rest =
     take_rest bytes 2 ∙ ap (drop 2) (s.1 ∙ parts s.0 b)
@@ -107,16 +110,17 @@ link_there bytes p b hp e =
 
 -- the key stands behind the link
 pub contents_there : (bytes : List ℕ) → IsStoredRecord bytes
-    → take (length bytes - 16) (drop 16 bytes) ≡ contents (told bytes) ++ number 2 (record_length (told bytes))
+    → take (length bytes - 16) (drop 16 bytes) ≡ contents (record_in_bytes bytes)
+    ++ number 2 (record_length (record_in_bytes bytes))
 contents_there bytes h =
     let s = IsStored-told bytes h in
-    let b = told bytes in
+    let b = record_in_bytes bytes in
     take_rest bytes 16 ∙ ap (drop 16) (s.1 ∙ front s.0 b)
     ∙ drop_at (length_image b ++ (kind_image (kind_of b) ++ previous_image s.0)) (contents b ++ length_image b) 16
     (front_length s.0 b)
 
 key_first : (k : List ℕ) (r : Option (List ℕ)) (tail : List ℕ)
-    → (rest : List ℕ) × (followed k r ++ tail ≡ k ++ rest)
+    → (rest : List ℕ) × (key_and_before k r ++ tail ≡ k ++ rest)
 key_first k None tail = (tail, refl)
 key_first k (Some r) tail = (r ++ tail, append_assoc k r tail)
 
@@ -193,5 +197,5 @@ key_read b t bytes r fits et e reads =
     let k = key_there b in
     (k.0, reads.finds (record_key b) k.0 (table_is b ∙ sym et, fits) (e ∙ k.1))
 
-pub key_fits : (bytes : List ℕ) → IsStoredRecord bytes → IsKey (record_key (told bytes))
+pub key_fits : (bytes : List ℕ) → IsStoredRecord bytes → IsKey (record_key (record_in_bytes bytes))
 key_fits bytes h = (IsStored-told bytes h).2.0

@@ -2,7 +2,7 @@
 use Rattle.std.specs.Prelude.{◌≡◌, ◌==◌, ◌&&◌, ℕ, List, length, Option, Some, None, if◌then◌else◌}
 use Rattle.oe_extent.specs.declared.sizes.TheConstants.{LENGTH_BYTES}
 use Rattle.oe_extent.specs.Images.{number_at}
-use Rattle.oe_decode.specs.Fronts.{◌>>=◌, seen, pair_at}
+use Rattle.oe_decode.specs.Fronts.{◌>>=◌, front_as, pair_at}
 use Rattle.oe_decode.specs.KeyFronts.{history_key_at, new_order_key_at, order_key_at, order_line_key_at}
 use Rattle.oe_decode.specs.KeyFronts.{warehouse_key_at, district_key_at, customer_key_at, stock_key_at}
 use Rattle.oe_decode.specs.RowFronts.{warehouse_at, district_at, customer_at, order_at, order_line_at, stock_at}
@@ -20,37 +20,37 @@ use Rattle.oe_layout.specs.declared.records.OwnRecord.TheVariants as own
 
 -- the key at the front, and what a record of that kind has of the row before behind it, if anything
 abbrev pub contents_at : RecordKind → List ℕ → Option (OwnRecord × List ℕ)
-contents_at kind.InsertedHistory bytes = seen (λ k. own.InsertedHistory k) (history_key_at bytes)
+contents_at kind.InsertedHistory bytes = front_as (λ k. own.InsertedHistory k) (history_key_at bytes)
 contents_at kind.InsertedNewOrder bytes =
-    seen (λ k. own.InsertedNewOrder k) (new_order_key_at bytes)
-contents_at kind.InsertedOrder bytes = seen (λ k. own.InsertedOrder k) (order_key_at bytes)
+    front_as (λ k. own.InsertedNewOrder k) (new_order_key_at bytes)
+contents_at kind.InsertedOrder bytes = front_as (λ k. own.InsertedOrder k) (order_key_at bytes)
 contents_at kind.InsertedOrderLine bytes =
-    seen (λ k. own.InsertedOrderLine k) (order_line_key_at bytes)
+    front_as (λ k. own.InsertedOrderLine k) (order_line_key_at bytes)
 contents_at kind.UpdatedWarehouse bytes =
-    seen (λ p. own.UpdatedWarehouse p.0 p.1) (pair_at warehouse_key_at warehouse_at bytes)
+    front_as (λ p. own.UpdatedWarehouse p.0 p.1) (pair_at warehouse_key_at warehouse_at bytes)
 contents_at kind.UpdatedDistrict bytes =
-    seen (λ p. own.UpdatedDistrict p.0 p.1) (pair_at district_key_at district_at bytes)
+    front_as (λ p. own.UpdatedDistrict p.0 p.1) (pair_at district_key_at district_at bytes)
 contents_at kind.UpdatedCustomer bytes =
-    seen (λ p. own.UpdatedCustomer p.0 p.1) (pair_at customer_key_at customer_at bytes)
+    front_as (λ p. own.UpdatedCustomer p.0 p.1) (pair_at customer_key_at customer_at bytes)
 contents_at kind.UpdatedOrder bytes =
-    seen (λ p. own.UpdatedOrder p.0 p.1) (pair_at order_key_at order_at bytes)
+    front_as (λ p. own.UpdatedOrder p.0 p.1) (pair_at order_key_at order_at bytes)
 contents_at kind.UpdatedOrderLine bytes =
-    seen (λ p. own.UpdatedOrderLine p.0 p.1) (pair_at order_line_key_at order_line_at bytes)
+    front_as (λ p. own.UpdatedOrderLine p.0 p.1) (pair_at order_line_key_at order_line_at bytes)
 contents_at kind.UpdatedStock bytes =
-    seen (λ p. own.UpdatedStock p.0 p.1) (pair_at stock_key_at stock_at bytes)
-contents_at kind.DeletedNewOrder bytes = seen (λ k. own.DeletedNewOrder k) (new_order_key_at bytes)
+    front_as (λ p. own.UpdatedStock p.0 p.1) (pair_at stock_key_at stock_at bytes)
+contents_at kind.DeletedNewOrder bytes = front_as (λ k. own.DeletedNewOrder k) (new_order_key_at bytes)
 contents_at kind.ChangedWarehouse bytes =
-    seen (λ p. own.ChangedWarehouse p.0 p.1) (pair_at warehouse_key_at warehouse_before_at bytes)
+    front_as (λ p. own.ChangedWarehouse p.0 p.1) (pair_at warehouse_key_at warehouse_before_at bytes)
 contents_at kind.ChangedDistrict bytes =
-    seen (λ p. own.ChangedDistrict p.0 p.1) (pair_at district_key_at district_before_at bytes)
+    front_as (λ p. own.ChangedDistrict p.0 p.1) (pair_at district_key_at district_before_at bytes)
 contents_at kind.ChangedCustomer bytes =
-    seen (λ p. own.ChangedCustomer p.0 p.1) (pair_at customer_key_at customer_before_at bytes)
+    front_as (λ p. own.ChangedCustomer p.0 p.1) (pair_at customer_key_at customer_before_at bytes)
 contents_at kind.ChangedOrder bytes =
-    seen (λ p. own.ChangedOrder p.0 p.1) (pair_at order_key_at order_before_at bytes)
+    front_as (λ p. own.ChangedOrder p.0 p.1) (pair_at order_key_at order_before_at bytes)
 contents_at kind.ChangedOrderLine bytes =
-    seen (λ p. own.ChangedOrderLine p.0 p.1) (pair_at order_line_key_at order_line_before_at bytes)
+    front_as (λ p. own.ChangedOrderLine p.0 p.1) (pair_at order_line_key_at order_line_before_at bytes)
 contents_at kind.ChangedStock bytes =
-    seen (λ p. own.ChangedStock p.0 p.1) (pair_at stock_key_at stock_before_at bytes)
+    front_as (λ p. own.ChangedStock p.0 p.1) (pair_at stock_key_at stock_before_at bytes)
 
 -- what stands between the two lengths
 unfoldable pub body_at : List ℕ → Option ((Previous × OwnRecord) × List ℕ)

@@ -34,12 +34,12 @@ before_image (model.ChangedStock k v) = option_map stock_before v
 before_image b = option_map row_image (model.restore b None)
 
 -- a record's key and behind it what it has of the row before, if anything
-abbrev pub followed : List ℕ → Option (List ℕ) → List ℕ
-followed key None = key
-followed key (Some before) = key ++ before
+abbrev pub key_and_before : List ℕ → Option (List ℕ) → List ℕ
+key_and_before key None = key
+key_and_before key (Some before) = key ++ before
 
 abbrev pub contents : model.Record → List ℕ
-contents b = followed (key_image (model.record_key b)) (before_image b)
+contents b = key_and_before (key_image (model.record_key b)) (before_image b)
 
 -- what stands between its two lengths
 abbrev pub body_image : Previous → model.Record → List ℕ

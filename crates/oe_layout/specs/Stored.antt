@@ -24,13 +24,13 @@ pub record IsStoredRecord (bytes : List ℕ) : Type 0 where
   pub image : bytes ≡ record_image previous (record_of_own before)
 
 -- what was read; where nothing was, any record
-abbrev pub told_of : Option (Previous × OwnRecord) → model.Record
-told_of None = model.InsertedHistory (record { terminal = 0; number = 0; ordinal = 1 }) None
-told_of (Some x) = record_of_own x.1
+abbrev pub record_stored : Option (Previous × OwnRecord) → model.Record
+record_stored None = model.InsertedHistory (record { terminal = 0; number = 0; ordinal = 1 }) None
+record_stored (Some x) = record_of_own x.1
 
 -- the record that stored bytes tell
-abbrev pub told : List ℕ → model.Record
-told bytes = told_of (record_at bytes)
+abbrev pub record_in_bytes : List ℕ → model.Record
+record_in_bytes bytes = record_stored (record_at bytes)
 
 -- this is the record whose image the bytes are
 abbrev pub IsTold : List ℕ → model.Record → Type 0

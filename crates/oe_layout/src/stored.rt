@@ -7,7 +7,7 @@ ghost use Rattle.oe_model.specs.Changes.{record_key};
 ghost use Rattle.oe_model.specs.Lengths.{record_length};
 ghost use Rattle.oe_layout.specs.Kinds.{kind_of};
 ghost use Rattle.oe_layout.specs.Records.{contents, record_of_own};
-ghost use Rattle.oe_layout.specs.Stored.{IsStoredRecord, told, IsTold, IsToldLinked, table_changed, deleted_key, deleted_new_order};
+ghost use Rattle.oe_layout.specs.Stored.{IsStoredRecord, record_in_bytes, IsTold, IsToldLinked, table_changed, deleted_key, deleted_new_order};
 
 use crate::kinds::{RecordKind, read_kind};
 use crate::links::{Previous, read_previous};
@@ -27,11 +27,11 @@ pub struct StoredRecord<'a> {
 
 impl<'a> Model for StoredRecord<'a> {
     ghost use Rattle.oe_model.specs.Changes.{Record};
-    ghost use Rattle.oe_layout.specs.Stored.{told, IsStoredRecord};
+    ghost use Rattle.oe_layout.specs.Stored.{record_in_bytes, IsStoredRecord};
 
     ghost Value = { Record };
 
-    ghost view = { λ s. told s.bytes.now };
+    ghost view = { λ s. record_in_bytes s.bytes.now };
 
     ghost invariant = { λ s. IsStoredRecord s.bytes.now };
 }
@@ -90,7 +90,7 @@ impl<'a> StoredRecord<'a> {
     /// Gives the record that these bytes are.
     pub fn of(bytes: &'a [u8]) -> Self
         requires { IsStoredRecord bytes.now }
-        ensures told { result ≡ told bytes.now }
+        ensures told { result ≡ record_in_bytes bytes.now }
         ensures record { IsTold bytes.now result }
     {
         StoredRecord { bytes }

@@ -7,12 +7,12 @@ abbrev pub of_key : {F K C : Type 0} → (K → K → Bool) → (F → K) → (C
 of_key same key op column facts k = total same op (map (λ f. (key f, column f)) facts) k
 
 -- the sum, or the cap where it is greater
-abbrev pub capped : ℕ → ℕ → ℕ → ℕ
-capped cap a b = min (a + b) cap
+abbrev pub sum_up_to : ℕ → ℕ → ℕ → ℕ
+sum_up_to cap a b = min (a + b) cap
 
 -- the sum as 128 bits have it
-abbrev pub wrapped : ℤ → ℤ → ℤ
-wrapped a b = int_wrap w128 (a +ℤ b)
+abbrev pub sum_in_128_bits : ℤ → ℤ → ℤ
+sum_in_128_bits a b = int_wrap w128 (a +ℤ b)
 
 -- whether one is so
 abbrev pub either : Bool → Bool → Bool

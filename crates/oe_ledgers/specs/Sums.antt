@@ -12,7 +12,7 @@ use Rattle.oe_ledgers.specs.declared.orders.CustomerOrders.{CustomerOrders}
 use Rattle.oe_ledgers.specs.declared.order_lines.LineSums.{LineSums}
 use Rattle.oe_ledgers.specs.declared.order_lines.SupplySums.{SupplySums}
 use Rattle.oe_ledgers.specs.declared.stocks.StockSums.{StockSums}
-use Rattle.oe_ledgers.specs.Columns.{capped, wrapped, either}
+use Rattle.oe_ledgers.specs.Columns.{sum_up_to, sum_in_128_bits, either}
 
 -- the greatest number of rows, and the greatest sum of numbers
 abbrev pub most : ℕ
@@ -22,16 +22,16 @@ abbrev pub greatest_sum : ℕ
 greatest_sum = 2 ^ 64 - 1
 
 abbrev pub takings_joined : Takings → Takings → Takings
-takings_joined a b = record { amount = wrapped a.amount b.amount; rows = capped most a.rows b.rows }
+takings_joined a b = record { amount = sum_in_128_bits a.amount b.amount; rows = sum_up_to most a.rows b.rows }
 
 abbrev pub warehouses_joined : WarehouseSums → WarehouseSums → WarehouseSums
-warehouses_joined a b = record { ytd = int_max a.ytd b.ytd; rows = capped most a.rows b.rows }
+warehouses_joined a b = record { ytd = int_max a.ytd b.ytd; rows = sum_up_to most a.rows b.rows }
 
 abbrev pub districts_joined : DistrictSums → DistrictSums → DistrictSums
 districts_joined a b = record {
   ytd = int_max a.ytd b.ytd;
   next_order = max a.next_order b.next_order;
-  rows = capped most a.rows b.rows;
+  rows = sum_up_to most a.rows b.rows;
 }
 
 abbrev pub customers_joined : CustomerSums → CustomerSums → CustomerSums
@@ -40,52 +40,52 @@ customers_joined a b = record {
   ytd_payment = int_max a.ytd_payment b.ytd_payment;
   payments = max a.payments b.payments;
   deliveries = max a.deliveries b.deliveries;
-  rows = capped most a.rows b.rows;
+  rows = sum_up_to most a.rows b.rows;
 }
 
 abbrev pub new_orders_joined : NewOrderSums → NewOrderSums → NewOrderSums
 new_orders_joined a b = record {
   least = min a.least b.least;
   greatest = max a.greatest b.greatest;
-  rows = capped most a.rows b.rows;
+  rows = sum_up_to most a.rows b.rows;
 }
 
 abbrev pub orders_joined : OrderSums → OrderSums → OrderSums
 orders_joined a b = record {
   customer = max a.customer b.customer;
   line_count = max a.line_count b.line_count;
-  rows = capped most a.rows b.rows;
+  rows = sum_up_to most a.rows b.rows;
   is_delivered = either a.is_delivered b.is_delivered;
   is_all_local = either a.is_all_local b.is_all_local;
 }
 
 abbrev pub district_orders_joined : DistrictOrders → DistrictOrders → DistrictOrders
 district_orders_joined a b = record {
-  lines = capped greatest_sum a.lines b.lines;
+  lines = sum_up_to greatest_sum a.lines b.lines;
   greatest = max a.greatest b.greatest;
-  rows = capped most a.rows b.rows;
+  rows = sum_up_to most a.rows b.rows;
 }
 
 abbrev pub customer_orders_joined : CustomerOrders → CustomerOrders → CustomerOrders
 customer_orders_joined a b = record {
-  rows = capped most a.rows b.rows;
-  deliveries = capped most a.deliveries b.deliveries;
+  rows = sum_up_to most a.rows b.rows;
+  deliveries = sum_up_to most a.deliveries b.deliveries;
 }
 
 abbrev pub lines_joined : LineSums → LineSums → LineSums
 lines_joined a b = record {
-  amount = wrapped a.amount b.amount;
-  rows = capped most a.rows b.rows;
-  delivered = capped most a.delivered b.delivered;
-  remotes = capped most a.remotes b.remotes;
+  amount = sum_in_128_bits a.amount b.amount;
+  rows = sum_up_to most a.rows b.rows;
+  delivered = sum_up_to most a.delivered b.delivered;
+  remotes = sum_up_to most a.remotes b.remotes;
 }
 
 abbrev pub supplies_joined : SupplySums → SupplySums → SupplySums
 supplies_joined a b = record {
-  quantity = capped greatest_sum a.quantity b.quantity;
-  rows = capped most a.rows b.rows;
-  orders = capped most a.orders b.orders;
-  remotes = capped most a.remotes b.remotes;
+  quantity = sum_up_to greatest_sum a.quantity b.quantity;
+  rows = sum_up_to most a.rows b.rows;
+  orders = sum_up_to most a.orders b.orders;
+  remotes = sum_up_to most a.remotes b.remotes;
 }
 
 abbrev pub stocks_joined : StockSums → StockSums → StockSums
@@ -94,5 +94,5 @@ stocks_joined a b = record {
   ytd = max a.ytd b.ytd;
   orders = max a.orders b.orders;
   remotes = max a.remotes b.remotes;
-  rows = capped most a.rows b.rows;
+  rows = sum_up_to most a.rows b.rows;
 }

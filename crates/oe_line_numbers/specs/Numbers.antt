@@ -3,7 +3,7 @@ use Rattle.std.specs.Prelude.{ℕ, ◌/◌, ◌%◌, ◌^◌, Bool, ◌&&◌, na
 use Rattle.std.specs.declared.cmp.Ordering.{Ordering}
 use Rattle.std.specs.Ordering.{nat_cmp, ordering_then}
 use Rattle.oe_facts.specs.declared.facts.OrderLineFact.{OrderLineFact}
-use Rattle.oe_ledgers.specs.Columns.{capped}
+use Rattle.oe_ledgers.specs.Columns.{sum_up_to}
 use Rattle.oe_ledgers.specs.Keys.{same_order, order_cmp}
 use Rattle.oe_ledgers.specs.Sums.{most}
 use Rattle.oe_line_numbers.specs.declared.numbers.LineBlock.{LineBlock}
@@ -24,7 +24,7 @@ block_cmp a b = ordering_then (order_cmp a.order b.order) (nat_cmp a.block b.blo
 
 -- the numbers and the rows of both
 abbrev pub numbers_joined : Numbers → Numbers → Numbers
-numbers_joined a b = record { seen = bit_or a.seen b.seen; rows = capped most a.rows b.rows }
+numbers_joined a b = record { seen = bit_or a.seen b.seen; rows = sum_up_to most a.rows b.rows }
 
 -- what a row brings
 abbrev pub numbers_of : OrderLineFact → Numbers

@@ -46,7 +46,7 @@ use Rattle.oe_model.specs.Requests.{IsDistrict, IsChoice, IsPayment, IsRequestLi
 use Rattle.oe_model.specs.Requests.{IsDeliveries, IsRename, IsRequest}
 use Rattle.oe_lines.specs.Grammar.{Says, HasForm, IsQuery, IsMoment, words_of, request_words, query_words}
 use Rattle.oe_lines.specs.Grammar.{customer_word, line_word, moment_word}
-use Rattle.oe_lines.specs.Reading.{begun, number_or_name, last_number_or_name, table_of, moment_of, moment_before}
+use Rattle.oe_lines.specs.Reading.{behind_word, number_or_name, last_number_or_name, table_of, moment_of, moment_before}
 use Rattle.oe_lines.specs.Rings.{layout_word}
 use Rattle.oe_lines.specs.Reading.{layout_at, ring_of}
 use Rattle.oe_lines.specs.Reading.{condition_of, audit_of, opening_of, district_of, customer_of, last_customer_of}
@@ -112,7 +112,7 @@ table_only table.Stock = refl
 -- words at the front of a line
 
 begun_some : {A : Type 0} (o : Option (List ℕ)) (read : List ℕ → Option A) (other : Option A) (x : A)
-    → begun o read other ≡ Some x
+    → behind_word o read other ≡ Some x
     → ((r : List ℕ) × (o ≡ Some r) × (read r ≡ Some x)) ⊎ (other ≡ Some x)
 begun_some None read other x e = inr e
 begun_some (Some r) read other x e = inl (r, refl, e)

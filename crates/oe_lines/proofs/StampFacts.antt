@@ -12,13 +12,13 @@ use Rattle.oe_texts.specs.Stamp.{stamp_text}
 use Rattle.oe_texts.proofs.StampFacts.{stamp_text_says}
 use Rattle.std.proofs.lemmas.List.{take-append-drop}
 use Rattle.std.proofs.lemmas.Bool.Decides.{nat_tests}
-use Rattle.oe_lines.specs.Words.{counted, stamp_of, stamp_before}
+use Rattle.oe_lines.specs.Words.{stamp_seconds, stamp_of, stamp_before}
 
 pair : (n : ℕ) → n < 100 → (48 + n / 10 - 48) * 10 + (48 + n % 10 - 48) ≡ n
 pair n h = omega arith
 
-counted_says : (s : List ℕ) (n : ℕ) → SaysStamp s n → counted s ≡ n
-unfolding counted
+counted_says : (s : List ℕ) (n : ℕ) → SaysStamp s n → stamp_seconds s ≡ n
+unfolding stamp_seconds
 counted_says s n r =
     let clock = clock_small r.hour r.minute r.second r.counted.is_time in
     let years = year_small r.year r.month r.day r.counted.is_date in
@@ -57,8 +57,9 @@ stamp_of-says s n r =
 pub stamp_found : (s : List ℕ) (n : ℕ) → stamp_of s ≡ Some n → (s ≡ stamp_text n) × (n < 6_342_969_600)
 unfolding stamp_of
 stamp_found s n e =
-    let p = picked (nat_lt (counted s) 6_342_969_600) (bytes_eq (stamp_text (counted s)) s) (counted s) n e in (
-      sym ((bytes_eq-Decides (stamp_text (counted s)) s).0 p.1) ∙ ap stamp_text p.2,
+    let p = picked (nat_lt (stamp_seconds s) 6_342_969_600) (bytes_eq (stamp_text (stamp_seconds s)) s)
+    (stamp_seconds s) n e in (
+      sym ((bytes_eq-Decides (stamp_text (stamp_seconds s)) s).0 p.1) ∙ ap stamp_text p.2,
       ltb-true n 6_342_969_600
           (rw (← p.2) p.0),
     )

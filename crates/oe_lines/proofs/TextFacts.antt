@@ -11,11 +11,11 @@ use Rattle.oe_requests.specs.declared.requests.Query.{Query}
 use Rattle.oe_requests.specs.declared.requests.Query.TheVariants as query
 use Rattle.oe_texts.specs.Stamp.{stamp_text}
 use Rattle.oe_lines.specs.Grammar.{line_word, request_words, query_words}
-use Rattle.oe_lines.specs.Texts.{joined, item_text, head_text}
+use Rattle.oe_lines.specs.Texts.{line_of_words, item_text, head_text}
 
 -- items behind a word
 pub items_joined : (word : List ℕ) (ls : List RequestLine)
-    → joined (word ∷ map line_word ls) ≡ word ++ flat_map item_text ls
+    → line_of_words (word ∷ map line_word ls) ≡ word ++ flat_map item_text ls
 items_joined word [] = sym (append-nil word)
 items_joined word (l ∷ ls) = ap (λ z. word ++ 32 ∷ z) (items_joined (line_word l) ls)
 
@@ -27,7 +27,7 @@ together a b c s f =
     ∙ (append_assoc a (32 ∷ b) (32 ∷ ((c ++ 32 ∷ s) ++ f))
     ∙ ap (λ z. a ++ 32 ∷ (b ++ 32 ∷ z)) (append_assoc c (32 ∷ s) f)))
 
-pub order_joined : (q : NewOrderRequest) → joined (request_words (request.NewOrder q))
+pub order_joined : (q : NewOrderRequest) → line_of_words (request_words (request.NewOrder q))
     ≡ codes "neworder " ++ (head_text q ++ flat_map item_text q.lines)
 order_joined q =
     let w = decimal q.district.warehouse in
@@ -39,7 +39,7 @@ order_joined q =
 
 -- a word before those of a request or a query
 pub request_behind : (word : List ℕ) (q : Request)
-    → joined (word ∷ request_words q) ≡ word ++ 32 ∷ joined (request_words q)
+    → line_of_words (word ∷ request_words q) ≡ word ++ 32 ∷ line_of_words (request_words q)
 request_behind word (request.Payment q) = refl
 request_behind word (request.NewOrder q) = refl
 request_behind word (request.Delivery q) = refl
@@ -47,6 +47,6 @@ request_behind word (request.Deliveries q) = refl
 request_behind word (request.Rename q) = refl
 
 pub query_behind : (word : List ℕ) (q : Query)
-    → joined (word ∷ query_words q) ≡ word ++ 32 ∷ joined (query_words q)
+    → line_of_words (word ∷ query_words q) ≡ word ++ 32 ∷ line_of_words (query_words q)
 query_behind word (query.Status q) = refl
 query_behind word (query.Level q) = refl

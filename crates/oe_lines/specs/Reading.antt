@@ -49,9 +49,9 @@ table_of s =
     else None
 
 -- what is read after the word, where the line begins with it
-abbrev pub begun : {A : Type 0} → Option (List ℕ) → (List ℕ → Option A) → Option A → Option A
-begun None read other = other
-begun (Some rest) read other = read rest
+abbrev pub behind_word : {A : Type 0} → Option (List ℕ) → (List ℕ → Option A) → Option A → Option A
+behind_word None read other = other
+behind_word (Some rest) read other = read rest
 
 unfoldable pub moment_of : List ℕ → Option MomentChoice
 moment_of s =
@@ -65,7 +65,7 @@ moment_of s =
 -- before a space
 unfoldable pub moment_before : List ℕ → Option (MomentChoice × List ℕ)
 moment_before s =
-    begun (after_of (codes "now ") s) (λ r. Some (moment.Now, r)) (do
+    behind_word (after_of (codes "now ") s) (λ r. Some (moment.Now, r)) (do
       p ← decimal_of s
       m ← within 0 999_999_999_999 p.0
       r ← after_of (codes " ") p.1
@@ -220,10 +220,10 @@ rename_of s = do
 
 unfoldable pub request_of : List ℕ → Option Request
 request_of s =
-    begun (after_of (codes "payment ") s) (λ r. option_map (λ p. request.Payment p) (payment_of r))
-    (begun (after_of (codes "neworder ") s) (λ r. option_map (λ q. request.NewOrder q) (new_order_of r))
-    (begun (after_of (codes "delivery ") s) (λ r. all_or_one (deliveries_of r) (delivery_of r))
-    (begun (after_of (codes "rename ") s) (λ r. option_map (λ q. request.Rename q) (rename_of r))
+    behind_word (after_of (codes "payment ") s) (λ r. option_map (λ p. request.Payment p) (payment_of r))
+    (behind_word (after_of (codes "neworder ") s) (λ r. option_map (λ q. request.NewOrder q) (new_order_of r))
+    (behind_word (after_of (codes "delivery ") s) (λ r. all_or_one (deliveries_of r) (delivery_of r))
+    (behind_word (after_of (codes "rename ") s) (λ r. option_map (λ q. request.Rename q) (rename_of r))
     None)))
 
 unfoldable pub status_of : List ℕ → Option StatusQuery
@@ -240,8 +240,8 @@ level_of s = do
 
 unfoldable pub query_of : List ℕ → Option Query
 query_of s =
-    begun (after_of (codes "status ") s) (λ r. option_map (λ q. query.Status q) (status_of r))
-    (begun (after_of (codes "level ") s) (λ r. option_map (λ q. query.Level q) (level_of r))
+    behind_word (after_of (codes "status ") s) (λ r. option_map (λ q. query.Status q) (status_of r))
+    (behind_word (after_of (codes "level ") s) (λ r. option_map (λ q. query.Level q) (level_of r))
     None)
 
 unfoldable pub reading_of : List ℕ → Option Command
@@ -267,24 +267,24 @@ terminal_of made s = option_map made (last_number 1 TERMINALS s)
 
 unfoldable pub rare_command_of : List ℕ → Option Command
 rare_command_of line =
-    begun (after_of (codes "save ") line) (terminal_of (λ t. command.Save t))
-    (begun (after_of (codes "back ") line) (terminal_of (λ t. command.Back t))
-    (begun (after_of (codes "rollback ") line) (terminal_of (λ t. command.Rollback t))
-    (begun (after_of (codes "open ") line) opening_of
-    (begun (after_of (codes "dump ") line) (λ r. option_map (λ t. command.Show (display.Rows t)) (table_of r))
-    (begun (after_of (codes "audit ") line) audit_of
-    (begun (after_of (codes "read ") line) reading_of
-    (begun (after_of (codes "waits") line) (at_end (command.Show display.Waits))
-    (begun (after_of (codes "locks") line) (at_end (command.Show display.Locks))
-    (begun (after_of (codes "purge ") line) (λ r. option_map (λ m. command.Purge m) (moment_of r))
-    (begun (after_of (codes "rewind ") line) (λ r. option_map (λ m. command.Rewind m) (moment_of r))
+    behind_word (after_of (codes "save ") line) (terminal_of (λ t. command.Save t))
+    (behind_word (after_of (codes "back ") line) (terminal_of (λ t. command.Back t))
+    (behind_word (after_of (codes "rollback ") line) (terminal_of (λ t. command.Rollback t))
+    (behind_word (after_of (codes "open ") line) opening_of
+    (behind_word (after_of (codes "dump ") line) (λ r. option_map (λ t. command.Show (display.Rows t)) (table_of r))
+    (behind_word (after_of (codes "audit ") line) audit_of
+    (behind_word (after_of (codes "read ") line) reading_of
+    (behind_word (after_of (codes "waits") line) (at_end (command.Show display.Waits))
+    (behind_word (after_of (codes "locks") line) (at_end (command.Show display.Locks))
+    (behind_word (after_of (codes "purge ") line) (λ r. option_map (λ m. command.Purge m) (moment_of r))
+    (behind_word (after_of (codes "rewind ") line) (λ r. option_map (λ m. command.Rewind m) (moment_of r))
     None))))))))))
 
 unfoldable pub command_of : List ℕ → Option Command
 command_of line =
-    begun (after_of (codes "begin ") line) beginning_of
-    (begun (after_of (codes "run ") line) (terminal_of (λ t. command.Run t))
-    (begun (after_of (codes "next ") line) (terminal_of (λ t. command.Next t))
+    behind_word (after_of (codes "begin ") line) beginning_of
+    (behind_word (after_of (codes "run ") line) (terminal_of (λ t. command.Run t))
+    (behind_word (after_of (codes "next ") line) (terminal_of (λ t. command.Next t))
     (rare_command_of line)))
 
 -- `run T` alone

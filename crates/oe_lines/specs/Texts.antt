@@ -12,12 +12,12 @@ use Rattle.oe_lines.specs.Grammar.{customer_word, line_word, words_of}
 use Rattle.oe_lines.specs.declared.commands.Command.{Command}
 
 -- words parted by blanks
-abbrev pub joined : List (List ℕ) → List ℕ
-joined words = join_with_byte 32 words
+abbrev pub line_of_words : List (List ℕ) → List ℕ
+line_of_words words = join_with_byte 32 words
 
 -- the line of a command, with the byte that ends it
 abbrev pub line_text : Command → List ℕ
-line_text c = joined (words_of c) ++ 10 ∷ []
+line_text c = line_of_words (words_of c) ++ 10 ∷ []
 
 abbrev pub district_text : DistrictKey → List ℕ
 district_text k = decimal k.warehouse ++ 32 ∷ decimal k.district

@@ -55,15 +55,15 @@ abbrev pub pair_at : ℕ → List ℕ → ℕ
 pair_at at s = (slice_index s at - 48) * 10 + (slice_index s (at + 1) - 48)
 
 -- the seconds that a stamp's text counts
-unfoldable pub counted : List ℕ → ℕ
-counted s =
+unfoldable pub stamp_seconds : List ℕ → ℕ
+stamp_seconds s =
     unsigned_abs
     (days_from_civil (pos (pair_at 0 s * 100 + pair_at 2 s)) (pair_at 5 s) (pair_at 8 s) *ℤ pos 86_400
     +ℤ pos (pair_at 11 s * 3600 + pair_at 14 s * 60 + pair_at 17 s) +ℤ pos 2_208_988_800)
 
 -- the stamp whose text this is
 unfoldable pub stamp_of : List ℕ → Option ℕ
-stamp_of s = let n = counted s in if nat_lt n SECONDS && bytes_eq (stamp_text n) s then Some n else None
+stamp_of s = let n = stamp_seconds s in if nat_lt n SECONDS && bytes_eq (stamp_text n) s then Some n else None
 
 -- a stamp in the first 19 bytes before a space, which is passed over
 unfoldable pub stamp_before : List ℕ → Option (ℕ × List ℕ)

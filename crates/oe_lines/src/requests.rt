@@ -6,7 +6,7 @@ ghost use Rattle.oe_requests.specs.declared.requests.Request.TheVariants as spec
 ghost use Rattle.oe_requests.specs.declared.requests.Query.TheVariants as asks;
 ghost use Rattle.oe_lines.specs.Grammar.{customer_word, request_words, query_words};
 ghost use Rattle.oe_texts.specs.Stamp.{stamp_text};
-ghost use Rattle.oe_lines.specs.Texts.{customer_text, district_text, head_text, item_text, joined, parties_text};
+ghost use Rattle.oe_lines.specs.Texts.{customer_text, district_text, head_text, item_text, line_of_words, parties_text};
 
 use oe_requests::{
     CustomerChoice, DeliveriesRequest, DeliveryRequest, LevelQuery, NewOrderRequest,
@@ -93,7 +93,7 @@ fn parties(out: &mut Pending, payment: &PaymentRequest)
 fn payment(out: &mut Pending, payment: &PaymentRequest)
     requires { array_vec_len out.old + 113 ≤ SIZE }
     ensures items { out.new.items
-        ≡ out.old.items ++ joined (request_words (spec.Payment payment.now)) }
+        ≡ out.old.items ++ line_of_words (request_words (spec.Payment payment.now)) }
     ensures len { array_vec_len out.new ≤ array_vec_len out.old + 113 }
 {
     text(out, b"payment ");
@@ -119,7 +119,7 @@ fn head(out: &mut Pending, order: &NewOrderRequest)
 fn order(out: &mut Pending, order: &NewOrderRequest)
     requires { array_vec_len out.old + 556 ≤ SIZE }
     ensures items { out.new.items
-        ≡ out.old.items ++ joined (request_words (spec.NewOrder order.now)) }
+        ≡ out.old.items ++ line_of_words (request_words (spec.NewOrder order.now)) }
     ensures len { array_vec_len out.new ≤ array_vec_len out.old + 556 }
 {
     text(out, b"neworder ");
@@ -131,7 +131,7 @@ fn order(out: &mut Pending, order: &NewOrderRequest)
 fn delivery(out: &mut Pending, delivery: &DeliveryRequest)
     requires { array_vec_len out.old + 61 ≤ SIZE }
     ensures items { out.new.items
-        ≡ out.old.items ++ joined (request_words (spec.Delivery delivery.now)) }
+        ≡ out.old.items ++ line_of_words (request_words (spec.Delivery delivery.now)) }
     ensures len { array_vec_len out.new ≤ array_vec_len out.old + 61 }
 {
     text(out, b"delivery ");
@@ -145,7 +145,7 @@ fn delivery(out: &mut Pending, delivery: &DeliveryRequest)
 fn deliveries(out: &mut Pending, deliveries: &DeliveriesRequest)
     requires { array_vec_len out.old + 50 ≤ SIZE }
     ensures items { out.new.items
-        ≡ out.old.items ++ joined (request_words (spec.Deliveries deliveries.now)) }
+        ≡ out.old.items ++ line_of_words (request_words (spec.Deliveries deliveries.now)) }
     ensures len { array_vec_len out.new ≤ array_vec_len out.old + 50 }
 {
     text(out, b"delivery ");
@@ -172,7 +172,7 @@ fn customer_key(out: &mut Pending, customer: &CustomerKey)
 fn rename(out: &mut Pending, rename: &RenameRequest)
     requires { array_vec_len out.old + 73 ≤ SIZE }
     ensures items { out.new.items
-        ≡ out.old.items ++ joined (request_words (spec.Rename rename.now)) }
+        ≡ out.old.items ++ line_of_words (request_words (spec.Rename rename.now)) }
     ensures len { array_vec_len out.new ≤ array_vec_len out.old + 73 }
 {
     text(out, b"rename ");
@@ -186,7 +186,7 @@ fn rename(out: &mut Pending, rename: &RenameRequest)
 /// Appends the words of a request.
 pub fn request(out: &mut Pending, request: &Request)
     requires { array_vec_len out.old + 556 ≤ SIZE }
-    ensures items { out.new.items ≡ out.old.items ++ joined (request_words request.now) }
+    ensures items { out.new.items ≡ out.old.items ++ line_of_words (request_words request.now) }
     ensures len { array_vec_len out.new ≤ array_vec_len out.old + 556 }
 {
     match request {
@@ -201,7 +201,7 @@ pub fn request(out: &mut Pending, request: &Request)
 /// Appends the words of an order status.
 fn status(out: &mut Pending, query: &StatusQuery)
     requires { array_vec_len out.old + 45 ≤ SIZE }
-    ensures items { out.new.items ≡ out.old.items ++ joined (query_words (asks.Status query.now)) }
+    ensures items { out.new.items ≡ out.old.items ++ line_of_words (query_words (asks.Status query.now)) }
     ensures len { array_vec_len out.new ≤ array_vec_len out.old + 45 }
 {
     text(out, b"status ");
@@ -213,7 +213,7 @@ fn status(out: &mut Pending, query: &StatusQuery)
 /// Appends the words of a stock level.
 fn level(out: &mut Pending, query: &LevelQuery)
     requires { array_vec_len out.old + 38 ≤ SIZE }
-    ensures items { out.new.items ≡ out.old.items ++ joined (query_words (asks.Level query.now)) }
+    ensures items { out.new.items ≡ out.old.items ++ line_of_words (query_words (asks.Level query.now)) }
     ensures len { array_vec_len out.new ≤ array_vec_len out.old + 38 }
 {
     text(out, b"level ");
@@ -225,7 +225,7 @@ fn level(out: &mut Pending, query: &LevelQuery)
 /// Appends the words of a query.
 pub fn query(out: &mut Pending, query: &Query)
     requires { array_vec_len out.old + 45 ≤ SIZE }
-    ensures items { out.new.items ≡ out.old.items ++ joined (query_words query.now) }
+    ensures items { out.new.items ≡ out.old.items ++ line_of_words (query_words query.now) }
     ensures len { array_vec_len out.new ≤ array_vec_len out.old + 45 }
 {
     match query {

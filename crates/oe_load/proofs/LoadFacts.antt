@@ -31,7 +31,7 @@ use Rattle.oe_terms.specs.declared.plans.Asked.TheVariants as asked
 use Rattle.oe_terms.specs.Plans.{asked_of}
 use Rattle.oe_model.specs.Rows.{Rows}
 use Rattle.oe_rows.specs.declared.layouts.Layout.TheVariants.{WholeRows}
-use Rattle.oe_theory.specs.Theorems.{opened}
+use Rattle.oe_theory.specs.Theorems.{world_at_opening}
 use Rattle.oe_load.specs.Loads.{Begins, opening_text, IsNext, Line, Told, none_served, script_text}
 use Rattle.oe_load.specs.declared.origins.Origin.{Origin}
 use Rattle.oe_load.specs.Loads.{begins, goes_on, waits, commits, rolls_back, reads, gives_way, purges}
@@ -280,7 +280,7 @@ next_is p s t r a b low high left e f g = record {
 -- AT THE OPENING
 
 pub script_opened : {A E : Type 0} (w : A → World system) (p : Plan) (o : Origin) (x : Rows) → Begins p o x
-    → (r : Result A E) → IfOk r (λ c. w c ≡ opened system x p.numbers.extents WholeRows)
+    → (r : Result A E) → IfOk r (λ c. w c ≡ world_at_opening system x p.numbers.extents WholeRows)
     → IfOk r (λ c. IsScript p o [] (first_state p (w c)))
 script_opened w p o x h (Ok c) e = record { base = x; begun_on = h; lines = ap (first_state p) e }
 script_opened w p o x h (Err e) u = u

@@ -10,7 +10,7 @@ use Rattle.oe_model.specs.System.{system}
 use Rattle.oe_waits.specs.Waits.{last_terminal}
 use Rattle.oe_terms.specs.declared.plans.Plan.{Plan}
 use Rattle.oe_load.specs.Flats.{behind, first_behind}
-use Rattle.oe_load.specs.Picks.{holders_of, holder_of, followed, first_after, none_named}
+use Rattle.oe_load.specs.Picks.{holders_of, holder_of, waits_end, first_after, none_named}
 
 -- ---- whom answers have named
 
@@ -47,17 +47,17 @@ nobody_is k = fun_ext (λ t. nobody k t)
 
 module _ (w : World system) (named : ℕ → Option ℕ) (t n u : ℕ) where
   abbrev goes : Option ℕ → ℕ
-  goes o = unwrap_or (option_map (λ v. if v == t then v else followed w named t n v) o) u
+  goes o = unwrap_or (option_map (λ v. if v == t then v else waits_end w named t n v) o) u
 
-  pub ends : holder_of w named u ≡ None → followed w named t (suc n) u ≡ u
+  pub ends : holder_of w named u ≡ None → waits_end w named t (suc n) u ≡ u
   ends e = ap goes e
 
-  pub comes_back : (v : ℕ) → holder_of w named u ≡ Some v → (v == t) ≡ true → followed w named t (suc n) u ≡ v
-  comes_back v e same = ap goes e ∙ cond-true (v == t) v (followed w named t n v) same
+  pub comes_back : (v : ℕ) → holder_of w named u ≡ Some v → (v == t) ≡ true → waits_end w named t (suc n) u ≡ v
+  comes_back v e same = ap goes e ∙ cond-true (v == t) v (waits_end w named t n v) same
 
   pub goes_on : (v : ℕ) → holder_of w named u ≡ Some v → (v == t) ≡ false
-      → followed w named t (suc n) u ≡ followed w named t n v
-  goes_on v e other = ap goes e ∙ cond-false (v == t) v (followed w named t n v) other
+      → waits_end w named t (suc n) u ≡ waits_end w named t n v
+  goes_on v e other = ap goes e ∙ cond-false (v == t) v (waits_end w named t n v) other
 
 -- ---- the first number that passes a test
 

@@ -4,7 +4,7 @@ use Rattle.std.specs.Prelude.{◌⊎◌}
 use Rattle.oe_theory.specs.World.{World}
 use Rattle.oe_theory.specs.Next.{Next, Answer, Rollback, Aborted, More, Committed, Busy, Rolled_back, Not_open}
 use Rattle.oe_theory.specs.Next as next
-use Rattle.oe_theory.specs.Theorems.{opened}
+use Rattle.oe_theory.specs.Theorems.{world_at_opening}
 use Rattle.oe_theory.proofs.Determined.{determined}
 use Rattle.oe_rows.specs.declared.layouts.Layout.TheVariants.{WholeRows}
 use Rattle.oe_requests.specs.declared.refusals.Refusal.TheVariants.{InvalidItem}
@@ -104,9 +104,11 @@ lines_one p s (c ∷ cs) (d ∷ ds) t u (h, mid, turn, rest) (g, after, other, m
 pub scripts_are_one : Scripts_are_one
 scripts_are_one p o a b one two =
     let same = base_one p o one.script.base two.script.base one.script.begun_on two.script.begun_on in
-    let lines = lines_one p (first_state p (opened system one.script.base p.numbers.extents WholeRows)) one.lines
+    let lines = lines_one p (first_state p
+    (world_at_opening system one.script.base p.numbers.extents WholeRows)) one.lines
     two.lines one.state two.state one.script.lines
-    (subst (λ (r : Rows). Lines p (first_state p (opened system r p.numbers.extents WholeRows)) two.lines two.state)
+    (subst (λ (r : Rows). Lines p (first_state p
+    (world_at_opening system r p.numbers.extents WholeRows)) two.lines two.state)
     (sym same) two.script.lines)
     one.done two.done
     in

@@ -4,7 +4,7 @@ use Rattle.std.specs.Prelude.{None, Some, ◌≡◌, ℕ, List, [], ◌∷◌, �
 use Rattle.std.specs.List.{flat_map}
 use Rattle.oe_theory.specs.World.{bump}
 use Rattle.oe_lines.specs.Grammar.{request_words, query_words}
-use Rattle.oe_lines.specs.Texts.{joined}
+use Rattle.oe_lines.specs.Texts.{line_of_words}
 use Rattle.rand_pcg.specs.Lcg.{Lcg}
 use Rattle.oe_terms.specs.Draws.{random}
 use Rattle.oe_terms.specs.declared.plans.Plan.{Plan}
@@ -26,7 +26,7 @@ words_of (asked.Query q) = query_words q
 
 -- the terminal and the words, as a line
 abbrev pub flat_text : ℕ → Asked → List ℕ
-flat_text t a = joined (decimal t ∷ words_of a) ++ 10 ∷ []
+flat_text t a = line_of_words (decimal t ∷ words_of a) ++ 10 ∷ []
 
 -- the terminal that comes this number of places behind one, round
 abbrev pub behind : Plan → ℕ → ℕ → ℕ

@@ -41,14 +41,14 @@ abbrev pub holder_of : World system → (ℕ → Option ℕ) → ℕ → Option 
 holder_of w named t = option_and_then (λ u. if waits_for w t u then Some u else None) (named t)
 
 -- Where the waits lead from u, n of them at most: to t where they come to it, or else to where they end.
-abbrev pub followed : World system → (ℕ → Option ℕ) → ℕ → ℕ → ℕ → ℕ
-followed w named t zero u = u
-followed w named t (suc n) u =
-    unwrap_or (option_map (λ v. if v == t then v else followed w named t n v) (holder_of w named u)) u
+abbrev pub waits_end : World system → (ℕ → Option ℕ) → ℕ → ℕ → ℕ → ℕ
+waits_end w named t zero u = u
+waits_end w named t (suc n) u =
+    unwrap_or (option_map (λ v. if v == t then v else waits_end w named t n v) (holder_of w named u)) u
 
 -- from t: to t itself where it is in a cycle
 abbrev pub end_of_waits : World system → (ℕ → Option ℕ) → ℕ → ℕ
-end_of_waits w named t = followed w named t last_terminal t
+end_of_waits w named t = waits_end w named t last_terminal t
 
 -- t waits for itself, through others
 abbrev pub is_in_cycle : World system → (ℕ → Option ℕ) → ℕ → Bool

@@ -2,7 +2,7 @@
 use Rattle.std.specs.Prelude.{◌≡◌, ℕ, ◌+◌, ◌≤◌, ◌<◌, ◌⊎◌, List, [], ◌∷◌, Option, is_some, false}
 use Rattle.oe_theory.specs.World.{World, horizon, newest, bump, set}
 use Rattle.oe_theory.specs.Next.{Next, Advance, Undo_full}
-use Rattle.oe_theory.specs.Theorems.{opened}
+use Rattle.oe_theory.specs.Theorems.{world_at_opening}
 use Rattle.oe_rows.specs.declared.layouts.Layout.TheVariants.{WholeRows}
 use Rattle.oe_requests.specs.declared.requests.Request.{Request}
 use Rattle.oe_requests.specs.declared.requests.Query.{Query}
@@ -100,10 +100,10 @@ Course p s (h ∷ hs) t = (c : Command) × (mid : State) × Course p s hs mid ×
 pub record IsScript (p : Plan) (o : Origin) (cs : List Command) (t : State) : Type 0 where
   pub base : Rows
   pub begun_on : Begins p o base
-  pub lines : Lines p (first_state p (opened system base p.numbers.extents WholeRows)) cs t
+  pub lines : Lines p (first_state p (world_at_opening system base p.numbers.extents WholeRows)) cs t
 
 -- this happened at the lines of a script behind its opening, which leave this state
 pub record IsWatched (p : Plan) (o : Origin) (hs : List Happening) (t : State) : Type 0 where
   pub base : Rows
   pub begun_on : Begins p o base
-  pub course : Course p (first_state p (opened system base p.numbers.extents WholeRows)) hs t
+  pub course : Course p (first_state p (world_at_opening system base p.numbers.extents WholeRows)) hs t

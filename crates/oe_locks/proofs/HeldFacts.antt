@@ -14,7 +14,8 @@ use Rattle.oe_rows.specs.declared.locks.Name.{Name}
 use Rattle.oe_rows.specs.declared.locks.Mode.{Mode}
 use Rattle.oe_rows.specs.declared.locks.Mode.TheVariants.{Shared, Exclusive}
 use Rattle.oe_rows.specs.contracts.locks.NamePartialEq.TheImpl.{ghosts}
-use Rattle.oe_locks.specs.Held.{Holdings, entries_of, held, is_name, go_together, risen, IsBelow, IsIdle, IsFreeFor}
+use Rattle.oe_locks.specs.Held.{Holdings, entries_of, mode_held, is_name, go_together, greater_mode, IsBelow, IsIdle}
+use Rattle.oe_locks.specs.Held.{IsFreeFor}
 use Rattle.oe_locks.specs.Held.{IsInTheWay, IsFirstAmong, Takes, GivesBack, HoldsNothing, OthersKeep, AreBusy}
 use Rattle.oe_locks.specs.Terminals.{has}
 use Rattle.oe_locks.specs.Listed.{IsListed, OthersKeepNames}
@@ -30,8 +31,8 @@ module _ (ls : Holdings) (t : ℕ) (es : Entries) (within : t < length ls) (is :
   pub entries-at : entries_of ls t ≡ es
   entries-at = get_or_default ls t [] es within ∙ sym is
 
-  pub held-at : (q : Name) → held ls t q ≡ lookup (ghosts.eq q) es
-  unfolding held
+  pub held-at : (q : Name) → mode_held ls t q ≡ lookup (ghosts.eq q) es
+  unfolding mode_held
   held-at q = ap (lookup (ghosts.eq q)) entries-at
 
   pub listed-at : IsListed ls t (keys_of es)
@@ -39,12 +40,12 @@ module _ (ls : Holdings) (t : ℕ) (es : Entries) (within : t < length ls) (is :
 
 -- a terminal that is not in the set holds nothing
 pub idle-held : (ls : Holdings) (b t : ℕ) → AreBusy b ls → has b t ≡ false → HoldsNothing ls t
-unfolding held
+unfolding mode_held
 idle-held ls b t all none q = ap (lookup (ghosts.eq q)) (all t none)
 
 -- where every list is empty nothing is held
 pub idle-empty : (ls : Holdings) → ((t : ℕ) → entries_of ls t ≡ []) → IsIdle ls
-unfolding held
+unfolding mode_held
 idle-empty ls e t q = ap (lookup (ghosts.eq q)) (e t)
 
 pub entries-replicate : (n t : ℕ) → entries_of (replicate n []) t ≡ []
@@ -66,32 +67,32 @@ module _ (ls : Holdings) (t : ℕ) (es : Entries) (within : t < length ls) where
   others-set u ne = get_or-set_other ls t u es [] ne
 
   pub keeps-set : OthersKeep ls (set ls t es) t
-  unfolding held
+  unfolding mode_held
   keeps-set u ne q = ap (lookup (ghosts.eq q)) (others-set u ne)
 
   pub names-set : OthersKeepNames ls (set ls t es) t
   names-set u ne = ap (λ l. keys_of l) (others-set u ne)
 
-  held-set : (q : Name) → held (set ls t es) t q ≡ lookup (ghosts.eq q) es
-  unfolding held
+  held-set : (q : Name) → mode_held (set ls t es) t q ≡ lookup (ghosts.eq q) es
+  unfolding mode_held
   held-set q = ap (lookup (ghosts.eq q)) entries-set
 
   -- the list was changed at one name
-  module _ (old : Entries) (was : (q : Name) → held ls t q ≡ lookup (ghosts.eq q) old) (n : Name) where
+  module _ (old : Entries) (was : (q : Name) → mode_held ls t q ≡ lookup (ghosts.eq q) old) (n : Name) where
     pub gives-back : (o : Option Mode) → Changes old es n o → GivesBack ls (set ls t es) t n o
     gives-back o changed q =
         held-set q ∙ (changed q
         ∙ (ap (λ b. cond b o (lookup (ghosts.eq q) old)) (eq_is_name n q ∙ name_sym n q)
         ∙ ap (λ z. cond (is_name q n) o z) (sym (was q))))
 
-    pub takes : (m : Mode) → Changes old es n (Some (risen m (lookup (ghosts.eq n) old)))
+    pub takes : (m : Mode) → Changes old es n (Some (greater_mode m (lookup (ghosts.eq n) old)))
         → Takes ls (set ls t es) t n m
     takes m changed q =
-        gives-back (Some (risen m (lookup (ghosts.eq n) old))) changed q
+        gives-back (Some (greater_mode m (lookup (ghosts.eq n) old))) changed q
         ∙ elim (is_name q n) as (λ b. is_name q n ≡ b
-        → (if b then Some (risen m (lookup (ghosts.eq n) old)) else held ls t q)
-        ≡ (if b then Some (risen m (held ls t q)) else held ls t q)) [
-          | true ↦ λ e. ap (λ o. Some (risen m o)) (sym (was n) ∙ ap (held ls t) (sym (name_true q n e)))
+        → (if b then Some (greater_mode m (lookup (ghosts.eq n) old)) else mode_held ls t q)
+        ≡ (if b then Some (greater_mode m (mode_held ls t q)) else mode_held ls t q)) [
+          | true ↦ λ e. ap (λ o. Some (greater_mode m o)) (sym (was n) ∙ ap (mode_held ls t) (sym (name_true q n e)))
           | false ↦ λ e. refl
         ] refl
 
@@ -122,7 +123,8 @@ module _ (ls : Holdings) (t : ℕ) (es : Entries) (within : t < length ls) where
     pub noted-set : ((k u : ℕ) → u ≢ t → may_hold new k u ≡ may_hold old k u)
         → ((q : Name) → may_hold new (mark q) t ≡ false → lookup (ghosts.eq q) es ≡ None) → AreNoted new (set ls t es)
     noted-set same own u q none = elim (cases_eq u t) [
-      | inl e ↦ ap (λ v. held (set ls t es) v q) e ∙ (held-set q ∙ own q (ap (may_hold new (mark q)) (sym e) ∙ none))
+      | inl e ↦ ap (λ v. mode_held (set ls t es) v q) e
+          ∙ (held-set q ∙ own q (ap (may_hold new (mark q)) (sym e) ∙ none))
       | inr ne ↦ keeps-set u ne q ∙ all u q (sym (same (mark q) u ne) ∙ none)
     ]
 
@@ -130,7 +132,7 @@ module _ (ls : Holdings) (t : ℕ) (es : Entries) (within : t < length ls) where
     noted-empty empty same = noted-set same (λ q none. ap (lookup (ghosts.eq q)) empty)
 
     -- the list was changed at one name
-    module _ (before : Entries) (was : (q : Name) → held ls t q ≡ lookup (ghosts.eq q) before) (n : Name) where
+    module _ (before : Entries) (was : (q : Name) → mode_held ls t q ≡ lookup (ghosts.eq q) before) (n : Name) where
       found-before : (q : Name) → may_hold old (mark q) t ≡ false → lookup (ghosts.eq q) before ≡ None
       found-before q none = sym (was q) ∙ all t q none
 
@@ -194,7 +196,7 @@ module _ (ls : Holdings) (t : ℕ) (es : Entries) (within : t < length ls) where
   ]
 
 -- a terminal that holds a name is in the set
-pub busy-below : (ls : Holdings) (b t : ℕ) (n : Name) (m : Option Mode) → AreBusy b ls → IsBelow m (held ls t n)
+pub busy-below : (ls : Holdings) (b t : ℕ) (n : Name) (m : Option Mode) → AreBusy b ls → IsBelow m (mode_held ls t n)
     → has b t ≡ true
 busy-below ls b t n m all below = go (has b t) refl
   where
@@ -215,11 +217,11 @@ below-some None (Some Exclusive) h = absurd h
 
 -- who is in the way is among those others that may hold the name
 module _ (ls : Holdings) (others t : ℕ) (n : Name) (m : Mode) (own : has others t ≡ false)
-    (none : (u : ℕ) → u ≢ t → has others u ≡ false → held ls u n ≡ None) where
-  free-for : ((u : ℕ) → has others u ≡ true → go_together m (held ls u n) ≡ true) → IsFreeFor ls t n m
+    (none : (u : ℕ) → u ≢ t → has others u ≡ false → mode_held ls u n ≡ None) where
+  free-for : ((u : ℕ) → has others u ≡ true → go_together m (mode_held ls u n) ≡ true) → IsFreeFor ls t n m
   free-for free u ne = go (has others u) refl
     where
-      go : (c : Bool) → has others u ≡ c → go_together m (held ls u n) ≡ true
+      go : (c : Bool) → has others u ≡ c → go_together m (mode_held ls u n) ≡ true
       go true e = free u e
       go false e = ap (go_together m) (none u ne e)
 
@@ -233,12 +235,13 @@ module _ (ls : Holdings) (others t : ℕ) (n : Name) (m : Mode) (own : has other
     least = λ v less ne. go v less ne (has others v) refl;
   }
     where
-      go : (v : ℕ) → v < u → v ≢ t → (c : Bool) → has others v ≡ c → go_together m (held ls v n) ≡ true
+      go : (v : ℕ) → v < u → v ≢ t → (c : Bool) → has others v ≡ c → go_together m (mode_held ls v n) ≡ true
       go v less ne true e = h.least v less e
       go v less ne false e = ap (go_together m) (none v ne e)
 
   pub in-the-way : (r : Option ℕ)
-      → MatchOption r ((u : ℕ) → has others u ≡ true → go_together m (held ls u n) ≡ true) (IsFirstAmong ls others n m)
+      → MatchOption r ((u : ℕ) → has others u ≡ true → go_together m (mode_held ls u n) ≡ true)
+      (IsFirstAmong ls others n m)
       → MatchOption r (IsFreeFor ls t n m) (IsInTheWay ls t n m)
   in-the-way None h = free-for h
   in-the-way (Some u) h = first-in-the-way u h
@@ -252,7 +255,7 @@ module _ (ls : Holdings) (b others t : ℕ) (all : AreBusy b ls)
   pub own-out : has others t ≡ false
   own-out = is t ∙ cond-true (t == t) false (has b t) (eq-eqb t t refl)
 
-  pub none-out : (n : Name) (u : ℕ) → u ≢ t → has others u ≡ false → held ls u n ≡ None
+  pub none-out : (n : Name) (u : ℕ) → u ≢ t → has others u ≡ false → mode_held ls u n ≡ None
   none-out n u ne e =
       idle-held ls b u all (sym (is u ∙ cond-false (u == t) false (has b u) (ne_eqb u t ne)) ∙ e) n
 
@@ -263,10 +266,10 @@ module _ (ls : Holdings) (b others t : ℕ) (all : AreBusy b ls)
       pub own-unasked : has asked t ≡ false
       own-unasked = both t ∙ ap (λ c. c && has those t) own-out
 
-      pub none-unasked : (u : ℕ) → u ≢ t → has asked u ≡ false → held ls u n ≡ None
+      pub none-unasked : (u : ℕ) → u ≢ t → has asked u ≡ false → mode_held ls u n ≡ None
       none-unasked u ne e = go (has others u) refl (sym (both u) ∙ e)
         where
-          go : (c : Bool) → has others u ≡ c → (c && has those u) ≡ false → held ls u n ≡ None
+          go : (c : Bool) → has others u ≡ c → (c && has those u) ≡ false → mode_held ls u n ≡ None
           go true h f = noted u n (ap (λ j. may_hold sets j u) (sym at) ∙ (sym (of u) ∙ f))
           go false h f = none-out n u ne h
 
@@ -289,10 +292,10 @@ module _ (ls : Holdings) (others left rest t : ℕ) (n : Name) (m : Mode)
       go true h = absurd (false≢true h)
       go false h = h
 
-  pub free-rest : go_together m (held ls t n) ≡ true
-      → ((u : ℕ) → has others u ≡ true → has left u ≡ false → go_together m (held ls u n) ≡ true)
-      → (u : ℕ) → has others u ≡ true → has rest u ≡ false → go_together m (held ls u n) ≡ true
+  pub free-rest : go_together m (mode_held ls t n) ≡ true
+      → ((u : ℕ) → has others u ≡ true → has left u ≡ false → go_together m (mode_held ls u n) ≡ true)
+      → (u : ℕ) → has others u ≡ true → has rest u ≡ false → go_together m (mode_held ls u n) ≡ true
   free-rest own free u e none = elim (cases_eq u t) [
-    | inl s ↦ ap (λ v. go_together m (held ls v n)) s ∙ own
+    | inl s ↦ ap (λ v. go_together m (mode_held ls v n)) s ∙ own
     | inr ne ↦ free u e (sym (cond-false (u == t) false (has left u) (ne_eqb u t ne)) ∙ (sym (is u) ∙ none))
   ]

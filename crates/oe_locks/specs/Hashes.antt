@@ -3,10 +3,10 @@ use Rattle.std.specs.Prelude.{ℕ, ◌*◌, ◌%◌, ◌^◌, List, length, fold
 use Rattle.std.specs.Int.{w32, w64, from_le_bytes}
 
 -- a number joins a state
-abbrev pub joined : ℕ → ℕ → ℕ
-joined s n = (bit_xor s n * 0x9e37_79b9_7f4a_7c15) % 2 ^ 64
+abbrev pub hash_with : ℕ → ℕ → ℕ
+hash_with s n = (bit_xor s n * 0x9e37_79b9_7f4a_7c15) % 2 ^ 64
 
 -- bytes join a state: four or eight as one number, the lowest first, and others one by one
 abbrev pub joined_bytes : ℕ → List ℕ → ℕ
-joined_bytes s bs = if nat_eq (length bs) 4 then joined s (from_le_bytes w32 bs)
-    else (if nat_eq (length bs) 8 then joined s (from_le_bytes w64 bs) else fold joined s bs)
+joined_bytes s bs = if nat_eq (length bs) 4 then hash_with s (from_le_bytes w32 bs)
+    else (if nat_eq (length bs) 8 then hash_with s (from_le_bytes w64 bs) else fold hash_with s bs)

@@ -3,7 +3,7 @@ use Rattle.std.specs.Prelude.{◌≡◌, ◌≢◌, ℕ, Bool, false, not, Optio
 use Rattle.std.specs.Prelude.{◌||◌, is_some, filter, if◌then◌else◌}
 use Rattle.oe_rows.specs.declared.locks.Name.{Name}
 use Rattle.oe_rows.specs.declared.locks.Mode.{Mode}
-use Rattle.oe_locks.specs.Held.{Holdings, held, is_name, names_of}
+use Rattle.oe_locks.specs.Held.{Holdings, mode_held, is_name, names_of}
 
 -- the name stands on the list
 abbrev pub stands : List Name → Name → Bool
@@ -17,7 +17,7 @@ AreOnce (x ∷ xs) = (stands xs x ≡ false) × AreOnce xs
 
 -- exactly the names that the terminal holds stand on the list
 abbrev pub IsListed : Holdings → ℕ → List Name → Type 0
-IsListed locks t names = (q : Name) → stands names q ≡ is_some (held locks t q)
+IsListed locks t names = (q : Name) → stands names q ≡ is_some (mode_held locks t q)
 
 -- names once one is taken: one that is there keeps its place, and a new one goes last
 abbrev pub taken_names : List Name → Name → List Name

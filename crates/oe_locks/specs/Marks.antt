@@ -5,7 +5,7 @@ use Rattle.oe_rows.specs.declared.locks.Name.{Name}
 use Rattle.oe_rows.specs.declared.locks.Name.TheVariants.{Warehouse, District, Customer, Order, Queue, Stock, Names}
 use Rattle.oe_rows.specs.declared.locks.Mode.{Mode}
 use Rattle.oe_rows.specs.contracts.locks.NamePartialEq.TheImpl.{ghosts}
-use Rattle.oe_locks.specs.Held.{Holdings, held}
+use Rattle.oe_locks.specs.Held.{Holdings, mode_held}
 use Rattle.oe_locks.specs.Terminals.{has}
 
 -- a number by which names of one transaction mostly differ
@@ -28,7 +28,7 @@ may_hold sets k t = has (get_or sets k 0) t
 
 -- a terminal that is not in the set of a name's mark does not hold the name
 abbrev pub AreNoted : List ℕ → Holdings → Type 0
-AreNoted sets locks = (t : ℕ) (q : Name) → may_hold sets (mark q) t ≡ false → held locks t q ≡ None
+AreNoted sets locks = (t : ℕ) (q : Name) → may_hold sets (mark q) t ≡ false → mode_held locks t q ≡ None
 
 -- a name has another mode, or none, and every other name the mode that it had
 abbrev pub Changes : List (Name × Mode) → List (Name × Mode) → Name → Option Mode → Type 0

@@ -4,7 +4,7 @@
 //! so names that were picked to collide cost little.
 ghost use Rattle.std.specs.Prelude.{◌≡◌, length};
 ghost use Rattle.std.specs.Int.{w32, w64, from_le_bytes};
-ghost use Rattle.oe_locks.specs.Hashes.{joined, joined_bytes};
+ghost use Rattle.oe_locks.specs.Hashes.{hash_with, joined_bytes};
 
 use std::hash::{BuildHasher, Hasher};
 
@@ -34,7 +34,7 @@ impl BuildHasher for NameHashes {
 // Gives the state that a number has joined.
 #[inline(always)]
 fn joined(state: u64, number: u64) -> u64
-    ensures { result ≡ joined state number }
+    ensures { result ≡ hash_with state number }
 {
     (state ^ number).wrapping_mul(MULTIPLIER)
 }

@@ -3,7 +3,7 @@ ghost use Rattle.std.specs.Prelude.{◌≡◌, [], Some, None, IsSome, IfSome, I
 ghost use Rattle.std.specs.Map.{lookup, keys_of};
 ghost use Rattle.oe_rows.specs.declared.locks.Name.{Name};
 ghost use Rattle.oe_rows.specs.contracts.locks.NamePartialEq.TheImpl.{ghosts};
-ghost use Rattle.oe_locks.specs.Held.{risen, go_together};
+ghost use Rattle.oe_locks.specs.Held.{greater_mode, go_together};
 ghost use Rattle.oe_locks.specs.Listed.{taken_names, given_back_names, AreOnce};
 ghost use Rattle.oe_locks.specs.Marks.{Changes};
 
@@ -93,8 +93,8 @@ impl Held {
     #[inline(always)]
     fn stays(&self, name: &Name, mode: Mode) -> Option<Mode>
         ensures there { IfSome result (λ was. lookup (ghosts.eq name.now) self.now ≡ Some was) }
-        ensures same { IfSome result (λ was. risen mode (Some was) ≡ was) }
-        ensures other { IfNone result (risen mode (lookup (ghosts.eq name.now) self.now) ≡ mode) }
+        ensures same { IfSome result (λ was. greater_mode mode (Some was) ≡ was) }
+        ensures other { IfNone result (greater_mode mode (lookup (ghosts.eq name.now) self.now) ≡ mode) }
     {
         match mode {
             Mode::Shared => self.mode(name),
@@ -107,7 +107,7 @@ impl Held {
     pub(crate) fn take(&mut self, name: &Name, mode: Mode) -> Result<Option<Mode>, AllocError>
         ensures before { IfOk result (λ was. was ≡ lookup (ghosts.eq name.now) self.old) }
         ensures own { OnOk result (Changes self.old self.new name.now
-            (Some (risen mode (lookup (ghosts.eq name.now) self.old)))) }
+            (Some (greater_mode mode (lookup (ghosts.eq name.now) self.old)))) }
         ensures order { OnOk result (keys_of self.new ≡ taken_names (keys_of self.old) name.now) }
         ensures absent { OnErr result (lookup (ghosts.eq name.now) self.old ≡ None) }
         ensures err { OnErr result (self.new ≡ self.old) }

@@ -10,7 +10,7 @@
 
 ghost use Rattle.std.specs.Prelude.{◌≡◌, ◌≢◌, [], ℕ, MatchOption, OnOk, OnErr, IfOk, IfErr, IsSome, Some, None, true};
 ghost use Rattle.oe_requests.specs.declared.refusals.Refusal.TheVariants.{NoMemory};
-ghost use Rattle.oe_locks.specs.Held.{go_together, held, names_of, IsIdle, IsFreeFor, IsInTheWay, IsFirstAmong, Takes, GivesBack, HoldsNothing, OthersKeep, IsCause, IsBelow};
+ghost use Rattle.oe_locks.specs.Held.{go_together, mode_held, names_of, IsIdle, IsFreeFor, IsInTheWay, IsFirstAmong, Takes, GivesBack, HoldsNothing, OthersKeep, IsCause, IsBelow};
 ghost use Rattle.oe_locks.specs.Terminals.{has};
 ghost use Rattle.oe_locks.specs.Listed.{given_back_names, taken_names, AreOnce, IsListed, OthersKeepNames};
 
@@ -76,7 +76,7 @@ impl Locks {
     /// Gives the mode in which the terminal holds the name, or `None` where it does not hold it.
     #[inline]
     pub fn holds(&self, name: &Name, terminal: Terminal) -> Option<Mode>
-        ensures { result ≡ held self.now terminal name.now }
+        ensures { result ≡ mode_held self.now terminal name.now }
     {
         self.held.at(terminal).mode(name)
     }
@@ -85,7 +85,7 @@ impl Locks {
     #[inline(never)]
     fn least_in_the_way(&self, name: &Name, others: TerminalSet, mode: Mode) -> Option<Terminal>
         ensures { MatchOption result
-            ((u : ℕ) → has others u ≡ true → go_together mode (held self.now u name.now) ≡ true)
+            ((u : ℕ) → has others u ≡ true → go_together mode (mode_held self.now u name.now) ≡ true)
             (IsFirstAmong self.now others name.now mode) }
     {
         let mut left = others;
@@ -136,7 +136,7 @@ impl Locks {
         terminal: Terminal,
         mode: Mode,
     ) -> Result<Option<Mode>, Refusal>
-        ensures before { IfOk result (λ was. was ≡ held self.old terminal name) }
+        ensures before { IfOk result (λ was. was ≡ mode_held self.old terminal name) }
         ensures free { OnOk result (IsFreeFor self.old terminal name mode) }
         ensures own { OnOk result (Takes self.old self.new terminal name mode) }
         ensures others { OnOk result (OthersKeep self.old self.new terminal) }
@@ -160,7 +160,7 @@ impl Locks {
     /// Lowers the mode in which the terminal holds the name, or with `None` lets go of the name.
     /// Takes no memory.
     pub fn give_back(&mut self, name: Name, terminal: Terminal, mode: Option<Mode>)
-        requires { IsBelow mode (held self.old terminal name) }
+        requires { IsBelow mode (mode_held self.old terminal name) }
         ensures own { GivesBack self.old self.new terminal name mode }
         ensures others { OthersKeep self.old self.new terminal }
         ensures order { names_of self.new terminal

@@ -309,8 +309,8 @@ module _ (y : Layout) {hs : List TerminalHead} {cs : List Head} {capacity : ℕ}
       → seen.count_at (seen_as y hs cs l) u < 4_294_967_295
       → b.terminal ≡ u → b.number ≡ x.count + 1
       → hs' ≡ set hs t (record { count = x.count; active = Some b; deletes = false; len = x.len }) → cs' ≡ cs
-      → more ≡ l.opens + 1 → length cs' + more ≤ capacity' → l' ≡ log.opened l
-      → Stands y hs' cs' capacity' l' (seen.opened (seen_as y hs cs l) u)
+      → more ≡ l.opens + 1 → length cs' + more ≤ capacity' → l' ≡ log.with_one_open_more l
+      → Stands y hs' cs' capacity' l' (seen.with_segment (seen_as y hs cs l) u)
   opened t u capacity' more x b hs' cs' l' tu low high read none below whose which eh ec em room el =
       let is = is_head t x high read in
       let closed : (head_at hs t).active ≡ None =
@@ -354,8 +354,9 @@ module _ (y : Layout) {hs : List TerminalHead} {cs : List Head} {capacity : ℕ}
   pub dropped : (t u : ℕ) (x : TerminalHead) (hs' : List TerminalHead) (l' : RecordLists)
       → t ≡ u → 1 ≤ t → t ≤ 64 → x ≡ get_or hs t x → IsSome (seen.active_at (seen_as y hs cs l) u)
       → seen.records_at (seen_as y hs cs l) u ≡ []
-      → hs' ≡ set hs t (record { count = x.count; active = None; deletes = x.deletes; len = x.len }) → l' ≡ log.closed l
-      → Stands y hs' cs capacity l' (seen.dropped (seen_as y hs cs l) u)
+      → hs' ≡ set hs t (record { count = x.count; active = None; deletes = x.deletes; len = x.len }) → l'
+      ≡ log.with_one_open_less l
+      → Stands y hs' cs capacity l' (seen.without_segment (seen_as y hs cs l) u)
   dropped t u x hs' l' tu low high read some none eh el =
       let is = is_head t x high read in
       let active = some_open t (subst (λ z. IsSome (seen.active_at (seen_as y hs cs l) z)) (sym tu) some) in
@@ -415,8 +416,8 @@ module _ (y : Layout) {hs : List TerminalHead} {cs : List Head} {capacity : ℕ}
   pub pushed : (t u : ℕ) (x : TerminalHead) (m : Bool) (n : ℕ) (r : Logged) (l' : RecordLists) → t ≡ u → 1 ≤ t → t ≤ 64
       → x ≡ get_or hs t x
       → IsSome (seen.active_at (seen_as y hs cs l) u) → (m ≡ false → x.deletes ≡ false)
-      → (m ≡ false → deleted_new_order r.before ≡ None) → l' ≡ log.pushed l t r
-      → Stands y (set hs t (head_told x m n)) cs capacity l' (seen.pushed (seen_as y hs cs l) u r)
+      → (m ≡ false → deleted_new_order r.before ≡ None) → l' ≡ log.with_newest_at l t r
+      → Stands y (set hs t (head_told x m n)) cs capacity l' (seen.with_record (seen_as y hs cs l) u r)
   pushed t u x m n r l' tu low high read some before none el =
       let is = is_head t x high read in
       rw (el, ← tu, records_are t)
@@ -426,8 +427,8 @@ module _ (y : Layout) {hs : List TerminalHead} {cs : List Head} {capacity : ℕ}
 
   -- the newest record of an open segment is taken off
   pub popped : (t u : ℕ) (x : TerminalHead) (n : ℕ) (l' : RecordLists) → t ≡ u → 1 ≤ t → t ≤ 64 → x ≡ get_or hs t x
-      → IsSome (seen.active_at (seen_as y hs cs l) u) → l' ≡ log.popped l t
-      → Stands y (set hs t (head_told x x.deletes n)) cs capacity l' (seen.popped (seen_as y hs cs l) u)
+      → IsSome (seen.active_at (seen_as y hs cs l) u) → l' ≡ log.without_newest_at l t
+      → Stands y (set hs t (head_told x x.deletes n)) cs capacity l' (seen.without_newest (seen_as y hs cs l) u)
   popped t u x n l' tu low high read some el =
       let is = is_head t x high read in
       rw (el, ← tu, records_are t)
@@ -441,7 +442,7 @@ module _ (y : Layout) {hs : List TerminalHead} {cs : List Head} {capacity : ℕ}
 
   -- where it has none, there is nothing to be taken off
   pub none_popped : (u : ℕ) → seen.records_at (seen_as y hs cs l) u ≡ []
-      → seen_as y hs cs l ≡ seen.popped (seen_as y hs cs l) u
+      → seen_as y hs cs l ≡ seen.without_newest (seen_as y hs cs l) u
   none_popped u none = sym (states_of.none_popped (seen_as y hs cs l) u none)
 
   -- ---- commits
@@ -452,8 +453,8 @@ module _ (y : Layout) {hs : List TerminalHead} {cs : List Head} {capacity : ℕ}
       → d.terminal ≡ a.terminal → d.number ≡ a.number → d.deletes ≡ x.deletes
       → hs' ≡ set hs t (record { count = m; active = left; deletes = x.deletes; len = 0 }) → cs' ≡ d ∷ cs
       → capacity' ≡ capacity
-      → l' ≡ log.sealed l t
-      → Stands y hs' cs' capacity' l' (seen.sealed (seen_as y hs cs l) u d.request d.reply)
+      → l' ≡ log.lists_after_seal l t
+      → Stands y hs' cs' capacity' l' (seen.after_seal (seen_as y hs cs l) u d.request d.reply)
   sealed t u m x a left d capacity' hs' cs' l' tu low high read active none more whose which says eh ec ecap el =
       let is = is_head t x high read in
       let of = heads.is_of hs cs capacity l.newest l.opens t x a K.heads is active in
@@ -551,8 +552,8 @@ module _ (y : Layout) (hs : List TerminalHead) (d : Head) (cs : List Head) (rs :
   reopened_at : (t n : ℕ) (x : TerminalHead) (b : SegmentOwner)
       → 1 ≤ t → t ≤ 64 → d.terminal ≡ t → x ≡ get_or hs t x → (head_at hs t).active ≡ None → b ≡ head_owner d
       → Stands y (set hs t (record { count = x.count - 1; active = Some b; deletes = d.deletes; len = n })) cs capacity
-      (log.reopened below t)
-      (seen.reopened (seen_as y hs (d ∷ cs) below) (seen_as y hs (d ∷ cs) below).committed)
+      (log.lists_with_reopening below t)
+      (seen.with_reopening (seen_as y hs (d ∷ cs) below) (seen_as y hs (d ∷ cs) below).committed)
   reopened_at t n x b low high whose read closed same =
       let is = is_head y K t x high read in
       let counted : x.count ≡ seen.count_at (seen_as y hs (d ∷ cs) below) t = ap (λ z. z.count) is ∙ sym
@@ -591,7 +592,7 @@ pub reopened : (y : Layout) (hs hs' : List TerminalHead) (cs cs' : List Head) (d
     → cs ≡ d ∷ cs' → capacity' ≡ capacity → t ≡ u → 1 ≤ t → t ≤ 64 → d.terminal ≡ u → x ≡ get_or hs t x
     → (head_at hs t).active ≡ None → b ≡ head_owner d
     → m ≡ d.deletes → hs' ≡ set hs t (record { count = x.count - 1; active = Some b; deletes = m; len = n })
-    → l' ≡ log.reopened (record {
+    → l' ≡ log.lists_with_reopening (record {
       extents = extents;
       opens = opens;
       active = active;
@@ -599,7 +600,7 @@ pub reopened : (y : Layout) (hs hs' : List TerminalHead) (cs cs' : List Head) (d
       newest = newest;
     }) t
     → Stands y hs' cs' capacity' l'
-    (seen.reopened (seen_as y hs cs
+    (seen.with_reopening (seen_as y hs cs
     (record { extents = extents; opens = opens; active = active; committed = committed; newest = newest })) (commits
     cs committed))
 reopened y hs hs' cs cs' d capacity capacity' extents opens newest active [] t u n x m b l' K ec ecap tu low high whose
@@ -615,7 +616,7 @@ reopened y hs hs' cs cs' d capacity capacity' extents opens newest active (rs �
     rw (now, ecap, el)
     (subst (λ ds. Stands y (set hs t (record { count = x.count - 1; active = Some b; deletes = d.deletes; len = n }))
     cs'
-    capacity (log.reopened l t) (seen.reopened (seen_as y hs ds l) (commits ds (rs ∷ rss)))) (sym ec)
+    capacity (log.lists_with_reopening l t) (seen.with_reopening (seen_as y hs ds l) (commits ds (rs ∷ rss)))) (sym ec)
     (reopened_at y hs d cs' rs rss capacity extents opens newest active (subst (λ ds. Keeps hs ds capacity l) ec K) t n
     x
     b low high (whose ∙ sym tu) read closed same))

@@ -51,9 +51,10 @@ shorter (suc n) (x ∷ xs) = omega (arith, shorter n xs)
 module _ {r : ring.RingStrings} {lens cls : List ℕ} {opens : ℕ} (newest : ℕ) (k : HoldsRecords r lens cls opens) where
   pub sealed : (t n room' opens' newest' : ℕ) (r' : ring.RingStrings) (lens' cls' : List ℕ) → t < 65
       → n ≡ get_or lens t n → 0 < opens
-      → r' ≡ record (ring.sealed_at r t) { room = room' } → room' + 1 ≡ r.room → lens' ≡ set lens t 0 → cls' ≡ n ∷ cls
+      → r' ≡ record (ring.after_seal_at r t) { room = room' } → room' + 1 ≡ r.room → lens' ≡ set lens t 0 → cls' ≡ n
+      ∷ cls
       → opens' ≡ opens - 1 → newest' ≡ suc newest
-      → Stands r' lens' cls' opens' newest' (log.sealed (lists_of r opens newest) t)
+      → Stands r' lens' cls' opens' newest' (log.lists_after_seal (lists_of r opens newest) t)
   sealed t n room' opens' newest' r' lens' cls' lt el some er room ed ec eo en =
       let len = len_at newest k t n lt el in
       rw er
@@ -113,10 +114,10 @@ module _ {r : ring.RingStrings} {lens cls : List ℕ} {opens : ℕ} (newest : �
   empty_slot t e = none_in (get_or r.active t []) (are_at r.active t k.active_are) (sym (at_slot r.active t) ∙ e)
 
   pub reopened : (t n room' opens' newest' : ℕ) (r' : ring.RingStrings) (lens' cls' : List ℕ) → cls ≡ n ∷ cls'
-      → r' ≡ record (ring.reopened_at r t) { room = room' } → ring.capacity_of r' ≡ ring.capacity_of r
+      → r' ≡ record (ring.after_reopening_at r t) { room = room' } → ring.capacity_of r' ≡ ring.capacity_of r
       → lens' ≡ set lens t n
       → opens' ≡ suc opens → newest' ≡ newest - 1
-      → Stands r' lens' cls' opens' newest' (log.reopened (lists_of r opens newest) t)
+      → Stands r' lens' cls' opens' newest' (log.lists_with_reopening (lists_of r opens newest) t)
   reopened t n room' opens' newest' r' lens' cls' ec er eroom ed eo en =
       let f = first_is r.committed n cls' (sym ec ∙ k.committed_lens_are) in
       let room : length (drop 1 r.committed) + room' ≡ length r.committed + r.room =

@@ -14,8 +14,9 @@ use Rattle.oe_theory.specs.Undo.{no_records}
 use Rattle.oe_theory.specs.Store.{commit_count}
 use Rattle.oe_log.specs.Records.{Logged}
 use Rattle.oe_log.specs.Log.{SegmentLog, Open, TerminalState, Committed, idle, state_at, records_in, active_at}
-use Rattle.oe_log.specs.Log.{records_at, count_at, idle_terminals, no_segments, opened, pushed, popped, sealed, dropped}
-use Rattle.oe_log.specs.Log.{with_newest, reopened}
+use Rattle.oe_log.specs.Log.{records_at, count_at, idle_terminals, no_segments, with_segment, with_record}
+use Rattle.oe_log.specs.Log.{without_newest, after_seal, without_segment}
+use Rattle.oe_log.specs.Log.{with_newest, with_reopening}
 use Rattle.oe_log.specs.Stands.{model_records, undo_of, seal_of, seals_of, counts_of}
 use Rattle.oe_log.specs.Laws.{StandAlike, StandsWith, StandsSealed, StandsCut, StandsReopened}
 use Rattle.oe_log.proofs.StateFacts.{known, seen_set, seen_same, records_stand}
@@ -39,11 +40,11 @@ alike v t s records counts =
       layout = refl;
     }
 
-pub opens : (v : SegmentLog) (t : ℕ) → active_at v t ≡ None → StandAlike (opened v t) v
+pub opens : (v : SegmentLog) (t : ℕ) → active_at v t ≡ None → StandAlike (with_segment v t) v
 opens v t closed = alike v t _ (sym (ap (λ a. model_records (records_in a)) closed)) refl
 
 pub pushes : (v : SegmentLog) (t : ℕ) (o : Open) (r : Logged) → active_at v t ≡ Some o
-    → StandsWith (pushed v t r) v t (r.before ∷ (undo_of v).active t)
+    → StandsWith (with_record v t r) v t (r.before ∷ (undo_of v).active t)
 pushes v t o r is = records_stand v t o (r ∷ records_at v t) is
 
 drop_records : (rs : List Logged) → model_records (drop 1 rs) ≡ drop 1 (model_records rs)
@@ -51,12 +52,12 @@ drop_records [] = refl
 drop_records (r ∷ rs) = refl
 
 pub pops : (v : SegmentLog) (t : ℕ) (o : Open) → active_at v t ≡ Some o
-    → StandsWith (popped v t) v t (drop 1 ((undo_of v).active t))
-pops v t o is = subst (λ bs. StandsWith (popped v t) v t bs) (drop_records (records_at v t))
+    → StandsWith (without_newest v t) v t (drop 1 ((undo_of v).active t))
+pops v t o is = subst (λ bs. StandsWith (without_newest v t) v t bs) (drop_records (records_at v t))
     (records_stand v t o (drop 1 (records_at v t)) is)
 
 pub seals : (v : SegmentLog) (t : ℕ) (o : Open) (q : Request) (y : Reply) → active_at v t ≡ Some o
-    → StandsSealed (sealed v t q y) v t q y
+    → StandsSealed (after_seal v t q y) v t q y
 seals v t o q y is =
     let s : TerminalState = record { count = suc (count_at v t); active = None } in
     let active = seen_set see_records v.terminals t s (known v t o is) in
@@ -67,7 +68,7 @@ seals v t o q y is =
       layout = refl;
     }
 
-pub drops : (v : SegmentLog) (t : ℕ) → records_at v t ≡ [] → StandAlike (dropped v t) v
+pub drops : (v : SegmentLog) (t : ℕ) → records_at v t ≡ [] → StandAlike (without_segment v t) v
 drops v t empty = alike v t _ (sym (ap model_records empty)) refl
 
 -- the newest commits alone
@@ -114,9 +115,9 @@ less_counted v c a u =
 
 -- the newest commit opened again
 pub reopens : (v : SegmentLog) (c : Committed) (cs : List Committed) → v.committed ≡ c ∷ cs
-    → c.terminal < length v.terminals → StandsReopened (reopened v v.committed) v c
+    → c.terminal < length v.terminals → StandsReopened (with_reopening v v.committed) v c
 reopens v c cs e within =
-    subst (λ z. StandsReopened (reopened v z) v c) (sym e)
+    subst (λ z. StandsReopened (with_reopening v z) v c) (sym e)
     (let a : Option Open = Some (record { terminal = c.terminal; number = c.number; records = c.records }) in
     let s : TerminalState = record { count = count_at v c.terminal - 1; active = a } in
     let active = seen_set see_records v.terminals c.terminal s within in

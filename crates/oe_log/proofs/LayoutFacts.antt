@@ -11,7 +11,8 @@ use Rattle.oe_log.specs.declared.heads.TerminalHead.{TerminalHead}
 use Rattle.oe_log.specs.Records.{Logged}
 use Rattle.oe_log.specs.Log.{SegmentLog, Open, TerminalState, Committed, idle, idle_terminals, no_segments, AreOf}
 use Rattle.oe_log.specs.Log.{AreOfLayout, records_in, records_of, active_at, records_at, committed_records, count_at}
-use Rattle.oe_log.specs.Log.{with_state, with_records, opened, pushed, popped, sealed, dropped, with_newest, reopened}
+use Rattle.oe_log.specs.Log.{with_state, with_records, with_segment, with_record, without_newest, after_seal}
+use Rattle.oe_log.specs.Log.{without_segment, with_newest, with_reopening}
 use Rattle.oe_log.specs.Kept.{Head, IsLog}
 use Rattle.oe_log.proofs.KeptFacts.{Stands}
 use Rattle.oe_log.proofs.LawFacts.{idle_at}
@@ -66,7 +67,7 @@ none_of e y = record {
   committed = λ later. tt;
 }
 
-pub opened_of : (v : SegmentLog) (t : ℕ) → AreOfLayout v → AreOfLayout (opened v t)
+pub opened_of : (v : SegmentLog) (t : ℕ) → AreOfLayout v → AreOfLayout (with_segment v t)
 opened_of v t h =
     state_of v t
     (record {
@@ -74,17 +75,17 @@ opened_of v t h =
       active = Some (record { terminal = t; number = suc (count_at v t); records = [] });
     }) tt h
 
-pub dropped_of : (v : SegmentLog) (t : ℕ) → AreOfLayout v → AreOfLayout (dropped v t)
+pub dropped_of : (v : SegmentLog) (t : ℕ) → AreOfLayout v → AreOfLayout (without_segment v t)
 dropped_of v t h = state_of v t (record { count = count_at v t; active = None }) tt h
 
 pub pushed_of : (v : SegmentLog) (t : ℕ) (r : Logged) → IsOfLayout v.layout r.before → AreOfLayout v
-    → AreOfLayout (pushed v t r)
+    → AreOfLayout (with_record v t r)
 pushed_of v t r own h = with_of v t (r ∷ records_at v t) (own, h.active t) h
 
-pub popped_of : (v : SegmentLog) (t : ℕ) → AreOfLayout v → AreOfLayout (popped v t)
+pub popped_of : (v : SegmentLog) (t : ℕ) → AreOfLayout v → AreOfLayout (without_newest v t)
 popped_of v t h = with_of v t (drop 1 (records_at v t)) (older_of v.layout (records_at v t) (h.active t)) h
 
-pub sealed_of : (v : SegmentLog) (t : ℕ) (q : Request) (y : Reply) → AreOfLayout v → AreOfLayout (sealed v t q y)
+pub sealed_of : (v : SegmentLog) (t : ℕ) (q : Request) (y : Reply) → AreOfLayout v → AreOfLayout (after_seal v t q y)
 sealed_of v t q y h = record {
   active = state_set v.layout v.terminals t (record { count = suc (count_at v t); active = None }) tt h.active;
   committed = go;
@@ -107,7 +108,7 @@ newest_of v n h = record { active = h.active; committed = taken_of v.layout n v.
 
 pub reopened_of : (v : SegmentLog) (cs : List Committed)
     → ((later : ℕ) → AreOf v.layout (get_or (map records_of cs) later [])) → AreOfLayout v
-    → AreOfLayout (reopened v cs)
+    → AreOfLayout (with_reopening v cs)
 reopened_of v [] own h = h
 reopened_of v (c ∷ cs) own h = record {
   active = state_set v.layout v.terminals c.terminal

@@ -32,28 +32,28 @@ no_records e =
     record { extents = e; opens = 0; active = no_lists; committed = []; newest = 0 }
 
 -- another segment open
-abbrev pub opened : RecordLists → RecordLists
-opened v = record v { opens = suc v.opens }
+abbrev pub with_one_open_more : RecordLists → RecordLists
+with_one_open_more v = record v { opens = suc v.opens }
 
 -- one open segment less
-abbrev pub closed : RecordLists → RecordLists
-closed v = record v { opens = v.opens - 1 }
+abbrev pub with_one_open_less : RecordLists → RecordLists
+with_one_open_less v = record v { opens = v.opens - 1 }
 
 -- a terminal has these records
 abbrev pub with_records : RecordLists → ℕ → List Logged → RecordLists
 with_records v t rs = record v { active = set v.active t rs }
 
 -- a terminal has a record more
-abbrev pub pushed : RecordLists → ℕ → Logged → RecordLists
-pushed v t r = with_records v t (r ∷ records_at v t)
+abbrev pub with_newest_at : RecordLists → ℕ → Logged → RecordLists
+with_newest_at v t r = with_records v t (r ∷ records_at v t)
 
 -- a terminal is without its newest record
-abbrev pub popped : RecordLists → ℕ → RecordLists
-popped v t = with_records v t (drop 1 (records_at v t))
+abbrev pub without_newest_at : RecordLists → ℕ → RecordLists
+without_newest_at v t = with_records v t (drop 1 (records_at v t))
 
 -- a terminal's records are those of the newest commit
-abbrev pub sealed : RecordLists → ℕ → RecordLists
-sealed v t =
+abbrev pub lists_after_seal : RecordLists → ℕ → RecordLists
+lists_after_seal v t =
     record {
       extents = v.extents;
       opens = v.opens - 1;
@@ -63,8 +63,8 @@ sealed v t =
     }
 
 -- a terminal has the records of the newest commit, which is gone, and its moment with it
-abbrev pub reopened : RecordLists → ℕ → RecordLists
-reopened v t =
+abbrev pub lists_with_reopening : RecordLists → ℕ → RecordLists
+lists_with_reopening v t =
     record {
       extents = v.extents;
       opens = suc v.opens;

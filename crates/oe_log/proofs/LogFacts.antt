@@ -6,7 +6,7 @@ use Rattle.std.proofs.lemmas.List.{length-set, map-set, get_or-map, get_or-set_s
 use Rattle.oe_extent.specs.declared.extents.Address.{Address}
 use Rattle.oe_extent.specs.Free.{FreeExtents}
 use Rattle.oe_extent.specs.Ring as ring
-use Rattle.oe_log.specs.Records.{Logged, logged, newest_of}
+use Rattle.oe_log.specs.Records.{Logged, log_entry, newest_of}
 use Rattle.oe_log.proofs.Lists as log
 use Rattle.oe_log.specs.Strings.{record_address, records_in, AreRecords, HoldsRecords}
 use Rattle.oe_log.proofs.Lists.{lists_of}
@@ -108,8 +108,8 @@ module _ {r : ring.RingStrings} {lens cls : List ℕ} {opens : ℕ} (newest : �
             (map-set records_in r.active t ss ∙ ap (set (map records_in r.active) t) es);
       }
 
-  pub popped : (t n : ℕ) (r' : ring.RingStrings) → t < 65 → n ≡ get_or lens t n → r' ≡ ring.popped_at r t
-      → Stands r' (set lens t (n - 1)) cls opens newest (log.popped (lists_of r opens newest) t)
+  pub popped : (t n : ℕ) (r' : ring.RingStrings) → t < 65 → n ≡ get_or lens t n → r' ≡ ring.without_string_at r t
+      → Stands r' (set lens t (n - 1)) cls opens newest (log.without_newest_at (lists_of r opens newest) t)
   popped t n r' lt e er =
       let ss = get_or r.active t [] in
       let are = are_at r.active t k.active_are in
@@ -120,24 +120,26 @@ module _ {r : ring.RingStrings} {lens cls : List ℕ} {opens : ℕ} (newest : �
 
   pub pushed : (t n : ℕ) (r' : ring.RingStrings) (a : Address) (p : Previous) (l : LentRecord) → t < 65
       → n ≡ get_or lens t n
-      → IsPrevious p → IsInRanges (record_of_lent l) → r' ≡ ring.pushed_at r t a (record_image p (record_of_lent l))
+      → IsPrevious p → IsInRanges (record_of_lent l) → r'
+      ≡ ring.with_string_at r t a (record_image p (record_of_lent l))
       → Stands r' (set lens t (n + 1)) cls opens newest
-      (log.pushed (lists_of r opens newest) t (logged (record_address a) p (record_of_lent l)))
+      (log.with_newest_at (lists_of r opens newest) t (log_entry (record_address a) p (record_of_lent l)))
   pushed t n r' a p l lt e hp hb er =
       let ss = get_or r.active t [] in
       let are = are_at r.active t k.active_are in
       let s : ring.Addressed = record { address = a; bytes = record_image p (record_of_lent l) } in
       let size : n + 1 ≡ length (s ∷ ss) = omega (arith, len_at t n lt e) in
       changed t (n + 1) r' _ (set lens t (n + 1)) (s ∷ ss)
-      (logged (record_address a) p (record_of_lent l) ∷ log.records_at (lists_of r opens newest) t)
+      (log_entry (record_address a) p (record_of_lent l) ∷ log.records_at (lists_of r opens newest) t)
       (written_is p l hp hb, are) er refl size
       (seen_lent a p l ss hp hb
-      ∙ ap (λ (rs : List Logged). logged (record_address a) p (record_of_lent l) ∷ rs) (sym (at_slot r.active t)))
+      ∙ ap (λ (rs : List Logged). log_entry (record_address a) p (record_of_lent l) ∷ rs) (sym (at_slot r.active t)))
 
   -- which are not more than fit a word
   pub pushed_few : (t n : ℕ) (r' : ring.RingStrings) (a : Address) (p : Previous) (l : LentRecord) → t < 65
       → n ≡ get_or lens t n
-      → IsPrevious p → IsInRanges (record_of_lent l) → r' ≡ ring.pushed_at r t a (record_image p (record_of_lent l))
+      → IsPrevious p → IsInRanges (record_of_lent l) → r'
+      ≡ ring.with_string_at r t a (record_image p (record_of_lent l))
       → ring.used_of r' ≤ r'.extents
       → n + 1 ≤ 16_777_216
   pushed_few t n r' a p l lt e hp hb er used =

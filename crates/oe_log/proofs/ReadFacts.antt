@@ -6,7 +6,7 @@ use Rattle.oe_model.specs.Changes.{Record}
 use Rattle.oe_layout.specs.declared.links.RecordAddress.{RecordAddress}
 use Rattle.oe_layout.specs.declared.links.Previous.{Previous}
 use Rattle.oe_layout.specs.Records.{record_of_own}
-use Rattle.oe_log.specs.Records.{Logged, logged, IsAmong, HasAddress}
+use Rattle.oe_log.specs.Records.{Logged, log_entry, IsAmong, HasAddress}
 use Rattle.oe_log.specs.Strings.{records_in, AreRecords}
 use Rattle.oe_layout.specs.Stored.{IsStoredRecord, IsToldLinked}
 use Rattle.oe_log.proofs.RecordFacts.{seen, at_slot, are_at, ring_address, record_of}
@@ -21,8 +21,8 @@ pub record IsString (ss : List (ring.Addressed)) (a : RecordAddress) (p : Previo
 
 module _ (a : RecordAddress) (p : Previous) (b : Record) where
   first_or_older : (s : ring.Addressed) (ss : List (ring.Addressed)) (h : IsStoredRecord s.bytes)
-      → IsAmong (logged a p b) (record_of s.address s.bytes h ∷ records_in ss)
-      → (IsAmong (logged a p b) (records_in ss) → IsString ss a p b) → IsString (s ∷ ss) a p b
+      → IsAmong (log_entry a p b) (record_of s.address s.bytes h ∷ records_in ss)
+      → (IsAmong (log_entry a p b) (records_in ss) → IsString ss a p b) → IsString (s ∷ ss) a p b
   first_or_older s ss h (inl e) older = record {
     bytes = s.bytes;
     stands = inl (ap (λ (r : Logged). record { address = ring_address r.address; bytes = s.bytes }) e);
@@ -34,15 +34,16 @@ module _ (a : RecordAddress) (p : Previous) (b : Record) where
       let i = older k in
       record { bytes = i.bytes; stands = inr i.stands; is = i.is; previous = i.previous; before = i.before }
 
-  string_of : (ss : List (ring.Addressed)) → AreRecords ss → IsAmong (logged a p b) (records_in ss) → IsString ss a p b
+  string_of : (ss : List (ring.Addressed)) → AreRecords ss → IsAmong (log_entry a p b) (records_in ss)
+      → IsString ss a p b
   string_of [] h k = absurd k
   string_of (s ∷ ss) h k =
-      first_or_older s ss h.0 (subst (IsAmong (logged a p b)) (seen s ss h.0) k) (string_of ss h.1)
+      first_or_older s ss h.0 (subst (IsAmong (log_entry a p b)) (seen s ss h.0) k) (string_of ss h.1)
 
   pub string_at : (xs : List (List (ring.Addressed))) (i : ℕ) → AllByRecursion AreRecords xs
-      → IsAmong (logged a p b) (get_or (map records_in xs) i [])
+      → IsAmong (log_entry a p b) (get_or (map records_in xs) i [])
       → IsString (get_or xs i []) a p b
-  string_at xs i h k = string_of (get_or xs i []) (are_at xs i h) (subst (IsAmong (logged a p b)) (at_slot xs i) k)
+  string_at xs i h k = string_of (get_or xs i []) (are_at xs i h) (subst (IsAmong (log_entry a p b)) (at_slot xs i) k)
 
 pub has_string : (a : RecordAddress) (xs : List (List (ring.Addressed))) (i : ℕ) → AllByRecursion AreRecords xs
     → HasAddress (get_or (map records_in xs) i []) a
@@ -63,7 +64,7 @@ is_stored a xs i bytes h has there =
 
 pub linked_there : (a : RecordAddress) (p : Previous) (b : Record) (xs : List (List (ring.Addressed))) (i : ℕ)
     (bytes : List ℕ) (x : Previous × Record)
-    → AllByRecursion AreRecords xs → IsAmong (logged a p b) (get_or (map records_in xs) i [])
+    → AllByRecursion AreRecords xs → IsAmong (log_entry a p b) (get_or (map records_in xs) i [])
     → ring.IsStringAt (get_or xs i []) (ring_address a) bytes
     → IsToldLinked bytes x → x ≡ (p, b)
 linked_there a p b xs i bytes x h k there told =

@@ -18,22 +18,22 @@ counted_step l n f true e some h = let le = leb-true l f.1 e in omega (arith, le
 counted_step l n f false e some h = omega (arith, some, h)
 
 counted : (ss : List (ring.Addressed)) → AreRecords ss
-    → length ss + (ring.filled (ring.lengths_of ss)).1 ≤ 4096 * (ring.filled (ring.lengths_of ss)).0
+    → length ss + (ring.fill_of (ring.lengths_of ss)).1 ≤ 4096 * (ring.fill_of (ring.lengths_of ss)).0
 counted [] h = omega arith
 counted (s ∷ ss) h =
-    counted_step (length s.bytes) (length ss) (ring.filled (ring.lengths_of ss))
-    (nat_le (length s.bytes) (ring.filled (ring.lengths_of ss)).1) refl
+    counted_step (length s.bytes) (length ss) (ring.fill_of (ring.lengths_of ss))
+    (nat_le (length s.bytes) (ring.fill_of (ring.lengths_of ss)).1) refl
     (some_bytes s.bytes h.0) (counted ss h.1)
 
 abbrev extents_of : List (ring.Addressed) → ℕ
-extents_of ss = (ring.filled (ring.lengths_of ss)).0
+extents_of ss = (ring.fill_of (ring.lengths_of ss)).0
 
 one_of_sum : (xs : List (List (ring.Addressed))) (t : ℕ)
-    → extents_of (get_or xs t []) ≤ sum_by (λ ss. (ring.filled (ring.lengths_of ss)).0) xs
+    → extents_of (get_or xs t []) ≤ sum_by (λ ss. (ring.fill_of (ring.lengths_of ss)).0) xs
 one_of_sum [] t = omega arith
-one_of_sum (x ∷ xs) zero = omega (arith, sum_by-cons (λ ss. (ring.filled (ring.lengths_of ss)).0) x xs)
+one_of_sum (x ∷ xs) zero = omega (arith, sum_by-cons (λ ss. (ring.fill_of (ring.lengths_of ss)).0) x xs)
 one_of_sum (x ∷ xs) (suc t) =
-    omega (arith, one_of_sum xs t, sum_by-cons (λ ss. (ring.filled (ring.lengths_of ss)).0) x xs)
+    omega (arith, one_of_sum xs t, sum_by-cons (λ ss. (ring.fill_of (ring.lengths_of ss)).0) x xs)
 
 -- a slot has no more records than bytes
 pub few : (r : ring.RingStrings) (t : ℕ) → AreRecords (get_or r.active t []) → ring.used_of r ≤ r.extents
@@ -43,15 +43,15 @@ few r t h used most = omega (arith, counted (get_or r.active t []) h, one_of_sum
 
 -- how many extents records fill, their strings fill
 pub same_used : (xs : List (List (ring.Addressed))) → AllByRecursion AreRecords xs
-    → sum_by (λ rs. (ring.filled (lengths rs)).0) (map records_in xs) ≡ sum_by
-    (λ ss. (ring.filled (ring.lengths_of ss)).0) xs
+    → sum_by (λ rs. (ring.fill_of (lengths rs)).0) (map records_in xs) ≡ sum_by
+    (λ ss. (ring.fill_of (ring.lengths_of ss)).0) xs
 same_used [] h = refl
 same_used (x ∷ xs) h =
-    let first = ap (λ (ls : List ℕ). (ring.filled ls).0) (lengths_are x h.0) in
+    let first = ap (λ (ls : List ℕ). (ring.fill_of ls).0) (lengths_are x h.0) in
     omega (
       arith,
       first,
       same_used xs h.1,
-      sum_by-cons (λ rs. (ring.filled (lengths rs)).0) (records_in x) (map records_in xs),
-      sum_by-cons (λ ss. (ring.filled (ring.lengths_of ss)).0) x xs,
+      sum_by-cons (λ rs. (ring.fill_of (lengths rs)).0) (records_in x) (map records_in xs),
+      sum_by-cons (λ ss. (ring.fill_of (ring.lengths_of ss)).0) x xs,
     )

@@ -8,7 +8,7 @@ use Rattle.std.proofs.lemmas.List.{get_or-set_same, get_or-set_other, get_or_pas
 use Rattle.oe_model.specs.Changes.{Record}
 use Rattle.oe_log.specs.Records.{Logged}
 use Rattle.oe_log.specs.Log.{SegmentLog, Open, TerminalState, idle, records_in, active_at, records_at, count_at}
-use Rattle.oe_log.specs.Log.{with_records, pushed, popped}
+use Rattle.oe_log.specs.Log.{with_records, with_record, without_newest}
 use Rattle.oe_log.specs.Stands.{model_records, undo_of}
 use Rattle.oe_log.specs.Laws.{StandsWith}
 
@@ -104,7 +104,7 @@ own_records v t =
 
 -- without the newest of them
 pub one_popped : (v : SegmentLog) (t : ℕ) (o : Open) (rs : List Logged) → active_at v t ≡ Some o
-    → popped (with_records v t rs) t ≡ with_records v t (drop 1 rs)
+    → without_newest (with_records v t rs) t ≡ with_records v t (drop 1 rs)
 one_popped v t o rs e =
     let s : TerminalState = record { count = count_at v t; active = with_those rs (active_at v t) } in
     let less : TerminalState → TerminalState =
@@ -118,11 +118,11 @@ one_popped v t o rs e =
 
 -- a record that is pushed and popped leaves the log as it was
 pub pushed_popped : (v : SegmentLog) (t : ℕ) (o : Open) (r : Logged) → active_at v t ≡ Some o
-    → popped (pushed v t r) t ≡ v
+    → without_newest (with_record v t r) t ≡ v
 pushed_popped v t o r e = one_popped v t o (r ∷ records_at v t) e ∙ own_records v t
 
 -- without a record there is none to be taken off
-pub none_popped : (v : SegmentLog) (t : ℕ) → records_at v t ≡ [] → popped v t ≡ v
+pub none_popped : (v : SegmentLog) (t : ℕ) → records_at v t ≡ [] → without_newest v t ≡ v
 none_popped v t e = ap (λ rs. with_records v t (drop 1 rs)) e ∙ ap (with_records v t) (sym e) ∙ own_records v t
 
 -- in the theory's words

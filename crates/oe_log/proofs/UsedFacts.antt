@@ -16,7 +16,7 @@ use Rattle.oe_log.specs.Stands.{model_records, undo_of}
 use Rattle.oe_log.specs.Laws.{IsFullIn}
 
 -- strings fill extents as the theory's records do
-same_filled : (ls : List ℕ) → theory.filled system ls ≡ ring.filled ls
+same_filled : (ls : List ℕ) → theory.fill_of system ls ≡ ring.fill_of ls
 same_filled [] = refl
 same_filled (l ∷ ls) = ap (λ (f : ℕ × ℕ). cond {A = ℕ × ℕ} (nat_le l f.1) (f.0, f.1 - l) (suc f.0, 4096 - l))
     (same_filled ls)
@@ -27,13 +27,13 @@ unfolding size_of
 same_lengths [] = refl
 same_lengths (r ∷ rs) = ap (λ ls. record_length r.before ∷ ls) (same_lengths rs)
 
-pub same_room : (rs : List Logged) → theory.filled system
-    (lengths_of system (model_records rs)) ≡ ring.filled (lengths rs)
+pub same_room : (rs : List Logged) → theory.fill_of system
+    (lengths_of system (model_records rs)) ≡ ring.fill_of (lengths rs)
 same_room rs = same_filled (lengths_of system (model_records rs))
-    ∙ ap (λ (ls : List ℕ). ring.filled ls) (same_lengths rs)
+    ∙ ap (λ (ls : List ℕ). ring.fill_of ls) (same_lengths rs)
 
 abbrev extents_of : List Logged → ℕ
-extents_of rs = (ring.filled (lengths rs)).0
+extents_of rs = (ring.fill_of (lengths rs)).0
 
 abbrev recs : TerminalState → List Logged
 recs s = records_in s.active
@@ -71,8 +71,8 @@ used_committed (c ∷ cs) =
     omega (arith, own, used_committed cs, sum_by-cons (λ (d : Committed). extents_of d.records) c cs)
 
 module _ (v : SegmentLog) (t n : ℕ) (size : length v.terminals ≡ terminal_limit) where
-  same_rest : (ring.filled (lengths (records_at v t))).1
-      ≡ (theory.filled system (lengths_of system ((undo_of v).active t))).1
+  same_rest : (ring.fill_of (lengths (records_at v t))).1
+      ≡ (theory.fill_of system (lengths_of system ((undo_of v).active t))).1
   same_rest = sym (ap (λ (f : ℕ × ℕ). f.1) (same_room (recs (get_or v.terminals t idle))))
 
   pub full_here : IsFull v t n → IsFullIn (undo_of v) v.extents t n

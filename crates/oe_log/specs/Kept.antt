@@ -50,8 +50,8 @@ commits [] rss = []
 commits (c ∷ cs) [] = []
 commits (c ∷ cs) (rs ∷ rss) = commit_with c rs ∷ commits cs rss
 
-abbrev pub stored : Layout → List TerminalHead → List Head → ring.RingStrings → SegmentLog
-stored y hs cs r =
+abbrev pub log_from : Layout → List TerminalHead → List Head → ring.RingStrings → SegmentLog
+log_from y hs cs r =
     record {
       terminals = states hs (map records_in r.active);
       committed = commits cs (map records_in r.committed);
@@ -134,4 +134,4 @@ pub record IsKept (hs : List TerminalHead) (cs : List Head) (capacity : ℕ) (r 
 pub record IsLog (y : Layout) (hs : List TerminalHead) (cs : List Head) (capacity : ℕ) (r : ring.RingStrings)
     (opens newest : ℕ) : Type 0 where
   pub kept : IsKept hs cs capacity r opens newest
-  pub layout : AreOfLayout (stored y hs cs r)
+  pub layout : AreOfLayout (log_from y hs cs r)

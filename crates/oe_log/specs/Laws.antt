@@ -5,12 +5,13 @@ use Rattle.oe_requests.specs.declared.requests.Request.{Request}
 use Rattle.oe_requests.specs.declared.replies.Reply.{Reply}
 use Rattle.oe_model.specs.System.{system, terminal_limit}
 use Rattle.oe_theory.specs.World.{set, bump}
-use Rattle.oe_theory.specs.Next.{filled}
+use Rattle.oe_theory.specs.Next.{fill_of}
 use Rattle.oe_theory.specs.Undo.{Undo, lengths_of, used_of, put_records, no_records}
 use Rattle.oe_theory.specs.Store.{counts_before}
 use Rattle.oe_log.specs.Records.{Logged}
-use Rattle.oe_log.specs.Log.{Open, Committed, SegmentLog, active_at, records_at, no_segments, opened, pushed, popped}
-use Rattle.oe_log.specs.Log.{sealed, dropped, with_newest, reopened, IsFull}
+use Rattle.oe_log.specs.Log.{Open, Committed, SegmentLog, active_at, records_at, no_segments, with_segment}
+use Rattle.oe_log.specs.Log.{with_record, without_newest}
+use Rattle.oe_log.specs.Log.{after_seal, without_segment, with_newest, with_reopening, IsFull}
 use Rattle.oe_log.specs.Stands.{model_records, undo_of, seals_of, counts_of}
 
 -- two logs stand for the same
@@ -60,23 +61,23 @@ pub record StandsReopened (w v : SegmentLog) (c : Committed) : Type 0 where
 pub record Calls_are_steps : Type 0 where
   pub begun : (e : ℕ) (l : Layout) → (undo_of (no_segments e l) ≡ no_records system)
       × (seals_of (no_segments e l) ≡ []) × (counts_of (no_segments e l) ≡ (λ t. 0))
-  pub opens : (v : SegmentLog) (t : ℕ) → active_at v t ≡ None → StandAlike (opened v t) v
+  pub opens : (v : SegmentLog) (t : ℕ) → active_at v t ≡ None → StandAlike (with_segment v t) v
   pub pushes : (v : SegmentLog) (t : ℕ) (o : Open) (r : Logged) → active_at v t ≡ Some o
-      → StandsWith (pushed v t r) v t (r.before ∷ (undo_of v).active t)
+      → StandsWith (with_record v t r) v t (r.before ∷ (undo_of v).active t)
   pub pops : (v : SegmentLog) (t : ℕ) (o : Open) → active_at v t ≡ Some o
-      → StandsWith (popped v t) v t (drop 1 ((undo_of v).active t))
+      → StandsWith (without_newest v t) v t (drop 1 ((undo_of v).active t))
   pub seals : (v : SegmentLog) (t : ℕ) (o : Open) (q : Request) (y : Reply) → active_at v t ≡ Some o
-      → StandsSealed (sealed v t q y) v t q y
-  pub drops : (v : SegmentLog) (t : ℕ) → records_at v t ≡ [] → StandAlike (dropped v t) v
+      → StandsSealed (after_seal v t q y) v t q y
+  pub drops : (v : SegmentLog) (t : ℕ) → records_at v t ≡ [] → StandAlike (without_segment v t) v
   -- giving up the oldest commits, one after another, is what a purge makes of them
   pub cuts : (v : SegmentLog) (n : ℕ) → StandsCut (with_newest n v) v n
   -- opening the newest again is the first part of what a rewind does with it
   pub reopens : (v : SegmentLog) (c : Committed) (cs : List Committed) → v.committed ≡ c ∷ cs
-      → c.terminal < length v.terminals → StandsReopened (reopened v v.committed) v c
+      → c.terminal < length v.terminals → StandsReopened (with_reopening v v.committed) v c
 
 -- in the machine: a record of that length fits neither the rest of the terminal's last extent nor a free one
 abbrev pub IsFullIn : Undo system → ℕ → ℕ → ℕ → Type 0
-IsFullIn u extents t n = ((filled system (lengths_of system (u.active t))).1 < n) × (extents ≤ used_of system u)
+IsFullIn u extents t n = ((fill_of system (lengths_of system (u.active t))).1 < n) × (extents ≤ used_of system u)
 
 -- the log is full exactly where the machine's ring is
 abbrev pub Full_as_the_machine : Type 0

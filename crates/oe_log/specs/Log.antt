@@ -6,7 +6,7 @@ use Rattle.oe_values.specs.declared.numbers.TheConstants.{TERMINALS}
 use Rattle.oe_rows.specs.declared.layouts.Layout.{Layout}
 use Rattle.oe_requests.specs.declared.requests.Request.{Request}
 use Rattle.oe_requests.specs.declared.replies.Reply.{Reply}
-use Rattle.oe_extent.specs.Ring.{filled}
+use Rattle.oe_extent.specs.Ring.{fill_of}
 use Rattle.oe_layout.specs.Records.{IsOfLayout}
 use Rattle.oe_layout.specs.declared.links.RecordAddress.{RecordAddress}
 use Rattle.oe_log.specs.Records.{Logged, lengths, StandElsewhere}
@@ -108,20 +108,20 @@ abbrev pub with_records : SegmentLog → ℕ → List Logged → SegmentLog
 with_records v t rs = with_active v t (option_map {T = Open} (λ o. record o { records = rs }) (active_at v t))
 
 -- an empty segment opened, of the terminal's next number
-abbrev pub opened : SegmentLog → ℕ → SegmentLog
-opened v t = with_active v t (Some (record { terminal = t; number = suc (count_at v t); records = [] }))
+abbrev pub with_segment : SegmentLog → ℕ → SegmentLog
+with_segment v t = with_active v t (Some (record { terminal = t; number = suc (count_at v t); records = [] }))
 
 -- one record more
-abbrev pub pushed : SegmentLog → ℕ → Logged → SegmentLog
-pushed v t r = with_records v t (r ∷ records_at v t)
+abbrev pub with_record : SegmentLog → ℕ → Logged → SegmentLog
+with_record v t r = with_records v t (r ∷ records_at v t)
 
 -- the newest record taken off
-abbrev pub popped : SegmentLog → ℕ → SegmentLog
-popped v t = with_records v t (drop 1 (records_at v t))
+abbrev pub without_newest : SegmentLog → ℕ → SegmentLog
+without_newest v t = with_records v t (drop 1 (records_at v t))
 
 -- the open segment sealed, so that the newest commit has it
-abbrev pub sealed : SegmentLog → ℕ → Request → Reply → SegmentLog
-sealed v t q y =
+abbrev pub after_seal : SegmentLog → ℕ → Request → Reply → SegmentLog
+after_seal v t q y =
     record {
       terminals = set v.terminals t (record { count = suc (count_at v t); active = None });
       committed = record { terminal = t; number = suc (count_at v t); request = q; reply = y; records = records_at v t }
@@ -131,17 +131,17 @@ sealed v t q y =
     }
 
 -- the open segment gone
-abbrev pub dropped : SegmentLog → ℕ → SegmentLog
-dropped v t = with_active v t None
+abbrev pub without_segment : SegmentLog → ℕ → SegmentLog
+without_segment v t = with_active v t None
 
 -- the newest n commits alone
 abbrev pub with_newest : ℕ → SegmentLog → SegmentLog
 with_newest n v = record v { committed = take n v.committed }
 
 -- the first of these commits is its terminal's open segment again, and is no longer counted
-abbrev pub reopened : SegmentLog → List Committed → SegmentLog
-reopened v [] = v
-reopened v (c ∷ cs) =
+abbrev pub with_reopening : SegmentLog → List Committed → SegmentLog
+with_reopening v [] = v
+with_reopening v (c ∷ cs) =
     record {
       terminals = set v.terminals c.terminal (record {
         count = count_at v c.terminal - 1;
@@ -157,12 +157,12 @@ reopened v (c ∷ cs) =
 -- how many extents all records fill, each segment's in order
 abbrev pub used_of : SegmentLog → ℕ
 used_of v =
-    sum_by (λ s. (filled (lengths (records_in s.active))).0) v.terminals
-    + sum_by (λ c. (filled (lengths c.records)).0) v.committed
+    sum_by (λ s. (fill_of (lengths (records_in s.active))).0) v.terminals
+    + sum_by (λ c. (fill_of (lengths c.records)).0) v.committed
 
 -- a record of that length fits neither the rest of the terminal's last extent nor a free one
 abbrev pub IsFull : SegmentLog → ℕ → ℕ → Type 0
-IsFull v t n = ((filled (lengths (records_at v t))).1 < n) × (v.extents ≤ used_of v)
+IsFull v t n = ((fill_of (lengths (records_at v t))).1 < n) × (v.extents ≤ used_of v)
 
 -- no record of a terminal or of a commit is at that address
 pub record IsFresh (v : SegmentLog) (a : RecordAddress) : Type 0 where

@@ -12,8 +12,8 @@ pub record Logged : Type 0 where
   pub previous : Previous
   pub before : Record
 
-abbrev pub logged : RecordAddress → Previous → Record → Logged
-logged a p b = record { address = a; previous = p; before = b }
+abbrev pub log_entry : RecordAddress → Previous → Record → Logged
+log_entry a p b = record { address = a; previous = p; before = b }
 
 -- the records themselves
 abbrev pub befores : List Logged → List Record
@@ -44,9 +44,9 @@ IsAmong r (x ∷ xs) = (x ≡ r) ⊎ IsAmong r xs
 pub record HasAddress (rs : List Logged) (a : RecordAddress) : Type 0 where
   pub previous : Previous
   pub before : Record
-  pub there : IsAmong (logged a previous before) rs
+  pub there : IsAmong (log_entry a previous before) rs
 
 -- the answer is the record at that address
 abbrev pub IsRecordAt : List Logged → RecordAddress → Previous × Record → Type 0
 IsRecordAt rs a told =
-    (p : Previous) (b : Record) → IsAmong (logged a p b) rs → told ≡ (p, b)
+    (p : Previous) (b : Record) → IsAmong (log_entry a p b) rs → told ≡ (p, b)

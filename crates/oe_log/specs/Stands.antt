@@ -24,10 +24,10 @@ abbrev pub deleted_keys : List Record → List NewOrderKey
 deleted_keys bs = filter_map deleted_new_order bs
 
 -- the customer whom a commit with these records has renamed, with its C_LAST before: a rename has one record
-abbrev pub renamed : List Record → Option (CustomerKey × List ℕ)
-renamed [] = None
-renamed (b ∷ []) = last_before b
-renamed (b ∷ c ∷ bs) = None
+abbrev pub rename_in : List Record → Option (CustomerKey × List ℕ)
+rename_in [] = None
+rename_in (b ∷ []) = last_before b
+rename_in (b ∷ c ∷ bs) = None
 
 -- the records of each open transaction and of each commit
 abbrev pub undo_of : SegmentLog → Undo system

@@ -1,7 +1,7 @@
 //! Commits: how an open segment becomes a commit's, and how commits' segments are given up, or
 //! opened again.
 ghost use Rattle.std.specs.Prelude.{◌≡◌, ◌+◌, ◌-◌, ℕ, length, slice_get, option_map, None, IsSome};
-ghost use Rattle.oe_log.specs.Log.{active_at, total_count, owner_of, sealed, with_newest, reopened};
+ghost use Rattle.oe_log.specs.Log.{active_at, total_count, owner_of, after_seal, with_newest, with_reopening};
 ghost use Rattle.oe_log.specs.Moments.{newest, horizon};
 
 use crate::heads::{CommitHead, SegmentOwner};
@@ -39,7 +39,7 @@ impl Log {
         reply: Snapshot<Reply>,
     ) -> Moment
         requires { IsSome (active_at self.old segment) }
-        ensures sealed { self.new ≡ sealed self.old segment request.value reply.value }
+        ensures sealed { self.new ≡ after_seal self.old segment request.value reply.value }
         ensures moment { result ≡ total_count self.old + 1 }
     {
         let terminal = segment.terminal();
@@ -88,7 +88,7 @@ impl Log {
         requires { (t : ℕ) → active_at self.old t ≡ None }
         ensures segment { result
             ≡ option_map (λ c. c.terminal) (slice_get self.old.committed 0) }
-        ensures reopened { self.new ≡ reopened self.old self.old.committed }
+        ensures reopened { self.new ≡ with_reopening self.old self.old.committed }
     {
         let Some(head) = self.commits.pop_front() else {
             return None;

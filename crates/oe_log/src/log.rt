@@ -72,11 +72,11 @@ pub struct Log {
 impl Model for Log {
     ghost use Rattle.std.specs.VecDeque.{deque_capacity};
     ghost use Rattle.oe_log.specs.Log.{SegmentLog};
-    ghost use Rattle.oe_log.specs.Kept.{stored, IsLog};
+    ghost use Rattle.oe_log.specs.Kept.{log_from, IsLog};
 
     ghost Value = { SegmentLog };
 
-    ghost view = { λ s. stored s.layout s.terminals s.commits.items s.ring };
+    ghost view = { λ s. log_from s.layout s.terminals s.commits.items s.ring };
 
     ghost invariant = { λ s. IsLog s.layout s.terminals s.commits.items
         (deque_capacity s.commits) s.ring s.open_count s.newest };

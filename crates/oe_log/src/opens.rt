@@ -5,9 +5,9 @@ ghost use Rattle.oe_extent.specs.declared.sizes.TheConstants.{EXTENT_BYTES};
 ghost use Rattle.oe_model.specs.Lengths.{record_length};
 ghost use Rattle.oe_layout.specs.Records.{record_of_own, record_of_lent, IsOfLayout};
 ghost use Rattle.oe_layout.specs.Stored.{deleted_new_order};
-ghost use Rattle.oe_log.specs.Records.{logged, newest_of};
-ghost use Rattle.oe_log.specs.Ticks.{ticked};
-ghost use Rattle.oe_log.specs.Log.{count_at, active_at, records_at, opened, pushed, popped, dropped, IsFull, IsFresh};
+ghost use Rattle.oe_log.specs.Records.{log_entry, newest_of};
+ghost use Rattle.oe_log.specs.Ticks.{ticks_with};
+ghost use Rattle.oe_log.specs.Log.{count_at, active_at, records_at, with_segment, with_record, without_newest, without_segment, IsFull, IsFresh};
 
 use crate::heads::SegmentOwner;
 use crate::log::{Log, Segment};
@@ -47,7 +47,7 @@ impl Log {
     pub fn open_segment(&mut self, terminal: Terminal) -> Result<Segment, NoMemory>
         requires closed { active_at self.old terminal ≡ None }
         requires counted { count_at self.old terminal < 4_294_967_295 }
-        ensures opened { OnOk result (self.new ≡ opened self.old terminal) }
+        ensures opened { OnOk result (self.new ≡ with_segment self.old terminal) }
         ensures segment { IfOk result (λ s. s ≡ terminal) }
         ensures err { OnErr result (self.new ≡ self.old) }
     {
@@ -71,7 +71,7 @@ impl Log {
     pub fn drop_segment(&mut self, segment: Segment)
         requires open { IsSome (active_at self.old segment) }
         requires empty { records_at self.old segment ≡ [] }
-        ensures { self.new ≡ dropped self.old segment }
+        ensures { self.new ≡ without_segment self.old segment }
     {
         let state = self.terminals.at_mut(segment.terminal());
         state.active = None;
@@ -87,7 +87,7 @@ impl Log {
         requires open { IsSome (active_at self.old segment) }
         requires layout { IsOfLayout self.old.layout (record_of_lent lent.now.record) }
         ensures pushed { IfOk result (λ a. self.new
-            ≡ pushed self.old segment (logged a lent.now.previous
+            ≡ with_record self.old segment (log_entry a lent.now.previous
             (record_of_lent lent.now.record))) }
         ensures same { OnErr result (self.new ≡ self.old) }
         ensures full { IsErr result ↔ IsFull self.old segment
@@ -139,7 +139,7 @@ impl Log {
         requires { IsSome (active_at self.now segment) }
         ensures record { option_map (λ x. (x.0, record_of_own x.1)) result
             ≡ newest_of (records_at self.now segment) }
-        ensures ticks { ticks.new ≡ ticked ticks.old 1 }
+        ensures ticks { ticks.new ≡ ticks_with ticks.old 1 }
     {
         ticks.tick();
         let terminal = segment.terminal();
@@ -155,7 +155,7 @@ impl Log {
     /// is free again.
     pub fn pop(&mut self, segment: Segment)
         requires { IsSome (active_at self.old segment) }
-        ensures { self.new ≡ popped self.old segment }
+        ensures { self.new ≡ without_newest self.old segment }
     {
         let terminal = segment.terminal();
         let slot = terminal.get() as usize;

@@ -5,8 +5,8 @@ ghost use Rattle.oe_log.specs.Records.{HasAddress, IsRecordAt};
 ghost use Rattle.oe_model.specs.System.{system, terminal_limit};
 ghost use Rattle.oe_theory.specs.Store.{Slot, count_slots};
 ghost use Rattle.oe_log.specs.Log.{count_at, active_at, records_at, open_total, commits_of, committed_records, owner_of, AreOfLayout};
-ghost use Rattle.oe_log.specs.Stands.{model_records, deleted_keys, renamed, DeletesNothing};
-ghost use Rattle.oe_log.specs.Ticks.{ticked};
+ghost use Rattle.oe_log.specs.Stands.{model_records, deleted_keys, rename_in, DeletesNothing};
+ghost use Rattle.oe_log.specs.Ticks.{ticks_with};
 
 use crate::heads::SegmentOwner;
 use crate::log::Log;
@@ -130,7 +130,7 @@ impl Log {
         requires { HasAddress (records_at self.now terminal) address }
         ensures record { IsRecordAt (records_at self.now terminal) address
             (result.0, result.1) }
-        ensures ticks { ticks.new ≡ ticked ticks.old 1 }
+        ensures ticks { ticks.new ≡ ticks_with ticks.old 1 }
     {
         ticks.tick();
         let slot = terminal.get() as usize;
@@ -151,7 +151,7 @@ impl Log {
         requires some { HasAddress (get_or (committed_records self.now) later []) address }
         ensures record { IsRecordAt (get_or (committed_records self.now) later []) address
             (result.0, result.1) }
-        ensures ticks { ticks.new ≡ ticked ticks.old 1 }
+        ensures ticks { ticks.new ≡ ticks_with ticks.old 1 }
     {
         ticks.tick();
         let place = ring_address(address);
@@ -176,7 +176,7 @@ impl Log {
     /// of another commit is read, and none is lent. It takes no memory.
     pub fn renamed(&self, later: usize) -> Option<(CustomerKey, Text<0, 16>)>
         requires { later < length self.now.committed }
-        ensures { result ≡ renamed (model_records (get_or (committed_records self.now) later [])) }
+        ensures { result ≡ rename_in (model_records (get_or (committed_records self.now) later [])) }
     {
         let mut records = self.committed_records(later);
         let Some(record) = records.next() else {

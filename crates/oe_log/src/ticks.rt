@@ -2,7 +2,7 @@
 //!
 //! Each call that lends a record ticks once. Nothing can fail, and nothing takes memory.
 ghost use Rattle.std.specs.Prelude.{◌≡◌};
-ghost use Rattle.oe_log.specs.Ticks.{ticked};
+ghost use Rattle.oe_log.specs.Ticks.{ticks_with};
 
 use std::marker::Model;
 
@@ -39,7 +39,7 @@ impl Ticks {
 
     /// Counts one more.
     pub(crate) fn tick(&mut self)
-        ensures { self.new ≡ ticked self.old 1 }
+        ensures { self.new ≡ ticks_with self.old 1 }
     {
         self.records = self.records.saturating_add(1);
     }

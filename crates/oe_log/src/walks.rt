@@ -19,11 +19,11 @@ impl<'a> Model for Records<'a> {
     ghost use Rattle.std.specs.Prelude.{List, map};
     ghost use Rattle.std.specs.List.{AllByRecursion};
     ghost use Rattle.oe_model.specs.Changes.{Record};
-    ghost use Rattle.oe_layout.specs.Stored.{told, IsStoredRecord};
+    ghost use Rattle.oe_layout.specs.Stored.{record_in_bytes, IsStoredRecord};
 
     ghost Value = { List Record };
 
-    ghost view = { λ r. map told r.strings };
+    ghost view = { λ r. map record_in_bytes r.strings };
 
     ghost invariant = { λ r. AllByRecursion IsStoredRecord r.strings };
 }

@@ -27,14 +27,15 @@ use Rattle.oe_model.specs.Keys.{order_of_line, line_in}
 use Rattle.oe_model.specs.Lists.{IsAmong}
 use Rattle.oe_model.specs.Maps.{each, with_all, sum_of}
 use Rattle.oe_model.specs.Rows.{Rows}
-use Rattle.oe_model.specs.Choice.{chosen}
+use Rattle.oe_model.specs.Choice.{customer_meant}
 use Rattle.oe_model.specs.Payment.{paid_warehouse, paid_warehouse_out, paid_district, paid_district_out, paid_customer}
 use Rattle.oe_model.specs.Payment.{paid_customer_out, history_key, history_row, history_data}
 use Rattle.oe_model.specs.Positions.{Filled}
-use Rattle.oe_model.specs.NewOrder.{stock_of, supplied, asked, after_lines, order_row, new_order_row, with_next}
+use Rattle.oe_model.specs.NewOrder.{stock_of, stock_after, quantities_for, after_lines, order_row, new_order_row}
+use Rattle.oe_model.specs.NewOrder.{with_next}
 use Rattle.oe_model.specs.NewOrder.{next_out}
 use Rattle.oe_model.specs.NewOrder.{all_filled, line_entries}
-use Rattle.oe_model.specs.Delivery.{lines_of, worth, carried, delivered_to, delivered_out, delivery_of}
+use Rattle.oe_model.specs.Delivery.{lines_of, worth, with_carrier, delivered_to, delivered_out, delivery_of}
 use Rattle.oe_model.specs.Delivery.{district_effect}
 use Rattle.oe_model.specs.FurtherConditions.{if_of_order, if_of_customer, is_order_of, amount_for}
 use Rattle.oe_model.specs.Conditions.{if_of_warehouse, if_of}
@@ -70,7 +71,7 @@ payment_leaves t k q r after y e =
     there_in_range Paid paid_warehouse_out (paid_warehouse q w) _ _ e (λ _ e.
     there Paid (get r.districts q.district) _ _ e (λ d d_at e.
     there_in_range Paid paid_district_out (paid_district q d) _ _ e (λ _ e.
-    there Paid (chosen q.customer_district q.customer r.customers) _ _ e (λ c c_is e.
+    there Paid (customer_meant q.customer_district q.customer r.customers) _ _ e (λ c c_is e.
     there Paid (get r.customers (customer_in q.customer_district c)) _ _ e (λ x x_at e.
     there_in_range Paid paid_customer_out (paid_customer c q x) _ _ e (λ _ e.
     subst (λ (s : Rows). IsPaid t k q r s) (made_by _ after _ y e) (record {
@@ -110,15 +111,15 @@ other_lines k (f ∷ fs) m l n =
 
 -- a STOCK row of which no line asks stays
 none_asks : (k : StockKey) (ls : List RequestLine) → ((l : RequestLine) → IsAmong l ls → stock_of l ≢ k)
-    → asked k ls ≡ []
+    → quantities_for k ls ≡ []
 none_asks k [] h = refl
 none_asks k (l ∷ ls) h =
     by_key (key_cases stock_total exact_stock k (stock_of l)) (none_asks k ls (λ j among. h j (inr among)))
   where
-    by_key : (k ≡ stock_of l) ⊎ (eq_by_cmp stock_cmp k (stock_of l) ≡ false) → asked k ls ≡ []
-        → asked k (l ∷ ls) ≡ []
+    by_key : (k ≡ stock_of l) ⊎ (eq_by_cmp stock_cmp k (stock_of l) ≡ false) → quantities_for k ls ≡ []
+        → quantities_for k (l ∷ ls) ≡ []
     by_key (inl s) rest = absurd (h l (inl refl) (sym s))
-    by_key (inr t) rest = ap (λ b. cond b (l.quantity ∷ asked k ls) (asked k ls)) t ∙ rest
+    by_key (inr t) rest = ap (λ b. cond b (l.quantity ∷ quantities_for k ls) (quantities_for k ls)) t ∙ rest
 
 other_stocks : (home : ℕ) (ls : List RequestLine) (m : FinMap stock_cmp Stock) (k : StockKey)
     → ((l : RequestLine) → IsAmong l ls → stock_of l ≢ k) → get (each (after_lines home ls) m) k ≡ get m k
@@ -126,7 +127,7 @@ other_stocks home ls m k h = get-each stock_cmp (after_lines home ls) exact_stoc
   where
     by_row : (v : Option Stock) → option_map (after_lines home ls k) v ≡ v
     by_row None = refl
-    by_row (Some x) = ap (λ ns. Some (fold (supplied home k) x ns)) (none_asks k ls h)
+    by_row (Some x) = ap (λ ns. Some (fold (stock_after home k) x ns)) (none_asks k ls h)
 
 pub order_leaves : Order_leaves
 order_leaves q r after y e =
@@ -159,7 +160,7 @@ one_leaves q r after d o e =
     subst (λ (s : Rows). IsDelivered q o r s) (made_by _ after _ d e) (record {
       order = x;
       order_at = x_at;
-      orders = put_only order_total exact_order r.orders (order_in q.district o) (carried q.carrier x);
+      orders = put_only order_total exact_order r.orders (order_in q.district o) (with_carrier q.carrier x);
       new_orders = gone_only new_order_total exact_new_order r.new_orders (new_order_in q.district o);
       customer = u;
       customer_at = u_at;

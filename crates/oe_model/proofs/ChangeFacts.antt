@@ -24,8 +24,8 @@ use Rattle.oe_model.specs.Keys.{district_of_order}
 use Rattle.oe_model.specs.Rows.{Rows, row_at}
 use Rattle.oe_model.specs.Changes.{Change, InsertHistory, InsertNewOrder, InsertOrder, InsertOrderLine, UpdateWarehouse}
 use Rattle.oe_model.specs.Changes.{UpdateDistrict, UpdateCustomer, UpdateOrder, UpdateOrderLine, UpdateStock}
-use Rattle.oe_model.specs.Changes.{DeleteNewOrder, key_of, changed}
-use Rattle.oe_model.specs.Meets.{Meets, Accepts, Cause, is_insert, referred}
+use Rattle.oe_model.specs.Changes.{DeleteNewOrder, key_of, rows_after}
+use Rattle.oe_model.specs.Meets.{Meets, Accepts, Cause, is_insert, new_references}
 use Rattle.oe_model.proofs.MapFacts.{is_self}
 use Rattle.oe_model.proofs.PresenceFacts.{present_some, missing, present_or_absent, some-map, key_cases, each_row}
 use Rattle.oe_model.proofs.PresenceFacts.{each_left, present_insert, present_before}
@@ -216,7 +216,7 @@ abbrev AllThere : Rows → List Key → Type 0
 AllThere r [] = Unit {0}
 AllThere r (k ∷ ks) = IsSome (row_at r k) × AllThere r ks
 
-found_referred : (c : Change) (r : Rows) → Accepts c r → AllThere r (referred c)
+found_referred : (c : Change) (r : Rows) → Accepts c r → AllThere r (new_references c)
 found_referred (InsertHistory k x) r a =
     (there row.Customer (get r.customers x.customer) a.1, (there row.District (get r.districts x.district) a.2, tt))
 found_referred (InsertNewOrder k x) r a = (there row.Order (get r.orders (order_of_new_order k)) a.1, tt)
@@ -258,11 +258,11 @@ pub not_both : (c : Change) (r : Rows) (e : Refusal) → Accepts c r → Cause c
 not_both c r (NoSuchRow k) a h = missing (row_at r (key_of c)) (found_there c r a h.1) (ap (row_at r) (sym h.0) ∙ h.2)
 not_both c r (RowExists k) a h = missing (row_at r k) h.2 (ap (row_at r) h.0 ∙ found_absent c r a h.1)
 not_both c r (Reference k) a h = missing (row_at r k)
-    (listed_there r (referred c) k h.0.0 (found_referred c r a) h.0.1 h.0.2) h.1
+    (listed_there r (new_references c) k h.0.0 (found_referred c r a) h.0.1 h.0.2) h.1
 not_both c r KeyColumn a h = keeps_columns c r a h
 not_both c r _ a h = h
 
-pub accepted_meets : (c : Change) (r : Rows) → Accepts c r → Meets r → Meets (changed c r)
+pub accepted_meets : (c : Change) (r : Rows) → Accepts c r → Meets r → Meets (rows_after c r)
 accepted_meets (InsertHistory k x) r a m = record {
   histories = each_row history_total exact_history
       (λ j y. IsSome (get r.customers y.customer) × IsSome (get r.districts y.district)) r.histories k x (a.1, a.2)

@@ -31,13 +31,14 @@ use Rattle.oe_rows.proofs.KeyFacts.{order_line_total, exact_order_line, order_to
 use Rattle.oe_model.specs.Keys.{order_of_line, supply_of_line, customer_in, order_in, new_order_in, line_in}
 use Rattle.oe_model.specs.Rows.{Rows}
 use Rattle.oe_model.specs.Maps.{each}
-use Rattle.oe_model.specs.Changes.{Change, changed, DeleteNewOrder, UpdateOrder, UpdateOrderLine, UpdateCustomer}
+use Rattle.oe_model.specs.Changes.{Change, rows_after, DeleteNewOrder, UpdateOrder, UpdateOrderLine, UpdateCustomer}
 use Rattle.oe_model.specs.Meets.{Meets, Accepts}
 use Rattle.oe_model.specs.Positions.{Position, InDelivery, DeliveryPosition, DeliveryQueue, DeliveryNothing}
 use Rattle.oe_model.specs.Positions.{DeliveryOrder, DeliveryLine, DeliveryEnd}
-use Rattle.oe_model.specs.Effects.{◌>>=◌, in_range, Doing, given}
+use Rattle.oe_model.specs.Effects.{◌>>=◌, in_range, Doing, with_value}
 use Rattle.oe_model.specs.Payment.{is_balance, is_count}
-use Rattle.oe_model.specs.Delivery.{oldest, lines_of, worth, dated, carried, delivered, delivered_to, delivered_out}
+use Rattle.oe_model.specs.Delivery.{oldest, lines_of, worth, with_date, with_carrier, delivery_of_order, delivered_to}
+use Rattle.oe_model.specs.Delivery.{delivered_out}
 use Rattle.oe_model.specs.Delivery.{delivery_of, district_effect, delivery_effect, Setting, end_of, alone, delivery_ask}
 use Rattle.oe_model.specs.Delivery.{district_act}
 use Rattle.oe_model.specs.Deliveries.{at_hand, among_ten}
@@ -87,12 +88,12 @@ module _ (x : Tx Request) (t : Setting) (q : DeliveryRequest) (s : IsSetting x t
   dated_tables marked =
       record r { new_orders = queue; orders = orders; order_lines = each (date_marked q.stamp marked) r.order_lines }
 
-  same_amount : (b : Bool) (y : OrderLine) → (cond b (dated q.stamp y) y).amount ≡ y.amount
+  same_amount : (b : Bool) (y : OrderLine) → (cond b (with_date q.stamp y) y).amount ≡ y.amount
   same_amount true y = refl
   same_amount false y = refl
 
   same_supply : (b : Bool) (y : OrderLine) → supply_of_line y ≡ supply_of_line
-      (dated q.stamp (cond b (dated q.stamp y) y))
+      (with_date q.stamp (cond b (with_date q.stamp y) y))
   same_supply true y = refl
   same_supply false y = refl
 
@@ -118,11 +119,11 @@ module _ (x : Tx Request) (t : Setting) (q : DeliveryRequest) (s : IsSetting x t
       let found : get m.order_lines j ≡ Some y = get-each order_line_cmp (date_marked q.stamp marked) exact_order_line
       r.order_lines j ∙ ap (option_map (date_marked q.stamp marked j)) here in
       let next : ℕ → Position = λ n. t.here (DeliveryLine o c (map (λ e. e.0.number) es) n) in
-      let m' : Rows = record m { order_lines = insert m.order_lines j (dated q.stamp y) } in
-      goes_here (t.here p) m (Some (UpdateOrderLine j (dated q.stamp y))) (next (sum + y.amount)) end
+      let m' : Rows = record m { order_lines = insert m.order_lines j (with_date q.stamp y) } in
+      goes_here (t.here p) m (Some (UpdateOrderLine j (with_date q.stamp y))) (next (sum + y.amount)) end
       (asked x t q s p m tt)
-      (s.acts p m ∙ ap (λ (v : Option OrderLine). given (NoSuchRow (key.OrderLine j)) v
-      (λ x. Go (Some (UpdateOrderLine j (dated q.stamp x))) (next (sum + x.amount)))) found) (
+      (s.acts p m ∙ ap (λ (v : Option OrderLine). with_value (NoSuchRow (key.OrderLine j)) v
+      (λ x. Go (Some (UpdateOrderLine j (with_date q.stamp x))) (next (sum + x.amount)))) found) (
         some_present (get m.order_lines j) y found,
         subst
             (λ (v : Rattle.oe_rows.specs.declared.keys.StockKey.StockKey). IsSome (get r.stocks v))
@@ -163,17 +164,18 @@ module _ (x : Tx Request) (t : Setting) (q : DeliveryRequest) (s : IsSetting x t
     sum = worth (lines_of order_key r.order_lines)
 
     abbrev lines_after : FinMap order_line_cmp OrderLine
-    lines_after = each (λ j y. cond (eq_by_cmp order_cmp (order_of_line j) order_key) (dated q.stamp y) y) r.order_lines
+    lines_after = each (λ j y. cond (eq_by_cmp order_cmp (order_of_line j) order_key)
+        (with_date q.stamp y) y) r.order_lines
 
     abbrev made : Order → Customer → Rows × DistrictDelivery
     made order u = (
       record r {
         new_orders = remove r.new_orders (new_order_in q.district o);
-        orders = insert r.orders order_key (carried q.carrier order);
+        orders = insert r.orders order_key (with_carrier q.carrier order);
         order_lines = lines_after;
         customers = insert r.customers (customer_in q.district order.customer) u;
       },
-      delivered o order.customer sum,
+      delivery_of_order o order.customer sum,
     )
 
     abbrev on_account : Order → Customer → Option (Rows × DistrictDelivery)
@@ -204,7 +206,7 @@ module _ (x : Tx Request) (t : Setting) (q : DeliveryRequest) (s : IsSetting x t
     pub last_ends : (order : Order) → get r.orders order_key ≡ Some order
         → (let r3 : Rows = record r {
           new_orders = remove r.new_orders (new_order_in q.district o);
-          orders = insert r.orders order_key (carried q.carrier order);
+          orders = insert r.orders order_key (with_carrier q.carrier order);
           order_lines = lines_after;
         } in
         EndsSo DeliveryMayRefuse x (t.here (DeliveryLine o order.customer [] sum)) r3 (on_order order >>= g))
@@ -212,7 +214,7 @@ module _ (x : Tx Request) (t : Setting) (q : DeliveryRequest) (s : IsSetting x t
         let c : ℕ = order.customer in
         let r3 : Rows = record r {
           new_orders = remove r.new_orders (new_order_in q.district o);
-          orders = insert r.orders order_key (carried q.carrier order);
+          orders = insert r.orders order_key (with_carrier q.carrier order);
           order_lines = lines_after;
         } in
         let p3 : DeliveryPosition = DeliveryLine o c [] sum in
@@ -227,9 +229,10 @@ module _ (x : Tx Request) (t : Setting) (q : DeliveryRequest) (s : IsSetting x t
         (sym (bind_in (in_range delivered_out y) (λ u'. Some (made order u')) g)) (
         ends_within DeliveryMayRefuse x (t.here p3) r3 (asked x t q s p3 r3 tt) delivered_out y _ _ (of_customer y) a
         (λ ok b.
-        goes_here (t.here p3) r3 (Some (UpdateCustomer (customer_in q.district c) y)) (t.next (delivered o c sum)) _
+        goes_here (t.here p3) r3 (Some (UpdateCustomer (customer_in q.district c) y))
+        (t.next (delivery_of_order o c sum)) _
         (asked x t q s p3 r3 tt) b (ap is_some u_at)
-        (follows (made order y).0 (delivered o c sum) (comes_to order u order_at u_at ok))))))
+        (follows (made order y).0 (delivery_of_order o c sum) (comes_to order u order_at u_at ok))))))
 
     pub order_ends : EndsSo DeliveryMayRefuse x p0 r (delivery_of q o r >>= g)
     unfolding first
@@ -244,14 +247,15 @@ module _ (x : Tx Request) (t : Setting) (q : DeliveryRequest) (s : IsSetting x t
         ends_given DeliveryMayRefuse x (t.here p1) r1 (asked x t q s p1 r1 tt) (NoSuchRow (key.Order order_key))
         (get r.orders order_key) _ _ (missing (get r.orders order_key) order_there) (s.acts p1 r1)
         (λ order order_at a.
-        let orders : FinMap order_cmp Order = insert r.orders order_key (carried q.carrier order) in
+        let orders : FinMap order_cmp Order = insert r.orders order_key (with_carrier q.carrier order) in
         let c : ℕ = order.customer in
         let es : List (OrderLineKey × OrderLine) = lines_of order_key r.order_lines in
         let end : Option (Rows × Reply) = on_order order >>= g in
         let p2 : Position = t.here (DeliveryLine o c (map (λ e. e.0.number) es) 0) in
         let r2 : Rows = record r1 { orders = orders } in
         let r3 : Rows = record r2 { order_lines = lines_after } in
-        goes_here (t.here p1) r1 (Some (UpdateOrder order_key (carried q.carrier order))) p2 _ (asked x t q s p1 r1 tt)
+        goes_here (t.here p1) r1 (Some (UpdateOrder order_key (with_carrier q.carrier order))) p2 _
+        (asked x t q s p1 r1 tt)
         a (order, order_at, refl) (
         subst (λ (v : FinMap order_line_cmp OrderLine). EndsSo DeliveryMayRefuse x p2 (record r2 { order_lines = v })
         end) (none-dated q.stamp r.order_lines) (
@@ -288,7 +292,7 @@ delivery_ends x q r m = district_ends x (alone q) q (alone_is x q) r m (λ e. So
         (reply.Delivery (Delivered y)) tt refl
 
 -- what each accepted change keeps, a district's effect keeps
-pub district_keeps : (P : Rows → Type 0) → ((c : Change) (r : Rows) → Accepts c r → P r → P (changed c r))
+pub district_keeps : (P : Rows → Type 0) → ((c : Change) (r : Rows) → Accepts c r → P r → P (rows_after c r))
     → (q : DeliveryRequest) (r after : Rows) (d : DistrictDelivery)
     → Meets r → district_effect q r ≡ Some (after, d) → P r → P after
 district_keeps P kept q r after d m e h =

@@ -23,7 +23,8 @@ use Rattle.oe_model.specs.Keys.{new_order_in}
 use Rattle.oe_model.specs.Rows.{Rows}
 use Rattle.oe_model.specs.Maps.{each, sum_of}
 use Rattle.oe_model.specs.Meets.{Meets}
-use Rattle.oe_model.specs.Delivery.{oldest, lines_of, worth, dated, carried, delivered_to, delivered_out, delivery_of}
+use Rattle.oe_model.specs.Delivery.{oldest, lines_of, worth, with_date, with_carrier, delivered_to, delivered_out}
+use Rattle.oe_model.specs.Delivery.{delivery_of}
 use Rattle.oe_model.specs.Delivery.{district_effect, delivery_effect}
 use Rattle.oe_model.specs.Conditions.{Good, Condition_2, Condition_3, Condition_4, IsStocked, new_orders_of}
 use Rattle.oe_model.specs.Conditions.{lines_asked, lines_there, if_of, IsGreatest, IsLeast, HasNewOrder}
@@ -34,19 +35,19 @@ use Rattle.oe_model.proofs.PresenceFacts.{some_present, present_some, key_cases,
 use Rattle.oe_model.proofs.PresenceFacts.{present_insert, present_before}
 use Rattle.oe_model.proofs.QueueFacts.{oldest_least}
 
-abbrev counted : DistrictKey → NewOrderKey → NewOrder → ℕ
-counted h k y = if_of h (district_of_new_order k) 1
+abbrev count_in_district : DistrictKey → NewOrderKey → NewOrder → ℕ
+count_in_district h k y = if_of h (district_of_new_order k) 1
 
 -- so many numbers hold at most so many rows
 at_most : (h : DistrictKey) (low n : ℕ) (m : FinMap new_order_cmp NewOrder)
-    → ((i : ℕ) → IsSome (get m (new_order_in h i)) → (low ≤ i) × (i < low + n)) → sum_of (counted h) m ≤ n
+    → ((i : ℕ) → IsSome (get m (new_order_in h i)) → (low ≤ i) × (i < low + n)) → sum_of (count_in_district h) m ≤ n
 at_most h low zero m within =
-    let none : sum_of (counted h) m ≡ 0 = sum-none new_order_total exact_new_order (counted h) m
+    let none : sum_of (count_in_district h) m ≡ 0 = sum-none new_order_total exact_new_order (count_in_district h) m
     (λ k x k_at. by_key k x k_at (key_cases district_total exact_district (district_of_new_order k) h)) in
     omega arith
   where
     by_key : (k : NewOrderKey) (x : NewOrder) → get m k ≡ Some x → (district_of_new_order k ≡ h)
-        ⊎ (eq_by_cmp district_cmp (district_of_new_order k) h ≡ false) → counted h k x ≡ 0
+        ⊎ (eq_by_cmp district_cmp (district_of_new_order k) h ≡ false) → count_in_district h k x ≡ 0
     by_key k x k_at (inl s) =
         let p : IsSome (get m (new_order_in h k.order)) = some_present (get m (new_order_in h k.order)) x
         (ap (λ (g : DistrictKey). get m (new_order_in g k.order)) (sym s) ∙ k_at) in
@@ -57,11 +58,11 @@ at_most h low (suc n) m within =
     let k : NewOrderKey = new_order_in h (low + n) in
     let fewer = at_most h low n (remove m k)
     (λ i p. by_number i (gone_before new_order_total exact_new_order m k (new_order_in h i) p)) in
-    let sum = sum-remove new_order_total exact_new_order (counted h) m k in
-    let one : number_at (counted h) k (get m k) ≤ 1 = small (get m k) in
+    let sum = sum-remove new_order_total exact_new_order (count_in_district h) m k in
+    let one : number_at (count_in_district h) k (get m k) ≤ 1 = small (get m k) in
     omega arith
   where
-    small : (v : Option NewOrder) → number_at (counted h) (new_order_in h (low + n)) v ≤ 1
+    small : (v : Option NewOrder) → number_at (count_in_district h) (new_order_in h (low + n)) v ≤ 1
     small None = omega arith
     small (Some x) = let e : if_of h h 1 ≡ 1 = ap (λ c. cond c 1 0) (is_self district_total exact_district h) in
         omega arith
@@ -91,8 +92,8 @@ module _ (f : ℕ → ℕ) (q : DeliveryRequest) (r : Rows) (g : Good f r) (o : 
   abbrev pub delivered_rows : Rows
   delivered_rows = record r {
     new_orders = remove r.new_orders j;
-    orders = insert r.orders k (carried q.carrier order);
-    order_lines = each (λ i x. cond (eq_by_cmp order_cmp (order_of_line i) k) (dated q.stamp x) x) r.order_lines;
+    orders = insert r.orders k (with_carrier q.carrier order);
+    order_lines = each (λ i x. cond (eq_by_cmp order_cmp (order_of_line i) k) (with_date q.stamp x) x) r.order_lines;
     customers = insert r.customers (customer_in h0 order.customer) (delivered_to sum u);
   }
 
@@ -100,10 +101,10 @@ module _ (f : ℕ → ℕ) (q : DeliveryRequest) (r : Rows) (g : Good f r) (o : 
   least = oldest_least h0 r.new_orders o is_oldest
 
   kept_order : (i : OrderKey) → IsSome (get r.orders i) → IsSome (get delivered_rows.orders i)
-  kept_order i p = present_insert order_total exact_order r.orders k (carried q.carrier order) i p
+  kept_order i p = present_insert order_total exact_order r.orders k (with_carrier q.carrier order) i p
 
   was_order : (i : OrderKey) → IsSome (get delivered_rows.orders i) → IsSome (get r.orders i)
-  was_order i p = present_before order_total exact_order r.orders k (carried q.carrier order) i
+  was_order i p = present_before order_total exact_order r.orders k (with_carrier q.carrier order) i
       (some_present (get r.orders k) order order_at) p
 
   was_new : (h : DistrictKey) (n : ℕ) → HasNewOrder delivered_rows h n → HasNewOrder r h n
@@ -162,8 +163,9 @@ module _ (f : ℕ → ℕ) (q : DeliveryRequest) (r : Rows) (g : Good f r) (o : 
   queue_sum : (h : DistrictKey) → new_orders_of delivered_rows h + if_of h h0 1 ≡ new_orders_of r h
   queue_sum h =
       let row = present_some (get r.new_orders j) least.0 in
-      ap (λ (v : Option NewOrder). sum_of (counted h) delivered_rows.new_orders + number_at (counted h) j v) (sym row.1)
-      ∙ sum-remove new_order_total exact_new_order (counted h) r.new_orders j
+      ap (λ (v : Option NewOrder). sum_of (count_in_district h) delivered_rows.new_orders
+      + number_at (count_in_district h) j v) (sym row.1)
+      ∙ sum-remove new_order_total exact_new_order (count_in_district h) r.new_orders j
 
   at_home : IsSome (get r.districts h0) → (a b : ℕ) → IsGreatest (HasNewOrder delivered_rows h0) a
       → IsLeast (HasNewOrder delivered_rows h0) b → a - b + 1 ≡ new_orders_of delivered_rows h0
@@ -176,7 +178,7 @@ module _ (f : ℕ → ℕ) (q : DeliveryRequest) (r : Rows) (g : Good f r) (o : 
       let greatest : IsGreatest (HasNewOrder r h0) a =
       (was_new h0 a ga.0, λ m p. by_key m p (key_cases new_order_total exact_new_order (new_order_in h0 m) j)) in
       let before : a - o + 1 ≡ new_orders_of r h0 = g.condition_3 h0 there a o greatest least in
-      let few : sum_of (counted h0) delivered_rows.new_orders ≤ suc (a - b) =
+      let few : sum_of (count_in_district h0) delivered_rows.new_orders ≤ suc (a - b) =
       at_most h0 b (suc (a - b)) delivered_rows.new_orders (λ i p. let x = lb.1 i p in let y = ga.1 i p in
       (x, (let z : i < b + suc (a - b) = omega arith in z))) in
       omega arith
@@ -217,10 +219,10 @@ module _ (f : ℕ → ℕ) (q : DeliveryRequest) (r : Rows) (g : Good f r) (o : 
       let orders : lines_asked delivered_rows h + if_of h h0 order.line_count ≡ lines_asked r h + if_of h h0
       order.line_count =
       ap (λ (v : Option Order). sum_of of delivered_rows.orders + number_at of k v) (sym order_at)
-      ∙ sum-insert order_total exact_order of r.orders k (carried q.carrier order) in
+      ∙ sum-insert order_total exact_order of r.orders k (with_carrier q.carrier order) in
       let lines : lines_there delivered_rows h ≡ lines_there r h =
       sum-each order_line_total exact_order_line (λ i y. if_of h (district_of_order (order_of_line i)) 1)
-      (λ i x. cond (eq_by_cmp order_cmp (order_of_line i) k) (dated q.stamp x) x) r.order_lines (λ i x. refl) in
+      (λ i x. cond (eq_by_cmp order_cmp (order_of_line i) k) (with_date q.stamp x) x) r.order_lines (λ i x. refl) in
       let before : lines_asked r h ≡ lines_there r h = g.condition_4 h there in
       omega arith
 

@@ -28,11 +28,12 @@ use Rattle.oe_model.specs.Rows.{Rows, row_at}
 use Rattle.oe_model.specs.Changes.{Change, DeleteNewOrder, UpdateOrder, UpdateOrderLine, UpdateCustomer}
 use Rattle.oe_model.specs.Positions.{Position, InDeliveries, DeliveriesEnd, DeliveryPosition, DeliveryQueue}
 use Rattle.oe_model.specs.Positions.{DeliveryNothing, DeliveryOrder, DeliveryLine, DeliveryEnd}
-use Rattle.oe_model.specs.Effects.{Doing, given}
-use Rattle.oe_model.specs.Delivery.{undelivered, oldest, lines_of, dated, carried, delivered, delivered_to, Setting}
+use Rattle.oe_model.specs.Effects.{Doing, with_value}
+use Rattle.oe_model.specs.Delivery.{new_orders_of, oldest, lines_of, with_date, with_carrier, delivery_of_order}
+use Rattle.oe_model.specs.Delivery.{delivered_to, Setting}
 use Rattle.oe_model.specs.Delivery.{end_of, alone, delivery_ask, district_act, delivery_taken}
 use Rattle.oe_model.specs.Deliveries.{at_hand, among_ten}
-use Rattle.oe_model.specs.System.{system, taken}
+use Rattle.oe_model.specs.System.{system, locks_before}
 use Rattle.oe_model.proofs.MapFacts.{is_same}
 use Rattle.oe_model.proofs.EntryFacts.{same_kept}
 use Rattle.oe_model.proofs.RowFacts.{un_customer, un_new_order, un_order, un_order_line}
@@ -59,7 +60,7 @@ module _ (P : Name → Mode → Type 0) (x : Tx Request) (r s : Rows) (alike : A
   -- the lock of a queue tells its oldest order
   same_oldest : (h : DistrictKey) → P (name.Queue h) Shared → oldest h r.new_orders ≡ oldest h s.new_orders
   same_oldest h held =
-      let one : undelivered h r.new_orders ≡ undelivered h s.new_orders =
+      let one : new_orders_of h r.new_orders ≡ new_orders_of h s.new_orders =
       same_kept new_order_total exact_new_order (λ k. eq_by_cmp district_cmp (district_of_new_order k) h) r.new_orders
       s.new_orders (λ k e.
       un_new_order _ _ (alike.rows (key.NewOrder k)
@@ -90,8 +91,8 @@ district_act_same x t q (DeliveryOrder o) r s h =
     let orders : get r.orders j ≡ get s.orders j = un_order _ _ (h.rows (key.Order j) (inl (refl, tt))) in
     let lines : lines_of j r.order_lines ≡ lines_of j s.order_lines =
     same_lines (Holds system (district_held q (DeliveryOrder o) r)) x r s h j (inl (refl, tt)) in
-    λ i. given (NoSuchRow (key.Order j)) (orders i)
-    (λ x. Go (Some (UpdateOrder j (carried q.carrier x)))
+    λ i. with_value (NoSuchRow (key.Order j)) (orders i)
+    (λ x. Go (Some (UpdateOrder j (with_carrier q.carrier x)))
     (t.here (DeliveryLine o x.customer (map (λ e. e.0.number) (lines i)) 0)))
 district_act_same x t q (DeliveryLine o c [] sum) r s h = given_same
     (NoSuchRow (key.Customer (customer_in q.district c))) _ _ _
@@ -103,9 +104,9 @@ district_act_same x t q (DeliveryEnd o c sum) r s h = refl
 
 -- where the program stands, and goes on to, no more names are taken than on the way to the district's own position
 pub record TakesNoMore (x : Tx Request) (t : Setting) (q : DeliveryRequest) : Type 0 where
-  pub here : (p : DeliveryPosition) (n : Name) (m : Mode) → Holds system (taken x (t.here p)) n m
+  pub here : (p : DeliveryPosition) (n : Name) (m : Mode) → Holds system (locks_before x (t.here p)) n m
       → Holds system (delivery_taken q p) n m
-  pub next : (d : DistrictDelivery) (n : Name) (m : Mode) → Holds system (taken x (t.next d)) n m
+  pub next : (d : DistrictDelivery) (n : Name) (m : Mode) → Holds system (locks_before x (t.next d)) n m
       → Holds system (delivery_taken q (end_of d)) n m
   -- and neither has read what may change
   pub here_recalls : (p : DeliveryPosition) (r : Rows) → Recalls (t.here p) r
@@ -134,7 +135,7 @@ among_takes x q done = record {
     recalls_last d r false = tt
 
     by_last : (d : DistrictDelivery) (n : Name) (m : Mode) (b : Bool)
-        → Holds system (taken x
+        → Holds system (locks_before x
         (cond b (DeliveriesEnd (done ++ d ∷ [])) (InDeliveries q (done ++ d ∷ []) DeliveryQueue))) n m
         → Holds system (delivery_taken (at_hand q done) (end_of d)) n m
     by_last d n m true h = absurd h
@@ -166,25 +167,25 @@ module _ (x : Tx Request) (t : Setting) (q : DeliveryRequest) (more : TakesNoMor
       let (y, here, e1) = given_goes (NoSuchRow (key.Order j)) (get r.orders j) _ c z e in
       let p : DeliveryPosition = DeliveryLine o y.customer (map (λ e. e.0.number) (lines_of j r.order_lines)) 0 in
       lawful_as x hs r (Unit {0}) c _ z _ e1
-      (changes_plain x hs r (Unit {0}) (UpdateOrder j (carried q.carrier y)) (t.here p) (more.here p)
+      (changes_plain x hs r (Unit {0}) (UpdateOrder j (with_carrier q.carrier y)) (t.here p) (more.here p)
       (inl (refl, tt)) tt
-      (keeps_carrier (row_at r (key.Order j)) j (carried q.carrier y)) (λ _. more.here_recalls p _))
+      (keeps_carrier (row_at r (key.Order j)) j (with_carrier q.carrier y)) (λ _. more.here_recalls p _))
   district_lawful (DeliveryLine o b [] sum) r c z e =
       let hs : List (Hold Name) = district_held q (DeliveryLine o b [] sum) r in
       let (y, here, e1) = given_goes (NoSuchRow (key.Customer (customer_in q.district b)))
       (get r.customers (customer_in q.district b)) _ c z e in
       lawful_as x hs r (Unit {0}) c _ z _ (within_goes _ _ c z e1)
       (changes_plain x hs r (Unit {0}) (UpdateCustomer (customer_in q.district b) (delivered_to sum y))
-      (t.next (delivered o b sum)) (more.next (delivered o b sum)) (inl (refl, tt)) tt
+      (t.next (delivery_of_order o b sum)) (more.next (delivery_of_order o b sum)) (inl (refl, tt)) tt
       (keeps_customer r (customer_in q.district b) y (delivered_to sum y) here refl refl)
-      (λ _. more.next_recalls (delivered o b sum) _))
+      (λ _. more.next_recalls (delivery_of_order o b sum) _))
   district_lawful (DeliveryLine o b (n ∷ ns) sum) r c z e =
       let hs : List (Hold Name) = district_held q (DeliveryLine o b (n ∷ ns) sum) r in
       let j : OrderLineKey = line_in (order_in q.district o) n in
       let (y, here, e1) = given_goes (NoSuchRow (key.OrderLine j)) (get r.order_lines j) _ c z e in
       let p : DeliveryPosition = DeliveryLine o b ns (sum + y.amount) in
       lawful_as x hs r (Unit {0}) c _ z _ e1
-      (changes_plain x hs r (Unit {0}) (UpdateOrderLine j (dated q.stamp y)) (t.here p) (more.here p)
+      (changes_plain x hs r (Unit {0}) (UpdateOrderLine j (with_date q.stamp y)) (t.here p) (more.here p)
       (inl (refl, tt)) tt
-      (keeps_date (row_at r (key.OrderLine j)) j (dated q.stamp y)) (λ _. more.here_recalls p _))
+      (keeps_date (row_at r (key.OrderLine j)) j (with_date q.stamp y)) (λ _. more.here_recalls p _))
   district_lawful (DeliveryEnd o b sum) r c z e = let no : ⊥ = cc in absurd no

@@ -33,9 +33,9 @@ use Rattle.oe_model.specs.Keys.{customer_in, customer_of_order, district_of_new_
 use Rattle.oe_model.specs.Keys.{order_in}
 use Rattle.oe_model.specs.Rows.{Rows}
 use Rattle.oe_model.specs.Conditions.{HasNewOrder}
-use Rattle.oe_model.specs.Delivery.{undelivered, oldest, lines_of, worth, dated, delivered_to, delivered_out}
+use Rattle.oe_model.specs.Delivery.{new_orders_of, oldest, lines_of, worth, with_date, delivered_to, delivered_out}
 use Rattle.oe_model.specs.Delivery.{delivery_of, district_effect}
-use Rattle.oe_model.specs.Rename.{renamed, rename_effect}
+use Rattle.oe_model.specs.Rename.{with_new_name, rename_effect}
 use Rattle.oe_model.specs.Queries.{orders_of, last_order}
 use Rattle.oe_model.specs.Rules.{Order_is_local, Oldest_is_least, Delivery_is_exact, Rename_is_exact, IsLastOrder}
 use Rattle.oe_model.specs.Rules.{Order_is_last}
@@ -69,7 +69,8 @@ module _ (r : Rows) (h : DistrictKey) where
       (sym (ap (λ b. cond b (get r.new_orders (new_order_in h o)) None) (is_self district_total exact_district h))
       ∙ sym (get_kept new_order_total exact_new_order r.new_orders
       (λ k. eq_by_cmp district_cmp (district_of_new_order k) h) (new_order_in h o))
-      ∙ get-entries (undelivered h r.new_orders) (new_order_in h o) ∙ no_entries (entries (undelivered h r.new_orders))
+      ∙ get-entries (new_orders_of h r.new_orders) (new_order_in h o)
+      ∙ no_entries (entries (new_orders_of h r.new_orders))
       e (new_order_in h o))
 
 pub oldest_is_least : Oldest_is_least
@@ -82,14 +83,14 @@ module _ (q : DeliveryRequest) (r after : Rows) (d : DistrictDelivery) (o : ℕ)
   j = order_in q.district o
 
   abbrev dates : OrderLineKey → OrderLine → OrderLine
-  dates k x = cond (eq_by_cmp order_cmp (order_of_line k) j) (dated q.stamp x) x
+  dates k x = cond (eq_by_cmp order_cmp (order_of_line k) j) (with_date q.stamp x) x
 
   abbrev Dated : Rows → Type 0
-  Dated s = (order_of_line k ≡ j → get s.order_lines k ≡ Some (dated q.stamp x))
+  Dated s = (order_of_line k ≡ j → get s.order_lines k ≡ Some (with_date q.stamp x))
       × (order_of_line k ≢ j → get s.order_lines k ≡ Some x)
 
   dated_so : (b : Bool) → eq_by_cmp order_cmp (order_of_line k) j ≡ b → (s : Rows)
-      → get s.order_lines k ≡ Some (cond b (dated q.stamp x) x) → Dated s
+      → get s.order_lines k ≡ Some (cond b (with_date q.stamp x) x) → Dated s
   dated_so true t s e = ((λ _. e), (λ n. absurd (n (is_same order_total exact_order (order_of_line k) j t))))
   dated_so false t s e = (
     (λ same. let no : true ≡ false = sym (is_self order_total exact_order j)
@@ -112,10 +113,11 @@ delivery_is_exact = record {
   count = λ sum x. refl;
   others = λ sum x. refl;
   lines = λ q r after y o k x is e at.
-      (let all : Type 0 = (order_of_line k ≡ order_in q.district o → get after.order_lines k ≡ Some (dated q.stamp x))
+      (let all : Type 0 = (order_of_line k ≡ order_in q.district o → get after.order_lines k
+      ≡ Some (with_date q.stamp x))
       × (order_of_line k ≢ order_in q.district o → get after.order_lines k ≡ Some x) in
       there all (district_effect q r) _ (after, y) e (λ one one_at e.
-      subst (λ (s : Rows). (order_of_line k ≡ order_in q.district o → get s.order_lines k ≡ Some (dated q.stamp x))
+      subst (λ (s : Rows). (order_of_line k ≡ order_in q.district o → get s.order_lines k ≡ Some (with_date q.stamp x))
       × (order_of_line k ≢ order_in q.district o → get s.order_lines k ≡ Some x)) (made_by one.0 after _ y e)
       (lines_of_effect q r one.0 one.1 o k x at
       (sym (ap (λ (v : Option ℕ). let w : Option (Rows × DistrictDelivery) = elim v
@@ -131,9 +133,9 @@ other_stays q r after y k e n =
     ∙ by_case x (key_cases customer_total exact_customer k q.customer))
   where
     by_case : (x : Customer) → (k ≡ q.customer) ⊎ (eq_by_cmp customer_cmp k q.customer ≡ false)
-        → get (insert r.customers q.customer (renamed q x)) k ≡ get r.customers k
+        → get (insert r.customers q.customer (with_new_name q x)) k ≡ get r.customers k
     by_case x (inl s) = absurd (n s)
-    by_case x (inr t) = get_other customer_total exact_customer r.customers q.customer (renamed q x) k t
+    by_case x (inr t) = get_other customer_total exact_customer r.customers q.customer (with_new_name q x) k t
 
 pub rename_is_exact : Rename_is_exact
 rename_is_exact = record {

@@ -10,7 +10,7 @@ use Rattle.oe_model.specs.Keys.{warehouse_of_stock}
 use Rattle.oe_model.specs.Rows.{Rows}
 use Rattle.oe_model.specs.Changes.{Change, InsertHistory, InsertNewOrder, InsertOrder, InsertOrderLine, UpdateWarehouse}
 use Rattle.oe_model.specs.Changes.{UpdateDistrict, UpdateCustomer, UpdateOrder, UpdateOrderLine, UpdateStock}
-use Rattle.oe_model.specs.Changes.{DeleteNewOrder, changed}
+use Rattle.oe_model.specs.Changes.{DeleteNewOrder, rows_after}
 use Rattle.oe_model.specs.Meets.{Accepts}
 use Rattle.oe_model.specs.Conditions.{IsStocked}
 use Rattle.oe_model.specs.Positions.{Position}
@@ -19,7 +19,7 @@ use Rattle.oe_model.proofs.PresenceFacts.{present_before, present_insert}
 use Rattle.oe_model.proofs.EffectFacts.{made_by}
 use Rattle.oe_model.proofs.StepFacts.{EndsSo}
 
-module _ (P : Rows → Type 0) (kept : (c : Change) (r : Rows) → Accepts c r → P r → P (changed c r)) where
+module _ (P : Rows → Type 0) (kept : (c : Change) (r : Rows) → Accepts c r → P r → P (rows_after c r)) where
   after_kept : (c : Option Change) (r : Rows) → Fit system Accepts c r → P r → P (after system c r)
   after_kept None r fit h = h
   after_kept (Some c) r fit h = kept c r fit h
@@ -33,7 +33,7 @@ module _ (P : Rows → Type 0) (kept : (c : Change) (r : Rows) → Accepts c r �
       ends_kept Only x q (after system c r) end s y rest is (after_kept c r fit h)
 
 -- STOCK rows stay, and no warehouse or item comes
-pub accepted_stocked : (c : Change) (r : Rows) → Accepts c r → IsStocked r → IsStocked (changed c r)
+pub accepted_stocked : (c : Change) (r : Rows) → Accepts c r → IsStocked r → IsStocked (rows_after c r)
 accepted_stocked (UpdateWarehouse k x) r a h =
     λ j w i. h j (present_before warehouse_total exact_warehouse r.warehouses k x (warehouse_of_stock j) a w) i
 accepted_stocked (UpdateStock k x) r a h = λ j w i. present_insert stock_total exact_stock r.stocks k x j (h j w i)

@@ -48,11 +48,11 @@ use Rattle.oe_model.specs.Locks.{CustomerNamed}
 use Rattle.oe_model.specs.Locks.{StockThere, WholeItem, There, First, Whole, facet_key, part, first_if_named}
 use Rattle.oe_model.specs.Positions.{Position, InRename, RenameOld, RenameNew}
 use Rattle.oe_model.specs.Rename.{HasLast}
-use Rattle.oe_model.specs.Effects.{Doing, given, within}
-use Rattle.oe_model.specs.Choice.{middle, chosen}
+use Rattle.oe_model.specs.Effects.{Doing, with_value, within}
+use Rattle.oe_model.specs.Choice.{middle, customer_meant}
 use Rattle.oe_model.specs.NewOrder.{item_at}
 use Rattle.oe_model.specs.Requests.{warehouses_of, warehouse_no, first_absent, rejection, query_rejection}
-use Rattle.oe_model.specs.System.{system, ask, taken}
+use Rattle.oe_model.specs.System.{system, ask, locks_before}
 use Rattle.oe_model.proofs.EntryFacts.{EachOf}
 use Rattle.oe_model.proofs.NamesFacts.{same_namesakes}
 use Rattle.oe_model.proofs.PresenceFacts.{some-map}
@@ -64,7 +64,7 @@ IsAskedNow x p r = IsAsked system (all_held system) (ask x p r)
 
 -- the names that are held in a stage of a program
 abbrev pub held_then : Tx Request → Position → Rows → List (Hold Name)
-held_then x p r = with_asked system (ask x p r) (taken x p)
+held_then x p r = with_asked system (ask x p r) (locks_before x p)
 
 abbrev pub HeldThen : Tx Request → Position → Rows → Name → Mode → Type 0
 HeldThen x p r = Holds system (held_then x p r)
@@ -106,11 +106,12 @@ may_read hs x (Under n) h = holds_weaker hs n h
 may_read hs x (Own t k) h = h
 
 -- rows that need a value, or a row within its ranges
-pub given_same : {A : Type 0} (e : Refusal) (a b : Option A) (f : A → Doing) → a ≡ b → given e a f ≡ given e b f
-given_same e a b f h = ap (λ o. given e o f) h
+pub given_same : {A : Type 0} (e : Refusal) (a b : Option A) (f : A → Doing) → a ≡ b → with_value e a f
+    ≡ with_value e b f
+given_same e a b f h = ap (λ o. with_value e o f) h
 
 pub given_goes : {A : Type 0} (e : Refusal) (o : Option A) (f : A → Doing) (c : Option Change) (q : Position)
-    → given e o f ≡ Go c q → (a : A) × (o ≡ Some a) × (f a ≡ Go c q)
+    → with_value e o f ≡ Go c q → (a : A) × (o ≡ Some a) × (f a ≡ Go c q)
 given_goes e None f c q h = let no : ⊥ = cc in absurd no
 given_goes e (Some a) f c q h = (a, refl, h)
 
@@ -142,7 +143,7 @@ MayTurn x hs d before = (f : Facet) → facet_key f ≡ key_of d
 -- change, where what it has read still stands; and what the next position has read stands then
 pub record IsLawfulBy (x : Tx Request) (hs : List (Hold Name)) (r : Rows) (Before : Type 0) (c : Option Change)
     (q : Position) : Type 0 where
-  pub takes : (n : Name) (m : Mode) → Holds system (taken x q) n m → Holds system hs n m
+  pub takes : (n : Name) (m : Mode) → Holds system (locks_before x q) n m → Holds system hs n m
   pub writes : (d : Change) → c ≡ Some d → MayWrite system (Holds system hs) x (governs (key_of d))
   pub knows : (d : Change) → c ≡ Some d → Knows (Holds system hs) d
   pub turns : (d : Change) → c ≡ Some d → Before → MayTurn x hs d (row_at r (key_of d))
@@ -161,7 +162,8 @@ module _ (x : Tx Request) (hs : List (Hold Name)) (r : Rows) (Before : Type 0) w
       (subst (λ (v : Position). IsLawfulBy x hs r Before d v) two h)
 
   -- a row that makes no change
-  pub changes_none : (q : Position) → ((n : Name) (m : Mode) → Holds system (taken x q) n m → Holds system hs n m)
+  pub changes_none : (q : Position)
+      → ((n : Name) (m : Mode) → Holds system (locks_before x q) n m → Holds system hs n m)
       → (Before → Recalls q r) → IsLawfulBy x hs r Before None q
   changes_none q h j = record {
     takes = h;
@@ -173,7 +175,7 @@ module _ (x : Tx Request) (hs : List (Hold Name)) (r : Rows) (Before : Type 0) w
 
   -- a row that makes one change
   pub changes_one : (d : Change) (q : Position)
-      → ((n : Name) (m : Mode) → Holds system (taken x q) n m → Holds system hs n m)
+      → ((n : Name) (m : Mode) → Holds system (locks_before x q) n m → Holds system hs n m)
       → MayWrite system (Holds system hs) x (governs (key_of d)) → Knows (Holds system hs) d
       → (Before → MayTurn x hs d (row_at r (key_of d))) → (Before → Recalls q (after system (Some d) r))
       → IsLawfulBy x hs r Before (Some d) q
@@ -189,7 +191,7 @@ module _ (x : Tx Request) (hs : List (Hold Name)) (r : Rows) (Before : Type 0) w
 
   -- one that leaves each facet as it was
   pub changes_plain : (d : Change) (q : Position)
-      → ((n : Name) (m : Mode) → Holds system (taken x q) n m → Holds system hs n m)
+      → ((n : Name) (m : Mode) → Holds system (locks_before x q) n m → Holds system hs n m)
       → MayWrite system (Holds system hs) x (governs (key_of d)) → Knows (Holds system hs) d
       → Keeps d (row_at r (key_of d)) → (Before → Recalls q (after system (Some d) r))
       → IsLawfulBy x hs r Before (Some d) q
@@ -201,12 +203,12 @@ pub lawful_at : (x : Tx Request) (p : Position) (r : Rows) (c d : Option Change)
 lawful_at x p r c d q z e h = lawful_as x (held_then x p r) r (Recalls p r) c d q z e h
 
 pub lawful_none : (x : Tx Request) (p : Position) (r : Rows) (q : Position)
-    → ((n : Name) (m : Mode) → Holds system (taken x q) n m → HeldThen x p r n m) → (Recalls p r → Recalls q r)
+    → ((n : Name) (m : Mode) → Holds system (locks_before x q) n m → HeldThen x p r n m) → (Recalls p r → Recalls q r)
     → IsLawful x p r None q
 lawful_none x p r q h j = changes_none x (held_then x p r) r (Recalls p r) q h j
 
 pub lawful_one : (x : Tx Request) (p : Position) (r : Rows) (d : Change) (q : Position)
-    → ((n : Name) (m : Mode) → Holds system (taken x q) n m → HeldThen x p r n m)
+    → ((n : Name) (m : Mode) → Holds system (locks_before x q) n m → HeldThen x p r n m)
     → MayWrite system (HeldThen x p r) x (governs (key_of d)) → Knows (HeldThen x p r) d → Keeps d (row_at r (key_of d))
     → (Recalls p r → Recalls q (after system (Some d) r)) → IsLawful x p r (Some d) q
 lawful_one x p r d q h w j k m = changes_plain x (held_then x p r) r (Recalls p r) d q h w j k m
@@ -358,7 +360,7 @@ module _ (P : Name → Mode → Type 0) (x : Tx Request) (r s : Rows) (alike : A
   number_if c (Some x) = refl
 
   pub alike_chosen : (h : DistrictKey) (who : CustomerChoice) → HoldsNames P h who
-      → chosen h who r.customers ≡ chosen h who s.customers
+      → customer_meant h who r.customers ≡ customer_meant h who s.customers
   alike_chosen h (Number c) held =
       number_if c (get r.customers (customer_in h c)) ∙ ap (λ (b : Bool). cond b (Some c) None)
       (alike_customer (customer_in h c)) ∙ sym (number_if c (get s.customers (customer_in h c)))

@@ -28,7 +28,7 @@ use Rattle.oe_rows.proofs.KeyFacts.{exact_stock}
 use Rattle.oe_model.specs.Keys.{district_of_order, order_of_line}
 use Rattle.oe_model.specs.Rows.{Rows}
 use Rattle.oe_model.specs.Lists.{IsAmong, IsDistinct}
-use Rattle.oe_model.specs.Queries.{found, is_recent, recent_lines, is_low}
+use Rattle.oe_model.specs.Queries.{reply_with, is_recent, recent_lines, is_low}
 use Rattle.oe_model.specs.Rules.{IsLow, Level_is_exact, Modes_conflict}
 use Rattle.oe_model.proofs.MapFacts.{is_same, is_self}
 use Rattle.oe_model.proofs.EntryFacts.{EachOf, later, entries_at, row_among}
@@ -216,7 +216,7 @@ pub level_is_exact : Level_is_exact
 level_is_exact q r x at =
     let es = filter (is_low q (lines q r x)) (entries r.stocks) in (
       lows q r x (entries r.stocks),
-      ap (λ o. found (NoSuchRow (key.District q.district)) o
+      ap (λ o. reply_with (NoSuchRow (key.District q.district)) o
           (λ (x : District). let y : Outcome QueryReply Refusal = Here
           (told.Level (count_by (is_low q (recent_lines q.district x.next_order r.order_lines)) (entries r.stocks))) in
           y)) at

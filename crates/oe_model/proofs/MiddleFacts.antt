@@ -20,7 +20,7 @@ use Rattle.oe_rows.specs.declared.customers.Customer.{Customer}
 use Rattle.oe_rows.proofs.KeyFacts.{district_total, exact_district, customer_total, exact_customer}
 use Rattle.oe_model.specs.Lists.{IsAmong, IsDistinct}
 use Rattle.oe_model.specs.Keys.{customer_in, district_of_customer}
-use Rattle.oe_model.specs.Choice.{named, namesakes, comes_before, middle}
+use Rattle.oe_model.specs.Choice.{first_name_of, namesakes, comes_before, middle}
 use Rattle.oe_model.specs.Rules.{Name_is_middle}
 use Rattle.oe_model.proofs.MapFacts.{is_same, is_self}
 use Rattle.oe_model.proofs.EntryFacts.{EachOf, later, entries_at, row_among}
@@ -76,7 +76,7 @@ right false b p = absurd p
 
 module _ (m : FinMap customer_cmp Customer) (h : DistrictKey) (last : List ℕ) where
   abbrev take_name : CustomerKey × Customer → Option (List ℕ × ℕ)
-  take_name e = named h last e.0 e.1
+  take_name e = first_name_of h last e.0 e.1
 
   -- what it says of a customer that its name is taken
   record IsNamed (k : CustomerKey) (x : Customer) (p : List ℕ × ℕ) : Type 0 where
@@ -84,7 +84,7 @@ module _ (m : FinMap customer_cmp Customer) (h : DistrictKey) (last : List ℕ) 
     last_name : x.name.last ≡ last
     first : x.name.first ≡ p.0
 
-  is_named : (k : CustomerKey) (x : Customer) (p : List ℕ × ℕ) → named h last k x ≡ Some p → IsNamed k x p
+  is_named : (k : CustomerKey) (x : Customer) (p : List ℕ × ℕ) → first_name_of h last k x ≡ Some p → IsNamed k x p
   is_named k x p e = by_tests (eq_by_cmp district_cmp (district_of_customer k) h)
       (eq_by_cmp (slice_cmp nat_cmp) x.name.last last) refl refl e
     where
@@ -104,7 +104,8 @@ module _ (m : FinMap customer_cmp Customer) (h : DistrictKey) (last : List ℕ) 
       by_tests true false s t e = let no : ⊥ = cc in absurd no
       by_tests false b s t e = let no : ⊥ = cc in absurd no
 
-  names_it : (c : ℕ) (x : Customer) → x.name.last ≡ last → named h last (customer_in h c) x ≡ Some (x.name.first, c)
+  names_it : (c : ℕ) (x : Customer) → x.name.last ≡ last → first_name_of h last (customer_in h c) x
+      ≡ Some (x.name.first, c)
   names_it c x e =
       ap (λ b. cond {A = Option (List ℕ × ℕ)} (b && eq_by_cmp (slice_cmp nat_cmp) x.name.last last)
       (Some (x.name.first, c)) None) (is_self district_total exact_district h)

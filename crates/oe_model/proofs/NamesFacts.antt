@@ -14,7 +14,7 @@ use Rattle.oe_rows.specs.declared.customers.CustomerName.{CustomerName}
 use Rattle.oe_rows.specs.declared.rows.Row.TheVariants as row
 use Rattle.oe_rows.proofs.KeyFacts.{district_total, exact_district, customer_total, exact_customer}
 use Rattle.oe_model.specs.Keys.{district_of_customer}
-use Rattle.oe_model.specs.Choice.{named, namesakes, name_in, HaveSameNames}
+use Rattle.oe_model.specs.Choice.{first_name_of, namesakes, name_in, HaveSameNames}
 use Rattle.oe_model.specs.Rows.{Rows}
 use Rattle.oe_model.specs.Locks.{first_if_named}
 use Rattle.oe_model.proofs.MapFacts.{is_self, mapped, same_mapped}
@@ -25,7 +25,7 @@ module _ (h : DistrictKey) (last : List ℕ) where
   found k v = option_map (λ first. (first, k.customer)) (first_if_named last v)
 
   in_district : (k : CustomerKey) (x : Customer) → eq_by_cmp district_cmp (district_of_customer k) h ≡ true
-      → named h last k x ≡ found k (Some x)
+      → first_name_of h last k x ≡ found k (Some x)
   in_district k x e =
       ap (λ b. cond {A = Option (List ℕ × ℕ)} (b && eq_by_cmp (slice_cmp nat_cmp) x.name.last last)
       (Some (x.name.first, k.customer)) None) e ∙ by_name (eq_by_cmp (slice_cmp nat_cmp) x.name.last last)
@@ -36,14 +36,14 @@ module _ (h : DistrictKey) (last : List ℕ) where
       by_name false = refl
 
   elsewhere : (k : CustomerKey) (x : Customer) → eq_by_cmp district_cmp (district_of_customer k) h ≡ false
-      → named h last k x ≡ None
+      → first_name_of h last k x ≡ None
   elsewhere k x e = ap (λ b. cond {A = Option (List ℕ × ℕ)} (b && eq_by_cmp (slice_cmp nat_cmp) x.name.last last)
       (Some (x.name.first, k.customer)) None) e
 
   by_rows : (k : CustomerKey) (u v : Option Customer) → is_some u ≡ is_some v
       → (district_of_customer k ≡ h → first_if_named last u ≡ first_if_named last v)
       → (district_of_customer k ≡ h) ⊎ (eq_by_cmp district_cmp (district_of_customer k) h ≡ false)
-      → option_map (named h last k) u ≡ option_map (named h last k) v
+      → option_map (first_name_of h last k) u ≡ option_map (first_name_of h last k) v
   by_rows k None None p n c = refl
   by_rows k None (Some y) p n c = let no : ⊥ = cc in absurd no
   by_rows k (Some x) None p n c = let no : ⊥ = cc in absurd no
@@ -54,9 +54,10 @@ module _ (h : DistrictKey) (last : List ℕ) where
   by_rows k (Some x) (Some y) p n (inr t) = ap Some (elsewhere k x t ∙ sym (elsewhere k y t))
 
   taken_from : (es : List (CustomerKey × Customer))
-      → filter_map (λ e. named h last e.0 e.1) es ≡ filter_map (λ e. e.1) (mapped customer_cmp (named h last) es)
+      → filter_map (λ e. first_name_of h last e.0 e.1) es
+      ≡ filter_map (λ e. e.1) (mapped customer_cmp (first_name_of h last) es)
   taken_from [] = refl
-  taken_from (e ∷ es) = ap (cons_option (named h last e.0 e.1)) (taken_from es)
+  taken_from (e ∷ es) = ap (cons_option (first_name_of h last e.0 e.1)) (taken_from es)
 
   pub same_namesakes : (a b : FinMap customer_cmp Customer)
       → ((k : CustomerKey) → is_some (get a k) ≡ is_some (get b k))
@@ -66,7 +67,7 @@ module _ (h : DistrictKey) (last : List ℕ) where
   same_namesakes a b p n =
       taken_from (entries a)
       ∙ ap (λ (es : List (CustomerKey × Option (List ℕ × ℕ))). filter_map (λ e. e.1) es)
-      (same_mapped customer_total exact_customer (named h last) a b
+      (same_mapped customer_total exact_customer (first_name_of h last) a b
       (λ k. by_rows k (get a k) (get b k) (p k) (n k)
       (key_cases district_total exact_district (district_of_customer k) h)))
       ∙ sym (taken_from (entries b))

@@ -35,8 +35,9 @@ use Rattle.oe_model.specs.Positions.{Seen, Filled, Position, InNewOrder, NewOrde
 use Rattle.oe_model.specs.Positions.{NewOrderCustomer, NewOrderOrder, NewOrderQueue, NewOrderStock, NewOrderLine}
 use Rattle.oe_model.specs.Effects.{◌>>=◌}
 use Rattle.oe_model.specs.Payment.{is_count}
-use Rattle.oe_model.specs.NewOrder.{stock_of, stock_out, next_out, supplied, after_lines, all_filled, fill, item_at}
-use Rattle.oe_model.specs.NewOrder.{order_row, new_order_row, with_next, seen, ordered_reply, replies_of, line_entries}
+use Rattle.oe_model.specs.NewOrder.{stock_of, stock_out, next_out, stock_after, after_lines, all_filled, fill, item_at}
+use Rattle.oe_model.specs.NewOrder.{order_row, new_order_row, with_next, first_reads, ordered_reply, replies_of}
+use Rattle.oe_model.specs.NewOrder.{line_entries}
 use Rattle.oe_model.specs.NewOrder.{new_order_effect}
 use Rattle.oe_model.specs.Requests.{OfNewOrder, NewOrderMayRefuse}
 use Rattle.oe_model.proofs.MapFacts.{get-each, with_all-append}
@@ -121,7 +122,7 @@ module _ (q : NewOrderRequest) (s : Seen) (r : Rows) (districts : FinMap distric
       _ _
       (missing (get r.stocks (stock_of l)) (stocks.0 item found)) a
       (get-each stock_cmp (after_lines q.district.warehouse before) exact_stock r.stocks (stock_of l)) (λ y here a.
-      let y' : Stock = supplied q.district.warehouse (stock_of l)
+      let y' : Stock = stock_after q.district.warehouse (stock_of l)
       (after_lines q.district.warehouse before (stock_of l) y) l.quantity in
       ends_within NewOrderMayRefuse x p m asked stock_out y' _ _ (of_stock y') a (λ _ b.
       let f : Filled = fill q (length before + 1) l item y' in
@@ -185,7 +186,7 @@ new_order_ends x q r fresh warehouse_there district_there stocks =
     goes_here p1 r (Some (UpdateDistrict q.district (with_next d))) p2 _ tt b district_there (
     ends_found NewOrderMayRefuse x p2 r2 NoCustomer NoCustomer (get r.customers (customer_in q.district q.customer))
     (λ _. name.Customer (customer_in q.district q.customer)) Shared _ _ tt refl refl (λ c c_at asked a.
-    let s : Seen = seen w d c in
+    let s : Seen = first_reads w d c in
     let p3 : Position = InNewOrder q (NewOrderOrder s) in
     goes_here p2 r2 None p3 _ asked a tt (
     let p4 : Position = InNewOrder q (NewOrderQueue s) in

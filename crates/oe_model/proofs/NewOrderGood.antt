@@ -26,7 +26,8 @@ use Rattle.oe_model.specs.Rows.{Rows}
 use Rattle.oe_model.specs.Maps.{each, with_all, sum_of}
 use Rattle.oe_model.specs.Meets.{Meets}
 use Rattle.oe_model.specs.Positions.{Filled}
-use Rattle.oe_model.specs.NewOrder.{stock_of, stock_out, next_out, item_at, after_lines, filled, all_filled, order_row}
+use Rattle.oe_model.specs.NewOrder.{stock_of, stock_out, next_out, item_at, after_lines, line_filled_from, all_filled}
+use Rattle.oe_model.specs.NewOrder.{order_row}
 use Rattle.oe_model.specs.NewOrder.{new_order_row, with_next, line_entries, new_order_effect}
 use Rattle.oe_model.specs.Conditions.{Good, Condition_1, Condition_2, Condition_2_at, Condition_3, Condition_4}
 use Rattle.oe_model.specs.Conditions.{IsStocked, ytd_of, new_orders_of, lines_asked, lines_there, if_of}
@@ -54,7 +55,7 @@ module _ (q : NewOrderRequest) (r : Rows) where
   lines_are [] before (f ∷ fs) e = let no : ⊥ = cc in absurd no
   lines_are (l ∷ ls) before fs e =
       let P : Type 0 = AreLines before (l ∷ ls) fs in
-      there P (filled q r before l) _ fs e (λ f f_is e.
+      there P (line_filled_from q r before l) _ fs e (λ f f_is e.
       there P (item_at l.item r.items) _ f f_is (λ item _ f_is.
       there P (get r.stocks (stock_of l)) _ f f_is (λ stock _ f_is.
       there_in_range P stock_out (after_lines q.district.warehouse (before ++ l ∷ []) (stock_of l) stock) _ f f_is

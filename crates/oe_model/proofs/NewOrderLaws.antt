@@ -24,10 +24,10 @@ use Rattle.oe_model.specs.Changes.{Change, UpdateDistrict, UpdateStock, InsertOr
 use Rattle.oe_model.specs.Locks.{hold}
 use Rattle.oe_model.specs.Positions.{Position, Seen, InNewOrder, NewOrderPosition, NewOrderWarehouse, NewOrderDistrict}
 use Rattle.oe_model.specs.Positions.{NewOrderCustomer, NewOrderOrder, NewOrderQueue, NewOrderStock, NewOrderLine}
-use Rattle.oe_model.specs.Effects.{Doing, given, within}
-use Rattle.oe_model.specs.NewOrder.{stock_of, stock_out, supplied, fill, item_at, stock_holds, with_next, order_row}
+use Rattle.oe_model.specs.Effects.{Doing, with_value, within}
+use Rattle.oe_model.specs.NewOrder.{stock_of, stock_out, stock_after, fill, item_at, stock_holds, with_next, order_row}
 use Rattle.oe_model.specs.NewOrder.{new_order_row}
-use Rattle.oe_model.specs.System.{system, ask, act, taken}
+use Rattle.oe_model.specs.System.{system, ask, act, locks_before}
 use Rattle.oe_model.proofs.RowFacts.{un_warehouse, un_district, un_customer, un_stock}
 use Rattle.oe_model.proofs.LawFacts.{IsAskedNow, HeldThen, holds_asked, holds_last, holds_more, given_same, given_goes}
 use Rattle.oe_model.proofs.LawFacts.{within_goes, IsLawful, lawful_at, lawful_none, lawful_one, keeps_district}
@@ -50,16 +50,17 @@ if_item : Name → Option Item → Ask Name Refusal
 if_item n o = elim o [ None ↦ Stop InvalidItem | Some y ↦ Take n Exclusive ]
 
 pub new_order_ask_same : (x : Tx Request) (q : NewOrderRequest) (p : NewOrderPosition) (r s : Rows)
-    → Alike system (Holds system (taken x (InNewOrder q p))) x r s → ask x (InNewOrder q p) r ≡ ask x (InNewOrder q p) s
+    → Alike system (Holds system (locks_before x (InNewOrder q p))) x r s → ask x (InNewOrder q p) r
+    ≡ ask x (InNewOrder q p) s
 unfolding if_customer if_item
 new_order_ask_same x q (NewOrderCustomer o w d) r s h =
     same_if NoCustomer (name.Customer (customer_in q.district q.customer))
     (get r.customers (customer_in q.district q.customer)) (get s.customers (customer_in q.district q.customer))
-    (alike_customer (Holds system (taken x (InNewOrder q (NewOrderCustomer o w d)))) x r s h
+    (alike_customer (Holds system (locks_before x (InNewOrder q (NewOrderCustomer o w d)))) x r s h
     (customer_in q.district q.customer))
 new_order_ask_same x q (NewOrderStock t before done (l ∷ ls)) r s h =
     ap (if_item (name.Stock (stock_of l)))
-    (alike_item_at (Holds system (taken x (InNewOrder q (NewOrderStock t before done (l ∷ ls))))) x r s h l.item)
+    (alike_item_at (Holds system (locks_before x (InNewOrder q (NewOrderStock t before done (l ∷ ls))))) x r s h l.item)
 new_order_ask_same x q _ r s h = refl
 
 -- a row that took its lock has found what it asks for
@@ -93,7 +94,7 @@ new_order_act_same x q (NewOrderCustomer o w d) r s k h =
     let p : Position = InNewOrder q (NewOrderCustomer o w d) in
     let n : Name = name.Customer (customer_in q.district q.customer) in
     given_same NoCustomer _ _ _ (un_customer _ _ (h.rows (key.Customer (customer_in q.district q.customer))
-    (holds_asked (ask x p r) (taken x p) n Shared Shared
+    (holds_asked (ask x p r) (locks_before x p) n Shared Shared
     (asks_customer x q o w d r (get r.customers (customer_in q.district q.customer)) refl k) tt)))
 new_order_act_same x q (NewOrderOrder t) r s k h = refl
 new_order_act_same x q (NewOrderQueue t) r s k h = refl
@@ -101,15 +102,15 @@ new_order_act_same x q (NewOrderStock t before done []) r s k h = refl
 new_order_act_same x q (NewOrderStock t before done (l ∷ ls)) r s k h =
     let p : Position = InNewOrder q (NewOrderStock t before done (l ∷ ls)) in
     let f : Item → Stock → Doing = λ item y.
-    (let y' : Stock = supplied q.district.warehouse (stock_of l) y l.quantity in
+    (let y' : Stock = stock_after q.district.warehouse (stock_of l) y l.quantity in
     within (stock_out y')
     (Go (Some (UpdateStock (stock_of l) y'))
     (InNewOrder q (NewOrderLine t before done l (fill q (length before + 1) l item y') ls)))) in
     let stocks : get r.stocks (stock_of l) ≡ get s.stocks (stock_of l) = un_stock _ _ (h.rows (key.Stock (stock_of l))
-    (holds_asked (ask x p r) (taken x p) (name.Stock (stock_of l)) Exclusive Shared
+    (holds_asked (ask x p r) (locks_before x p) (name.Stock (stock_of l)) Exclusive Shared
     (asks_stock x q t before done l ls r (item_at l.item r.items) refl k) tt)) in
     let items : item_at l.item r.items ≡ item_at l.item s.items = alike_item_at (HeldThen x p r) x r s h l.item in
-    λ i. given InvalidItem (items i) (λ item. given (NoSuchRow (key.Stock (stock_of l))) (stocks i) (f item))
+    λ i. with_value InvalidItem (items i) (λ item. with_value (NoSuchRow (key.Stock (stock_of l))) (stocks i) (f item))
 new_order_act_same x q (NewOrderLine t before done l f ls) r s k h = refl
 
 pub new_order_lawful : (x : Tx Request) (q : NewOrderRequest) (p : NewOrderPosition) (r : Rows) (c : Option Change)
@@ -133,7 +134,7 @@ new_order_lawful x q (NewOrderCustomer o w d) r c z k e =
     let a = asks_customer x q o w d r (get r.customers (customer_in q.district q.customer)) refl k in
     lawful_at x p r c _ z _ e1
     (lawful_none x p r _ (λ n m h. subst
-    (λ (v : Ask Name Refusal). Holds system (with_asked system v (taken x p)) n m) (sym a) h) (λ _. tt))
+    (λ (v : Ask Name Refusal). Holds system (with_asked system v (locks_before x p)) n m) (sym a) h) (λ _. tt))
 new_order_lawful x q (NewOrderOrder t) r c z k e =
     let p : Position = InNewOrder q (NewOrderOrder t) in
     lawful_at x p r c _ z _ e
@@ -154,10 +155,10 @@ new_order_lawful x q (NewOrderStock t before done (l ∷ ls)) r c z k e =
     let (y, here, e2) = given_goes (NoSuchRow (key.Stock (stock_of l))) (get r.stocks (stock_of l)) _ c z e1 in
     let a = asks_stock x q t before done l ls r (item_at l.item r.items) refl k in
     lawful_at x p r c _ z _ (within_goes _ _ c z e2)
-    (lawful_one x p r (UpdateStock (stock_of l) (supplied q.district.warehouse (stock_of l) y l.quantity)) _
-    (λ n m h. subst (λ (v : Ask Name Refusal). Holds system (with_asked system v (taken x p)) n m) (sym a) h)
-    (holds_asked (ask x p r) (taken x p) (name.Stock (stock_of l)) Exclusive Exclusive a tt) tt
-    (keeps_stock r (stock_of l) y (supplied q.district.warehouse (stock_of l) y l.quantity) here) (λ _. tt))
+    (lawful_one x p r (UpdateStock (stock_of l) (stock_after q.district.warehouse (stock_of l) y l.quantity)) _
+    (λ n m h. subst (λ (v : Ask Name Refusal). Holds system (with_asked system v (locks_before x p)) n m) (sym a) h)
+    (holds_asked (ask x p r) (locks_before x p) (name.Stock (stock_of l)) Exclusive Exclusive a tt) tt
+    (keeps_stock r (stock_of l) y (stock_after q.district.warehouse (stock_of l) y l.quantity) here) (λ _. tt))
 new_order_lawful x q (NewOrderLine t before done l f ls) r c z k e =
     let p : Position = InNewOrder q (NewOrderLine t before done l f ls) in
     let base : List (Hold Name) = hold (name.Queue q.district) Exclusive ∷ hold

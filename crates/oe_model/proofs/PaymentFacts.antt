@@ -27,7 +27,7 @@ use Rattle.oe_model.specs.Positions.{Position, InPayment, PaymentWarehouse, Paym
 use Rattle.oe_model.specs.Positions.{PaymentCustomer, PaymentHistory, PaymentEnd}
 use Rattle.oe_model.specs.Effects.{◌>>=◌, in_range}
 use Rattle.oe_model.specs.Requests.{OfPayment, PaymentMayRefuse}
-use Rattle.oe_model.specs.Choice.{chosen}
+use Rattle.oe_model.specs.Choice.{customer_meant}
 use Rattle.oe_model.specs.Payment.{is_money, is_balance, is_count, payment_effect, paid_warehouse, paid_district}
 use Rattle.oe_model.specs.Payment.{paid_customer, paid_warehouse_out, paid_district_out, paid_customer_out, paid_reply}
 use Rattle.oe_model.specs.Payment.{history_data, history_row, history_key, names_lock, behind_district}
@@ -88,13 +88,13 @@ module _ (x : Tx Request) (q : PaymentRequest) (r : Rows) (w d : List ℕ)
   -- by name: the customer is looked up under the name's lock
   names_ends : (last : List ℕ) → (let who : CustomerChoice = LastName last in who ≡ q.customer)
       → EndsSo PaymentMayRefuse x (InPayment q (PaymentNames w d)) r
-      (chosen q.customer_district q.customer r.customers >>= from_customer x q r w d)
+      (customer_meant q.customer_district q.customer r.customers >>= from_customer x q r w d)
   names_ends last by_name =
       let p : Position = InPayment q (PaymentNames w d) in
       let asked : IsAsked system (all_held system) (names_lock q.customer_district q.customer) =
       subst (λ (who : CustomerChoice). IsAsked system (all_held system) (names_lock q.customer_district who)) by_name tt
       in
-      ends_given PaymentMayRefuse x p r asked NoCustomer (chosen q.customer_district q.customer r.customers) _ _
+      ends_given PaymentMayRefuse x p r asked NoCustomer (customer_meant q.customer_district q.customer r.customers) _ _
       (λ _. tt) refl (λ c _ a.
       goes_here p r None (InPayment q (PaymentCustomer w d c)) _ asked a tt (customer_ends c))
 
@@ -112,12 +112,12 @@ module _ (x : Tx Request) (q : PaymentRequest) (r : Rows) (w d : List ℕ)
 
   behind_ends : (who : CustomerChoice) → who ≡ q.customer
       → EndsSo PaymentMayRefuse x (InPayment q (behind_district who w d)) r
-      (chosen q.customer_district who r.customers >>= from_customer x q r w d)
+      (customer_meant q.customer_district who r.customers >>= from_customer x q r w d)
   behind_ends (Number c) e = subst (λ v. EndsSo PaymentMayRefuse x (InPayment q (PaymentCustomer w d c)) r v)
       (by_number c _ refl) (customer_ends c)
   behind_ends (LastName last) e = subst (λ (who : CustomerChoice).
       EndsSo PaymentMayRefuse x (InPayment q (PaymentNames w d)) r
-      (chosen q.customer_district who r.customers >>= from_customer x q r w d)) (sym e) (names_ends last e)
+      (customer_meant q.customer_district who r.customers >>= from_customer x q r w d)) (sym e) (names_ends last e)
 
 pub payment_ends : (x : Tx Request) (q : PaymentRequest) (r : Rows)
     → get r.histories (history_key x.terminal x.number) ≡ None

@@ -22,10 +22,10 @@ use Rattle.oe_model.specs.Changes.{Change, UpdateWarehouse, UpdateDistrict, Upda
 use Rattle.oe_model.specs.Positions.{Position, InPayment, PaymentPosition, PaymentWarehouse, PaymentDistrict}
 use Rattle.oe_model.specs.Positions.{PaymentNames, PaymentCustomer, PaymentHistory, PaymentEnd}
 use Rattle.oe_model.specs.Effects.{Doing}
-use Rattle.oe_model.specs.Choice.{chosen}
+use Rattle.oe_model.specs.Choice.{customer_meant}
 use Rattle.oe_model.specs.Payment.{paid_warehouse, paid_district, paid_customer, history_key, history_row}
 use Rattle.oe_model.specs.Payment.{names_lock, names_hold, behind_district, payment_taken}
-use Rattle.oe_model.specs.System.{system, ask, act, taken}
+use Rattle.oe_model.specs.System.{system, ask, act, locks_before}
 use Rattle.oe_model.proofs.RowFacts.{un_warehouse, un_district, un_customer}
 use Rattle.oe_model.proofs.LawFacts.{IsAskedNow, HeldThen, holds_asked, given_same, given_goes, within_goes, IsLawful}
 use Rattle.oe_model.proofs.LawFacts.{HoldsNames, lawful_at, lawful_none, lawful_one, keeps_warehouse}
@@ -46,11 +46,12 @@ lock_same q c (Some x) None e = let no : ⊥ = cc in absurd no
 lock_same q c (Some x) (Some y) e = refl
 
 pub payment_ask_same : (x : Tx Request) (q : PaymentRequest) (p : PaymentPosition) (r s : Rows)
-    → Alike system (Holds system (taken x (InPayment q p))) x r s → ask x (InPayment q p) r ≡ ask x (InPayment q p) s
+    → Alike system (Holds system (locks_before x (InPayment q p))) x r s → ask x (InPayment q p) r
+    ≡ ask x (InPayment q p) s
 payment_ask_same x q (PaymentCustomer w d c) r s h =
     let k : CustomerKey = customer_in q.customer_district c in
     lock_same q c (get r.customers k) (get s.customers k)
-    (alike_customer (Holds system (taken x (InPayment q (PaymentCustomer w d c)))) x r s h k)
+    (alike_customer (Holds system (locks_before x (InPayment q (PaymentCustomer w d c)))) x r s h k)
 payment_ask_same x q _ r s h = refl
 
 -- at the customer's stage its row is read under its lock
@@ -64,7 +65,7 @@ customer_same x q w d c r s k h None e =
 customer_same x q w d c r s k h (Some y) e =
     let p : Position = InPayment q (PaymentCustomer w d c) in
     un_customer _ _ (h.rows (key.Customer (customer_in q.customer_district c))
-    (holds_asked (ask x p r) (taken x p) (name.Customer (customer_in q.customer_district c)) Exclusive Shared
+    (holds_asked (ask x p r) (locks_before x p) (name.Customer (customer_in q.customer_district c)) Exclusive Shared
     (ap (customer_lock q c) e) tt))
 
 -- a payment by name holds the name where it looks the customer up, and behind that
@@ -122,7 +123,7 @@ payment_lawful x q (PaymentDistrict w) r c z k e =
     (keeps_district r q.district y (paid_district q y) here) (λ _. tt))
 payment_lawful x q (PaymentNames w d) r c z k e =
     let p : Position = InPayment q (PaymentNames w d) in
-    let (b, found, e1) = given_goes NoCustomer (chosen q.customer_district q.customer r.customers) _ c z e in
+    let (b, found, e1) = given_goes NoCustomer (customer_meant q.customer_district q.customer r.customers) _ c z e in
     lawful_at x p r c _ z _ e1 (lawful_none x p r (InPayment q (PaymentCustomer w d b))
     (λ n m h. subst (λ (hs : List (Hold Name)). Holds system hs n m)
     (names_taken q.customer_district q.customer (payment_taken q (PaymentNames w d))) h) (λ _. tt))
@@ -133,8 +134,9 @@ payment_lawful x q (PaymentCustomer w d b) r c z k e =
     ap (customer_lock q b) here in
     lawful_at x p r c _ z _ (within_goes _ _ c z e1)
     (lawful_one x p r (UpdateCustomer (customer_in q.customer_district b) (paid_customer b q y)) _
-    (λ n m h. subst (λ (v : Ask Name Refusal). Holds system (with_asked system v (taken x p)) n m) (sym a) h)
-    (holds_asked (ask x p r) (taken x p) (name.Customer (customer_in q.customer_district b)) Exclusive Exclusive a tt)
+    (λ n m h. subst (λ (v : Ask Name Refusal). Holds system (with_asked system v (locks_before x p)) n m) (sym a) h)
+    (holds_asked (ask x p r) (locks_before x p)
+    (name.Customer (customer_in q.customer_district b)) Exclusive Exclusive a tt)
     tt
     (keeps_customer r (customer_in q.customer_district b) y (paid_customer b q y) here refl refl) (λ _. tt))
 payment_lawful x q (PaymentHistory d y) r c z k e =

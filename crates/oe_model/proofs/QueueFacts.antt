@@ -21,7 +21,7 @@ use Rattle.oe_rows.proofs.KeyFacts.{district_total, exact_district, new_order_to
 use Rattle.oe_rows.proofs.KeyFacts.{exact_order_line}
 use Rattle.oe_model.specs.Keys.{district_of_new_order, order_of_line, new_order_in}
 use Rattle.oe_model.specs.Maps.{each}
-use Rattle.oe_model.specs.Delivery.{undelivered, oldest, lines_of, worth, dated}
+use Rattle.oe_model.specs.Delivery.{new_orders_of, oldest, lines_of, worth, with_date}
 use Rattle.oe_model.specs.Conditions.{IsLeast}
 use Rattle.oe_model.proofs.MapFacts.{tied, get-each, same, is_same, is_self}
 use Rattle.oe_model.proofs.EntryFacts.{EachOf, kept_at, get_kept, same_each, among_kept}
@@ -93,17 +93,17 @@ module _ (h : DistrictKey) (m : FinMap new_order_cmp NewOrder) where
 
   pub oldest_least : (o : ℕ) → oldest h m ≡ Some o → IsLeast (λ i. IsSome (get m (new_order_in h i))) o
   oldest_least o e =
-      oldest_in o (entries (undelivered h m)) (entries_sorted (undelivered h m))
+      oldest_in o (entries (new_orders_of h m)) (entries_sorted (new_orders_of h m))
       (kept_at new_order_total exact_new_order m mine)
       (λ i p. subst (λ (v : Option NewOrder). IsSome v)
       (sym (get_kept new_order_total exact_new_order m mine (new_order_in h i)
       ∙ ap (λ b. cond b (get m (new_order_in h i)) None) (is_self district_total exact_district h))
-      ∙ get-entries (undelivered h m) (new_order_in h i)) p)
+      ∙ get-entries (new_orders_of h m) (new_order_in h i)) p)
       e
 
 -- a line that is dated if its key is marked
 abbrev pub date_marked : ℕ → (OrderLineKey → Bool) → OrderLineKey → OrderLine → OrderLine
-date_marked stamp marked k x = cond (marked k) (dated stamp x) x
+date_marked stamp marked k x = cond (marked k) (with_date stamp x) x
 
 abbrev pub mark : OrderLineKey → (OrderLineKey → Bool) → OrderLineKey → Bool
 mark j marked k = eq_by_cmp order_line_cmp k j || marked k
@@ -131,7 +131,7 @@ mark_all-any (e ∷ es) marked k = mark_all-any es (mark e.0 marked) k
 module _ (stamp : ℕ) (m : FinMap order_line_cmp OrderLine) where
   -- to date one more line is to mark one more
   pub dated-marked : (marked : OrderLineKey → Bool) (k : OrderLineKey) (x : OrderLine) → get m k ≡ Some x
-      → insert (each (date_marked stamp marked) m) k (dated stamp (date_marked stamp marked k x)) ≡ each
+      → insert (each (date_marked stamp marked) m) k (with_date stamp (date_marked stamp marked k x)) ≡ each
       (date_marked stamp (mark k marked)) m
   dated-marked marked k x here = same order_line_total exact_order_line _ _ (λ j.
       get-insert order_line_total (each (date_marked stamp marked) m) k _ j
@@ -140,25 +140,26 @@ module _ (stamp : ℕ) (m : FinMap order_line_cmp OrderLine) where
       ∙ by_key j (eq_by_cmp order_line_cmp j k) refl
       ∙ sym (get-each order_line_cmp (date_marked stamp (mark k marked)) exact_order_line m j))
     where
-      once : (b : Bool) → dated stamp (cond b (dated stamp x) x) ≡ dated stamp x
+      once : (b : Bool) → with_date stamp (cond b (with_date stamp x) x) ≡ with_date stamp x
       once true = refl
       once false = refl
 
       by_key : (j : OrderLineKey) (b : Bool) → eq_by_cmp order_line_cmp j k ≡ b
-          → cond b (Some (dated stamp (date_marked stamp marked k x)))
-          (option_map (date_marked stamp marked j) (get m j)) ≡ option_map (λ y. cond (b || marked j) (dated stamp y) y)
+          → cond b (Some (with_date stamp (date_marked stamp marked k x)))
+          (option_map (date_marked stamp marked j) (get m j))
+          ≡ option_map (λ y. cond (b || marked j) (with_date stamp y) y)
           (get m j)
       by_key j true e =
-          ap Some (once (marked k)) ∙ ap (option_map (λ y. dated stamp y)) (sym here)
-          ∙ ap (λ (i : OrderLineKey). option_map (λ y. dated stamp y) (get m i))
+          ap Some (once (marked k)) ∙ ap (option_map (λ y. with_date stamp y)) (sym here)
+          ∙ ap (λ (i : OrderLineKey). option_map (λ y. with_date stamp y) (get m i))
           (sym (is_same order_line_total exact_order_line j k e))
       by_key j false e = refl
 
   -- to mark each of an order's lines is to mark what is of the order
   pub all-dated : (k : OrderKey) → each (date_marked stamp (mark_all (lines_of k m) (λ _. false))) m ≡ each
-      (λ j x. cond (eq_by_cmp order_cmp (order_of_line j) k) (dated stamp x) x) m
+      (λ j x. cond (eq_by_cmp order_cmp (order_of_line j) k) (with_date stamp x) x) m
   all-dated k = same_each order_line_total exact_order_line _ _ m (λ j x e.
-      ap (λ (b : Bool). cond b (dated stamp x) x)
+      ap (λ (b : Bool). cond b (with_date stamp x) x)
       (mark_all-any (lines_of k m) (λ _. false) j ∙ among_kept order_line_total exact_order_line m
       (λ l. eq_by_cmp order_cmp (order_of_line l) k) j x e))
 

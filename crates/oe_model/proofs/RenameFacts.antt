@@ -16,10 +16,10 @@ use Rattle.oe_model.specs.Rows.{Rows}
 use Rattle.oe_model.specs.Changes.{UpdateCustomer}
 use Rattle.oe_model.specs.Meets.{Meets}
 use Rattle.oe_model.specs.Conditions.{Good, IsStocked}
-use Rattle.oe_model.specs.Effects.{given, Doing}
+use Rattle.oe_model.specs.Effects.{with_value, Doing}
 use Rattle.oe_model.specs.Positions.{Position, InRename, RenameCustomer, RenameOld, RenameNew, RenameEnd}
 use Rattle.oe_model.specs.Requests.{RenameMayRefuse}
-use Rattle.oe_model.specs.Rename.{renamed, rename_reply, rename_effect}
+use Rattle.oe_model.specs.Rename.{with_new_name, rename_reply, rename_effect}
 use Rattle.oe_model.proofs.EffectFacts.{there, made_by}
 use Rattle.oe_model.proofs.StepFacts.{EndsSo, ends_found}
 use Rattle.oe_model.proofs.DeliveryGood.{good_bump}
@@ -33,19 +33,19 @@ rename_ends x q r =
     let p1 : Position = InRename q (RenameOld u.name.last) in
     let p2 : Position = InRename q (RenameNew u.name.last) in
     let p3 : Position = InRename q (RenameEnd u.name.last) in
-    let r1 : Rows = record r { customers = insert r.customers q.customer (renamed q u) } in
+    let r1 : Rows = record r { customers = insert r.customers q.customer (with_new_name q u) } in
     goes_here p0 r None p1 _ k a tt (
     goes_here p1 r None p2 _ tt refl tt (
-    goes_here p2 r (Some (UpdateCustomer q.customer (renamed q u))) p3 _ tt
-    (ap (λ o. given NoCustomer o (λ (y : Customer).
-    let done : Doing = Go (Some (UpdateCustomer q.customer (renamed q y))) p3 in done)) u_at) (ap is_some u_at) (
+    goes_here p2 r (Some (UpdateCustomer q.customer (with_new_name q u))) p3 _ tt
+    (ap (λ o. with_value NoCustomer o (λ (y : Customer).
+    let done : Doing = Go (Some (UpdateCustomer q.customer (with_new_name q y))) p3 in done)) u_at) (ap is_some u_at) (
     ends_here p3 r1 (reply.Rename (rename_reply q)) tt refl))))
 
 pub rename_good : (f : ℕ → ℕ) (t : ℕ) (q : RenameRequest) (r after : Rows) (y : Reply) → Good f r → Meets after
     → IsStocked after → rename_effect q r ≡ Some (after, y) → Good (bump t f) after
 rename_good f t q r after y g meets stocked e =
     there (Good (bump t f) after) (get r.customers q.customer) _ _ e (λ u _ e.
-    let made : Rows = record r { customers = insert r.customers q.customer (renamed q u) } in
+    let made : Rows = record r { customers = insert r.customers q.customer (with_new_name q u) } in
     let same : made ≡ after = made_by made after _ y e in
     good_bump f t after (subst (λ (v : Rows). Good f v) same (record {
       meets = subst (λ (v : Rows). Meets v) (sym same) meets;

@@ -23,8 +23,8 @@ use Rattle.oe_model.specs.Locks.{WarehouseThere, DistrictThere, CustomerThere, C
 use Rattle.oe_model.specs.Locks.{There, First, part, first_if_named, governs_part}
 use Rattle.oe_model.specs.Positions.{Position, InRename, RenamePosition, RenameCustomer, RenameOld, RenameNew}
 use Rattle.oe_model.specs.Positions.{RenameEnd}
-use Rattle.oe_model.specs.Rename.{HasLast, renamed}
-use Rattle.oe_model.specs.System.{system, ask, act, taken}
+use Rattle.oe_model.specs.Rename.{HasLast, with_new_name}
+use Rattle.oe_model.specs.System.{system, ask, act, locks_before}
 use Rattle.oe_model.proofs.PresenceFacts.{key_cases}
 use Rattle.oe_model.proofs.RowFacts.{un_customer}
 use Rattle.oe_model.proofs.LawFacts.{IsAskedNow, HeldThen, held_then, holds_asked, given_same, given_goes, IsLawful}
@@ -41,9 +41,10 @@ lock_same q (Some x) None e = let no : ⊥ = cc in absurd no
 lock_same q (Some x) (Some y) e = refl
 
 pub rename_ask_same : (x : Tx Request) (q : RenameRequest) (p : RenamePosition) (r s : Rows)
-    → Alike system (Holds system (taken x (InRename q p))) x r s → ask x (InRename q p) r ≡ ask x (InRename q p) s
+    → Alike system (Holds system (locks_before x (InRename q p))) x r s → ask x (InRename q p) r
+    ≡ ask x (InRename q p) s
 rename_ask_same x q RenameCustomer r s h = lock_same q (get r.customers q.customer) (get s.customers q.customer)
-    (alike_customer (Holds system (taken x (InRename q RenameCustomer))) x r s h q.customer)
+    (alike_customer (Holds system (locks_before x (InRename q RenameCustomer))) x r s h q.customer)
 rename_ask_same x q _ r s h = refl
 
 asks_customer : (x : Tx Request) (q : RenameRequest) (r : Rows) → IsAskedNow x (InRename q RenameCustomer) r
@@ -59,7 +60,7 @@ pub rename_act_same : (x : Tx Request) (q : RenameRequest) (p : RenamePosition) 
 rename_act_same x q RenameCustomer r s k h =
     let p : Position = InRename q RenameCustomer in
     given_same NoCustomer _ _ _ (un_customer _ _ (h.rows (key.Customer q.customer)
-    (holds_asked (ask x p r) (taken x p) (name.Customer q.customer) Exclusive Shared
+    (holds_asked (ask x p r) (locks_before x p) (name.Customer q.customer) Exclusive Shared
     (asks_customer x q r k _ refl) tt)))
 rename_act_same x q (RenameOld last) r s k h = refl
 rename_act_same x q (RenameNew last) r s k h =
@@ -76,7 +77,7 @@ module _ (x : Tx Request) (q : RenameRequest) (last : List ℕ) (r : Rows) (y : 
   hs = held_then x (InRename q (RenameNew last)) r
 
   stands : (z : List ℕ) → eq_by_cmp (slice_cmp nat_cmp) q.last z ≡ false → eq_by_cmp (slice_cmp nat_cmp) last z ≡ false
-      → first_if_named z (Some (renamed q y)) ≡ first_if_named z (Some y)
+      → first_if_named z (Some (with_new_name q y)) ≡ first_if_named z (Some y)
   stands z new old =
       ap (λ b. cond b (Some q.first) None) new
       ∙ sym (ap (λ b. cond b (Some y.name.first) None)
@@ -85,7 +86,7 @@ module _ (x : Tx Request) (q : RenameRequest) (last : List ℕ) (r : Rows) (y : 
   named_turns : (j : CustomerKey) (z : List ℕ) → j ≡ q.customer
       → (q.last ≡ z) ⊎ (eq_by_cmp (slice_cmp nat_cmp) q.last z ≡ false)
       → (last ≡ z) ⊎ (eq_by_cmp (slice_cmp nat_cmp) last z ≡ false)
-      → (part (CustomerNamed j z) (Some (row.Customer (renamed q y)))
+      → (part (CustomerNamed j z) (Some (row.Customer (with_new_name q y)))
       ≡ part (CustomerNamed j z) (row_at r (key.Customer q.customer)))
       ⊎ MayWrite system (Holds system hs) x (governs_part (CustomerNamed j z))
   named_turns j z same (inl e) o = inr (inl (λ i. name.Names (district_of_customer (sym same i)) (e i), tt))
@@ -96,7 +97,7 @@ module _ (x : Tx Request) (q : RenameRequest) (last : List ℕ) (r : Rows) (y : 
       ∙ ap (λ (v : Option Customer). First (first_if_named z (option_and_then as_customer (option_map row.Customer v))))
       (sym here))
 
-  turns : MayTurn x hs (UpdateCustomer q.customer (renamed q y)) (row_at r (key.Customer q.customer))
+  turns : MayTurn x hs (UpdateCustomer q.customer (with_new_name q y)) (row_at r (key.Customer q.customer))
   turns (WarehouseThere j) h = let no : ⊥ = cc in absurd no
   turns (DistrictThere j) h = let no : ⊥ = cc in absurd no
   turns (CustomerThere j) h =
@@ -122,7 +123,7 @@ rename_lawful x q RenameCustomer r c z k e =
     let p : Position = InRename q RenameCustomer in
     let (y, here, e1) = given_goes NoCustomer (get r.customers q.customer) _ c z e in
     lawful_at x p r c _ z _ e1 (lawful_none x p r (InRename q (RenameOld y.name.last))
-    (λ n m h. subst (λ (v : Ask Name Refusal). Holds system (with_asked system v (taken x p)) n m)
+    (λ n m h. subst (λ (v : Ask Name Refusal). Holds system (with_asked system v (locks_before x p)) n m)
     (sym (asks_customer x q r k _ refl)) h) (λ _. (y, here, refl)))
 rename_lawful x q (RenameOld last) r c z k e =
     let p : Position = InRename q (RenameOld last) in
@@ -131,7 +132,7 @@ rename_lawful x q (RenameNew last) r c z k e =
     let p : Position = InRename q (RenameNew last) in
     let (y, here, e1) = given_goes NoCustomer (get r.customers q.customer) _ c z e in
     lawful_at x p r c _ z _ e1
-    (changes_one x (held_then x p r) r (Recalls p r) (UpdateCustomer q.customer (renamed q y))
+    (changes_one x (held_then x p r) r (Recalls p r) (UpdateCustomer q.customer (with_new_name q y))
     (InRename q (RenameEnd last)) (λ n m h. h) (inr (inr (inl (refl, tt)))) tt
     (λ b. turns x q last r y here (last_of q last r y here b)) (λ _. tt))
 rename_lawful x q (RenameEnd last) r c z k e = let no : ⊥ = cc in absurd no

@@ -32,7 +32,8 @@ use Rattle.oe_model.specs.Rows.{as_new_order}
 use Rattle.oe_model.specs.Rows.{as_order, as_order_line, as_stock}
 use Rattle.oe_model.specs.Changes.{Change, InsertHistory, InsertNewOrder, InsertOrder, InsertOrderLine, UpdateWarehouse}
 use Rattle.oe_model.specs.Changes.{UpdateDistrict, UpdateCustomer, UpdateOrder, UpdateOrderLine, UpdateStock}
-use Rattle.oe_model.specs.Changes.{DeleteNewOrder, key_of, row_of, changed, Record, InsertedHistory, InsertedNewOrder}
+use Rattle.oe_model.specs.Changes.{DeleteNewOrder, key_of, row_of, rows_after, Record, InsertedHistory}
+use Rattle.oe_model.specs.Changes.{InsertedNewOrder}
 use Rattle.oe_model.specs.Changes.{InsertedOrder, InsertedOrderLine, UpdatedWarehouse, UpdatedDistrict, UpdatedCustomer}
 use Rattle.oe_model.specs.Changes.{UpdatedOrder, UpdatedOrderLine, UpdatedStock, DeletedNewOrder, IsRecord, record_of}
 use Rattle.oe_model.specs.Changes.{record_key, ChangedWarehouse, ChangedDistrict, ChangedCustomer}
@@ -67,7 +68,7 @@ key_true (key.Stock a) (key.Stock b) e = ap key.Stock (is_same stock_total exact
 key_true _ _ e = cc
 
 pub at_changed : (c : Change) (r : Rows) (k : Key)
-    → row_at (changed c r) k ≡ cond (is_key k (key_of c)) (row_of c) (row_at r k)
+    → row_at (rows_after c r) k ≡ cond (is_key k (key_of c)) (row_of c) (row_at r k)
 at_changed (InsertHistory a x) r (key.History k) = map_get-insert history_total exact_history row.History r.histories a
     x k
 at_changed (InsertNewOrder a x) r (key.NewOrder k) = map_get-insert new_order_total exact_new_order row.NewOrder
@@ -376,10 +377,10 @@ same_rows r s h =
     }
 
 -- a change and its undo are the identity
-pub undone : (l : Layout) (c : Change) (r : Rows) → put_back (record_in l c (row_at r (key_of c))) (changed c r) ≡ r
+pub undone : (l : Layout) (c : Change) (r : Rows) → put_back (record_in l c (row_at r (key_of c))) (rows_after c r) ≡ r
 undone l c r = same_rows _ _ (λ k.
-    at_put_back b (changed c r) k
-    ∙ ap (λ (j : Key). cond (is_key k j) (restore b (row_at (changed c r) k)) (row_at (changed c r) k))
+    at_put_back b (rows_after c r) k
+    ∙ ap (λ (j : Key). cond (is_key k j) (restore b (row_at (rows_after c r) k)) (row_at (rows_after c r) k))
     (in_layout_key l c (row_at r (key_of c)))
     ∙ ap (λ (v : Option Row). cond (is_key k (key_of c)) (restore b v) v) (at_changed c r k)
     ∙ by_key k (is_key k (key_of c)) refl)

@@ -14,7 +14,7 @@ use Rattle.oe_requests.specs.declared.requests.PaymentRequest.{PaymentRequest}
 use Rattle.oe_model.specs.Keys.{customer_in}
 use Rattle.oe_model.specs.Payment.{paid_data}
 use Rattle.oe_values.specs.Text.{begins_with, occurs_in}
-use Rattle.oe_model.specs.NewOrder.{supplied, asked}
+use Rattle.oe_model.specs.NewOrder.{stock_after, quantities_for}
 use Rattle.oe_model.specs.Rules.{Payment_is_exact, IsSupplied, AreSmall, Stock_is_exact, Text_occurs}
 
 -- what a cut of 500 leaves
@@ -65,20 +65,21 @@ one_line true q n s e = let h = leb-true (n + 10) q e in (0, omega arith)
 one_line false q n s e = (1, omega arith)
 
 all_lines : (home : ℕ) (k : StockKey) (ns : List ℕ) (x : Stock) → AreSmall ns
-    → IsSupplied ns x (fold (supplied home k) x ns)
+    → IsSupplied ns x (fold (stock_after home k) x ns)
 all_lines home k [] x s =
     record { ytd = omega arith; orders = omega arith; refills = 0; quantity = omega arith; texts = (refl, refl) }
 all_lines home k (n ∷ ns) x s =
-    let y : Stock = supplied home k x n in
-    let rest : IsSupplied ns y (fold (supplied home k) y ns) = all_lines home k ns y s.1 in
+    let y : Stock = stock_after home k x n in
+    let rest : IsSupplied ns y (fold (stock_after home k) y ns) = all_lines home k ns y s.1 in
     let total : sum (n ∷ ns) ≡ n + sum ns = sum_by-cons (λ x. x) n ns in
     let one : (m : ℕ) × (y.quantity + n ≡ x.quantity + 91 * m) = one_line (nat_le (n + 10) x.quantity) x.quantity n s.0
     refl in
     let m : ℕ = one.0 in
     let is : y.quantity + n ≡ x.quantity + 91 * m = one.1 in
-    let ytd : (fold (supplied home k) y ns).ytd ≡ (x.ytd + n) + sum ns = rest.ytd in
-    let orders : (fold (supplied home k) y ns).order_count ≡ (x.order_count + 1) + length ns = rest.orders in
-    let quantity : (fold (supplied home k) y ns).quantity + sum ns ≡ y.quantity + 91 * rest.refills = rest.quantity in
+    let ytd : (fold (stock_after home k) y ns).ytd ≡ (x.ytd + n) + sum ns = rest.ytd in
+    let orders : (fold (stock_after home k) y ns).order_count ≡ (x.order_count + 1) + length ns = rest.orders in
+    let quantity : (fold (stock_after home k) y ns).quantity + sum ns ≡ y.quantity
+    + 91 * rest.refills = rest.quantity in
     record {
       ytd = omega arith;
       orders = omega arith;
@@ -88,17 +89,18 @@ all_lines home k (n ∷ ns) x s =
     }
 
 remote_at : (b : Bool) (home : ℕ) (k : StockKey) → (k.warehouse == home) ≡ b → (ns : List ℕ) (x : Stock)
-    → (fold (supplied home k) x ns).remote_count ≡ x.remote_count + cond b 0 (length ns)
+    → (fold (stock_after home k) x ns).remote_count ≡ x.remote_count + cond b 0 (length ns)
 remote_at true home k e [] x = omega arith
 remote_at false home k e [] x = omega arith
 remote_at true home k e (n ∷ ns) x =
-    let rest = remote_at true home k e ns (supplied home k x n) in
-    let own : (supplied home k x n).remote_count ≡ x.remote_count = ap (λ b. cond b x.remote_count (x.remote_count + 1))
+    let rest = remote_at true home k e ns (stock_after home k x n) in
+    let own : (stock_after home k x n).remote_count
+    ≡ x.remote_count = ap (λ b. cond b x.remote_count (x.remote_count + 1))
     e in
     omega arith
 remote_at false home k e (n ∷ ns) x =
-    let rest = remote_at false home k e ns (supplied home k x n) in
-    let own : (supplied home k x n).remote_count ≡ x.remote_count + 1 =
+    let rest = remote_at false home k e ns (stock_after home k x n) in
+    let own : (stock_after home k x n).remote_count ≡ x.remote_count + 1 =
     ap (λ b. cond b x.remote_count (x.remote_count + 1)) e in
     omega arith
 
@@ -118,10 +120,10 @@ rule false q n e = let h = leb-false (n + 10) q e in
 
 pub stock_is_exact : Stock_is_exact
 stock_is_exact = record {
-  supplied_by = λ home ls k x s. all_lines home k (asked k ls) x s;
-  home = λ ls k x. let h = remote_at true k.warehouse k (eq-eqb k.warehouse k.warehouse refl) (asked k ls) x in
+  supplied_by = λ home ls k x s. all_lines home k (quantities_for k ls) x s;
+  home = λ ls k x. let h = remote_at true k.warehouse k (eq-eqb k.warehouse k.warehouse refl) (quantities_for k ls) x in
       omega arith;
-  remote = λ home ls k x n. remote_at false home k (is_remote k.warehouse home n) (asked k ls) x;
+  remote = λ home ls k x n. remote_at false home k (is_remote k.warehouse home n) (quantities_for k ls) x;
   enough = λ home n k x h. (rule (nat_le (n + 10) x.quantity) x.quantity n refl).0 h;
   refilled = λ home n k x h s. (rule (nat_le (n + 10) x.quantity) x.quantity n refl).1 h s;
 }

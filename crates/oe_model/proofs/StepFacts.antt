@@ -12,7 +12,7 @@ use Rattle.oe_requests.specs.declared.refusals.Refusal.TheVariants.{Overflow}
 use Rattle.oe_model.specs.Rows.{Rows}
 use Rattle.oe_model.specs.Meets.{Accepts}
 use Rattle.oe_model.specs.Positions.{Position}
-use Rattle.oe_model.specs.Effects.{◌>>=◌, in_range, Doing, given, within}
+use Rattle.oe_model.specs.Effects.{◌>>=◌, in_range, Doing, with_value, within}
 use Rattle.oe_model.specs.System.{system, ask, act}
 
 -- the program alone ends so, with these refusals, and each of its changes is accepted
@@ -23,17 +23,17 @@ module _ (Only : Refusal → Type 0) (x : Tx Request) (p : Position) (r : Rows)
     (asked : IsAsked system (all_held system) (ask x p r)) where
   -- a row that needs a value
   pub ends_given : {A : Type 0} (e : Refusal) (o : Option A) (f : A → Doing) (g : A → Option (Rows × Reply))
-      → (o ≡ None → Only e) → act x p r ≡ given e o f
+      → (o ≡ None → Only e) → act x p r ≡ with_value e o f
       → ((a : A) → o ≡ Some a → act x p r ≡ f a → EndsSo Only x p r (g a)) → EndsSo Only x p r (o >>= g)
   ends_given e None f g why is h = fails_here p r e (why refl) asked is
   ends_given e (Some a) f g why is h = h a refl is
 
   -- the same, where the value was changed since
   pub ends_mapped : {A : Type 0} (e : Refusal) (t : A → A) (o now : Option A) (f : A → Doing)
-      (g : A → Option (Rows × Reply)) → (o ≡ None → Only e) → act x p r ≡ given e now f → now ≡ option_map t o
+      (g : A → Option (Rows × Reply)) → (o ≡ None → Only e) → act x p r ≡ with_value e now f → now ≡ option_map t o
       → ((a : A) → o ≡ Some a → act x p r ≡ f (t a) → EndsSo Only x p r (g a)) → EndsSo Only x p r (o >>= g)
-  ends_mapped e t None now f g why is to h = fails_here p r e (why refl) asked (is ∙ ap (λ v. given e v f) to)
-  ends_mapped e t (Some a) now f g why is to h = h a refl (is ∙ ap (λ v. given e v f) to)
+  ends_mapped e t None now f g why is to h = fails_here p r e (why refl) asked (is ∙ ap (λ v. with_value e v f) to)
+  ends_mapped e t (Some a) now f g why is to h = h a refl (is ∙ ap (λ v. with_value e v f) to)
 
   -- a row that needs a row within its ranges
   pub ends_within : {A : Type 0} (out : A → Option Column) (y : A) (d : Doing) (g : A → Option (Rows × Reply))
@@ -49,7 +49,7 @@ module _ (Only : Refusal → Type 0) (x : Tx Request) (p : Position) (r : Rows)
 -- a row that stops where a value is not there, and otherwise takes a lock
 pub ends_found : (Only : Refusal → Type 0) (x : Tx Request) (p : Position) (r : Rows) {A : Type 0} (e d : Refusal)
     (o : Option A) (n : A → Name) (m : Mode) (f : A → Doing) (g : A → Option (Rows × Reply))
-    → Only e → ask x p r ≡ elim o [ None ↦ Stop e | Some a ↦ Take (n a) m ] → act x p r ≡ given d o f
+    → Only e → ask x p r ≡ elim o [ None ↦ Stop e | Some a ↦ Take (n a) m ] → act x p r ≡ with_value d o f
     → ((a : A) → o ≡ Some a → IsAsked system (all_held system) (ask x p r) → act x p r ≡ f a → EndsSo Only x p r (g a))
     → EndsSo Only x p r (o >>= g)
 ends_found Only x p r e d None n m f g why s is h = stops_here p r e why s

@@ -15,15 +15,16 @@ use Rattle.oe_model.specs.Rows.{Rows}
 use Rattle.oe_model.specs.Maps.{each}
 use Rattle.oe_model.specs.Positions.{Filled}
 use Rattle.oe_model.specs.Effects.{◌>>=◌, in_range}
-use Rattle.oe_model.specs.NewOrder.{stock_of, stock_out, supplied, asked, after_lines, all_filled, fill, item_at}
+use Rattle.oe_model.specs.NewOrder.{stock_of, stock_out, stock_after, quantities_for, after_lines, all_filled, fill}
+use Rattle.oe_model.specs.NewOrder.{item_at}
 use Rattle.oe_model.proofs.MapFacts.{get-each, is_self, is_same, same}
 
 -- a stock row after one more line
 abbrev pub after_one : ℕ → RequestLine → StockKey → Bool → Stock → Stock
-after_one home l k mine x = cond mine (supplied home k x l.quantity) x
+after_one home l k mine x = cond mine (stock_after home k x l.quantity) x
 
 asked-one : (home : ℕ) (l : RequestLine) (k : StockKey) (b : Bool) (x : Stock)
-    → fold (supplied home k) x (cond b (l.quantity ∷ []) []) ≡ after_one home l k b x
+    → fold (stock_after home k) x (cond b (l.quantity ∷ []) []) ≡ after_one home l k b x
 asked-one home l k true x = refl
 asked-one home l k false x = refl
 
@@ -34,15 +35,16 @@ pub after-one_more : (home : ℕ) (before : List RequestLine) (l : RequestLine) 
 after-one_more home [] l k x = asked-one home l k (eq_by_cmp stock_cmp k (stock_of l)) x
 after-one_more home (b ∷ before) l k x =
     elim (eq_by_cmp stock_cmp k (stock_of b)) as (λ c.
-    fold (supplied home k) x (cond c (b.quantity ∷ asked k (before ++ l ∷ [])) (asked k (before ++ l ∷ [])))
+    fold (stock_after home k) x (cond c (b.quantity ∷ quantities_for k (before ++ l ∷ []))
+    (quantities_for k (before ++ l ∷ [])))
     ≡ after_one home l k (eq_by_cmp stock_cmp k (stock_of l))
-    (fold (supplied home k) x (cond c (b.quantity ∷ asked k before) (asked k before)))) [
-      | true ↦ after-one_more home before l k (supplied home k x b.quantity)
+    (fold (stock_after home k) x (cond c (b.quantity ∷ quantities_for k before) (quantities_for k before)))) [
+      | true ↦ after-one_more home before l k (stock_after home k x b.quantity)
       | false ↦ after-one_more home before l k x
     ]
 
 pub after-own : (home : ℕ) (before : List RequestLine) (l : RequestLine) (x : Stock)
-    → after_lines home (before ++ l ∷ []) (stock_of l) x ≡ supplied home (stock_of l)
+    → after_lines home (before ++ l ∷ []) (stock_of l) x ≡ stock_after home (stock_of l)
     (after_lines home before (stock_of l) x) l.quantity
 after-own home before l x =
     after-one_more home before l (stock_of l) x
@@ -61,7 +63,7 @@ module _ (home : ℕ) (m : FinMap stock_cmp Stock) where
   -- to put the row of one more line is to take each row through one more line
   pub each-one_more : (before : List RequestLine) (l : RequestLine) (x : Stock) → get m (stock_of l) ≡ Some x
       → insert (each (after_lines home before) m) (stock_of l)
-      (supplied home (stock_of l) (after_lines home before (stock_of l) x) l.quantity) ≡ each
+      (stock_after home (stock_of l) (after_lines home before (stock_of l) x) l.quantity) ≡ each
       (after_lines home (before ++ l ∷ [])) m
   each-one_more before l x here =
       same stock_total exact_stock _ _ (λ k.
@@ -71,7 +73,7 @@ module _ (home : ℕ) (m : FinMap stock_cmp Stock) where
       ∙ sym (get-each stock_cmp (after_lines home (before ++ l ∷ [])) exact_stock m k))
     where
       new : StockKey → Stock
-      new k = supplied home (stock_of l) (after_lines home before (stock_of l) x) l.quantity
+      new k = stock_after home (stock_of l) (after_lines home before (stock_of l) x) l.quantity
 
       others : (k : StockKey) (o : Option Stock) → eq_by_cmp stock_cmp k (stock_of l) ≡ false
           → option_map (after_lines home before k) o ≡ option_map (after_lines home (before ++ l ∷ []) k) o
@@ -81,7 +83,7 @@ module _ (home : ℕ) (m : FinMap stock_cmp Stock) where
           e))
 
       by_key : (k : StockKey) (b : Bool) → eq_by_cmp stock_cmp k (stock_of l) ≡ b
-          → cond b (Some (supplied home (stock_of l) (after_lines home before (stock_of l) x) l.quantity))
+          → cond b (Some (stock_after home (stock_of l) (after_lines home before (stock_of l) x) l.quantity))
           (option_map (after_lines home before k) (get m k)) ≡ option_map (after_lines home (before ++ l ∷ []) k)
           (get m k)
       by_key k true e =
@@ -104,7 +106,7 @@ module _ {A : Type 0} (q : NewOrderRequest) (r : Rows) (before : List RequestLin
       (fill q (length before + 1) l item stock' ∷ fs)
 
   abbrev pub supplied_own : Stock → Stock
-  supplied_own stock = supplied q.district.warehouse (stock_of l)
+  supplied_own stock = stock_after q.district.warehouse (stock_of l)
       (after_lines q.district.warehouse before (stock_of l) stock) l.quantity
 
   abbrev after_own : Stock → Stock

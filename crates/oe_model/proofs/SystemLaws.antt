@@ -35,7 +35,7 @@ use Rattle.oe_model.specs.Delivery.{alone}
 use Rattle.oe_model.specs.Deliveries.{at_hand, among_ten}
 use Rattle.oe_model.specs.Requests.{IsDistrict, IsRequest, MayRefuse, rejection, warehouses_of, warehouse_no}
 use Rattle.oe_model.specs.Conditions.{Good, IsPopulation, IsStocked}
-use Rattle.oe_model.specs.System.{system, start_of, ask, act, taken, effect_of}
+use Rattle.oe_model.specs.System.{system, start_of, ask, act, locks_before, effect_of}
 use Rattle.oe_model.specs.Headline.{IsReadyFor, Programs_end}
 use Rattle.oe_model.proofs.MapFacts.{is_self, is_same}
 use Rattle.oe_model.proofs.EntryFacts.{EachOf}
@@ -169,14 +169,14 @@ stays f x r after y g e =
     (effect_of x.terminal x.number x.request r) after y (ends f x r g) e g.good.stocked)
     e
 
-starts_by : (x : Tx Request) (q : Request) → taken x (start_of q) ≡ []
+starts_by : (x : Tx Request) (q : Request) → locks_before x (start_of q) ≡ []
 starts_by x (request.Payment q) = refl
 starts_by x (request.NewOrder q) = refl
 starts_by x (request.Delivery q) = refl
 starts_by x (request.Deliveries q) = refl
 starts_by x (request.Rename q) = refl
 
-ask_same : (x : Tx Request) (p : Position) (r s : Rows) → Alike system (Holds system (taken x p)) x r s
+ask_same : (x : Tx Request) (p : Position) (r s : Rows) → Alike system (Holds system (locks_before x p)) x r s
     → ask x p r ≡ ask x p s
 ask_same x (InPayment q p) r s h = payment_ask_same x q p r s h
 ask_same x (InNewOrder q p) r s h = new_order_ask_same x q p r s h
@@ -244,7 +244,8 @@ laws = record {
   keeps_part = λ x r s c q h k e.
       (lawful x s.position (overlay system s.changes r) (Some c) q k e).turns c refl (recalls_alone x r s h);
   accepts_same = λ x p r s c q k h e a.
-      accepts_alike (with_asked system (ask x p r) (taken x p)) x r s h c ((lawful x p r (Some c) q k e).writes c refl)
+      accepts_alike (with_asked system (ask x p r) (locks_before x p)) x r s h c
+      ((lawful x p r (Some c) q k e).writes c refl)
       ((lawful x p r (Some c) q k e).knows c refl) a;
   rejection_same = rejection_same;
   query_rejection_same = query_rejection_same;

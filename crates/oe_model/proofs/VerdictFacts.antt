@@ -30,7 +30,7 @@ use Rattle.oe_model.specs.Conditions.{Condition_2_at, Condition_3_at, Condition_
 use Rattle.oe_model.specs.FurtherConditions.{Condition_5_at, Condition_6_at, Condition_7_at, Condition_8_at}
 use Rattle.oe_model.specs.FurtherConditions.{Condition_9_at, Condition_10_at, Condition_12_at}
 use Rattle.oe_model.specs.Audits.{Condition, First, Second, Third, Fourth, Fifth, Sixth, Seventh, Eighth, Ninth, Tenth}
-use Rattle.oe_model.specs.Audits.{Twelfth, Holds, Fails, first_failing, judged, greatest, least, none_or, some_and}
+use Rattle.oe_model.specs.Audits.{Twelfth, Holds, Fails, first_failing, verdict_of, greatest, least, none_or, some_and}
 use Rattle.oe_model.specs.Audits.{order_numbers, new_order_numbers, agree, is_dated_as, passes_1, passes_2, passes_3}
 use Rattle.oe_model.specs.Audits.{passes_4, passes_5, passes_6, passes_7, passes_8, passes_9, passes_10, passes_12}
 use Rattle.oe_model.specs.Audits.{verdict}
@@ -218,28 +218,28 @@ tests_are_conditions = record {
 
 -- a verdict of the first row that fails
 module _ {K : Type 0} (at : K → Key) where
-  judged_holds : (v : Option K) → (judged at v ≡ Holds) ↔ (v ≡ None)
+  judged_holds : (v : Option K) → (verdict_of at v ≡ Holds) ↔ (v ≡ None)
   judged_holds None = (λ e. refl, λ e. refl)
   judged_holds (Some k) = (λ e. cc, λ e. let no : ⊥ = cc in absurd no)
 
-  judged_fails : (v : Option K) (q : Key) → judged at v ≡ Fails q → (k : K) × (at k ≡ q) × (v ≡ Some k)
+  judged_fails : (v : Option K) (q : Key) → verdict_of at v ≡ Fails q → (k : K) × (at k ≡ q) × (v ≡ Some k)
   judged_fails None q e = let no : ⊥ = cc in absurd no
   judged_fails (Some k) q e = (k, let same : at k ≡ q = cc in same, refl)
 
 module _ {K X : Type 0} {R : K → K → Ordering} (o : IsTotalOrder R) (exact : IsAntisymmetric R) (at : K → Key)
     (same : (j k : K) → at j ≡ at k → j ≡ k)
     (test : K → X → Bool) (P : K → X → Type 0) (is : (k : K) (x : X) → (test k x ≡ true) ↔ P k x) (m : FinMap R X) where
-  rows_hold : (judged at (first_failing test m) ≡ Holds) ↔ ((k : K) (x : X) → get m k ≡ Some x → P k x)
+  rows_hold : (verdict_of at (first_failing test m) ≡ Holds) ↔ ((k : K) (x : X) → get m k ≡ Some x → P k x)
   rows_hold =
       let none = none_fails o exact test P is m in
-      (λ e. none.0 ((judged_holds at (first_failing test m)).0 e), λ h. ap (judged at) (none.1 h))
+      (λ e. none.0 ((judged_holds at (first_failing test m)).0 e), λ h. ap (verdict_of at) (none.1 h))
 
-  row_fails : (k : K) → (judged at (first_failing test m) ≡ Fails (at k)) ↔ IsFirstFailing P m k
+  row_fails : (k : K) → (verdict_of at (first_failing test m) ≡ Fails (at k)) ↔ IsFirstFailing P m k
   row_fails k =
       let one = one_fails o exact test P is m k in (
         λ e. let t = judged_fails at (first_failing test m) (at k) e in
             one.0 (t.2 ∙ ap Some (same t.0 k t.1)),
-        λ f. ap (judged at) (one.1 f),
+        λ f. ap (verdict_of at) (one.1 f),
       )
 
 same_warehouse : (j k : WarehouseKey) → key.Warehouse j ≡ key.Warehouse k → j ≡ k

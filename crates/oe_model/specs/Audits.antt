@@ -46,9 +46,9 @@ pub data Verdict : Type 0 where
 abbrev pub first_failing : {K X : Type 0} {R : K → K → Ordering} → (K → X → Bool) → FinMap R X → Option K
 first_failing test m = option_map (λ e. e.0) (find (λ e. not (test e.0 e.1)) (entries m))
 
-abbrev pub judged : {K : Type 0} → (K → Key) → Option K → Verdict
-judged at None = Holds
-judged at (Some k) = Fails (at k)
+abbrev pub verdict_of : {K : Type 0} → (K → Key) → Option K → Verdict
+verdict_of at None = Holds
+verdict_of at (Some k) = Fails (at k)
 
 -- the O_IDs, and the NO_O_IDs, of a district
 abbrev pub order_numbers : DistrictKey → FinMap order_cmp Order → List ℕ
@@ -123,14 +123,14 @@ abbrev pub passes_12 : Rows → CustomerKey → Customer → Bool
 passes_12 r c x = int_eq (x.account.balance +ℤ pos x.account.ytd_payment) (pos (delivered_for r c))
 
 abbrev pub verdict : Condition → Rows → Verdict
-verdict First r = judged key.Warehouse (first_failing (passes_1 r) r.warehouses)
-verdict Second r = judged key.District (first_failing (passes_2 r) r.districts)
-verdict Third r = judged key.District (first_failing (passes_3 r) r.districts)
-verdict Fourth r = judged key.District (first_failing (passes_4 r) r.districts)
-verdict Fifth r = judged key.Order (first_failing (passes_5 r) r.orders)
-verdict Sixth r = judged key.Order (first_failing (passes_6 r) r.orders)
-verdict Seventh r = judged key.OrderLine (first_failing (passes_7 r) r.order_lines)
-verdict Eighth r = judged key.Warehouse (first_failing (passes_8 r) r.warehouses)
-verdict Ninth r = judged key.District (first_failing (passes_9 r) r.districts)
-verdict Tenth r = judged key.Customer (first_failing (passes_10 r) r.customers)
-verdict Twelfth r = judged key.Customer (first_failing (passes_12 r) r.customers)
+verdict First r = verdict_of key.Warehouse (first_failing (passes_1 r) r.warehouses)
+verdict Second r = verdict_of key.District (first_failing (passes_2 r) r.districts)
+verdict Third r = verdict_of key.District (first_failing (passes_3 r) r.districts)
+verdict Fourth r = verdict_of key.District (first_failing (passes_4 r) r.districts)
+verdict Fifth r = verdict_of key.Order (first_failing (passes_5 r) r.orders)
+verdict Sixth r = verdict_of key.Order (first_failing (passes_6 r) r.orders)
+verdict Seventh r = verdict_of key.OrderLine (first_failing (passes_7 r) r.order_lines)
+verdict Eighth r = verdict_of key.Warehouse (first_failing (passes_8 r) r.warehouses)
+verdict Ninth r = verdict_of key.District (first_failing (passes_9 r) r.districts)
+verdict Tenth r = verdict_of key.Customer (first_failing (passes_10 r) r.customers)
+verdict Twelfth r = verdict_of key.Customer (first_failing (passes_12 r) r.customers)

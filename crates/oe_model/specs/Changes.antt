@@ -78,18 +78,18 @@ row_of (UpdateStock k x) = Some (row.Stock x)
 row_of (DeleteNewOrder k) = None
 
 -- the tables after it
-abbrev pub changed : Change → Rows → Rows
-changed (InsertHistory k x) r = record r { histories = insert r.histories k x }
-changed (InsertNewOrder k x) r = record r { new_orders = insert r.new_orders k x }
-changed (InsertOrder k x) r = record r { orders = insert r.orders k x }
-changed (InsertOrderLine k x) r = record r { order_lines = insert r.order_lines k x }
-changed (UpdateWarehouse k x) r = record r { warehouses = insert r.warehouses k x }
-changed (UpdateDistrict k x) r = record r { districts = insert r.districts k x }
-changed (UpdateCustomer k x) r = record r { customers = insert r.customers k x }
-changed (UpdateOrder k x) r = record r { orders = insert r.orders k x }
-changed (UpdateOrderLine k x) r = record r { order_lines = insert r.order_lines k x }
-changed (UpdateStock k x) r = record r { stocks = insert r.stocks k x }
-changed (DeleteNewOrder k) r = record r { new_orders = remove r.new_orders k }
+abbrev pub rows_after : Change → Rows → Rows
+rows_after (InsertHistory k x) r = record r { histories = insert r.histories k x }
+rows_after (InsertNewOrder k x) r = record r { new_orders = insert r.new_orders k x }
+rows_after (InsertOrder k x) r = record r { orders = insert r.orders k x }
+rows_after (InsertOrderLine k x) r = record r { order_lines = insert r.order_lines k x }
+rows_after (UpdateWarehouse k x) r = record r { warehouses = insert r.warehouses k x }
+rows_after (UpdateDistrict k x) r = record r { districts = insert r.districts k x }
+rows_after (UpdateCustomer k x) r = record r { customers = insert r.customers k x }
+rows_after (UpdateOrder k x) r = record r { orders = insert r.orders k x }
+rows_after (UpdateOrderLine k x) r = record r { order_lines = insert r.order_lines k x }
+rows_after (UpdateStock k x) r = record r { stocks = insert r.stocks k x }
+rows_after (DeleteNewOrder k) r = record r { new_orders = remove r.new_orders k }
 
 -- an undo record: what was done, at which key, and the row before, if any; of an update the whole row, or of each
 -- column that the update changed its value before

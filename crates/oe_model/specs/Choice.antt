@@ -18,14 +18,14 @@ use Rattle.oe_model.specs.Keys.{district_of_customer, customer_in}
 use Rattle.oe_model.specs.Rows.{Rows, row_at, as_customer}
 
 -- C_FIRST and C_ID of a customer of the district with this C_LAST
-abbrev pub named : DistrictKey → List ℕ → CustomerKey → Customer → Option (List ℕ × ℕ)
-named h last k x = cond
+abbrev pub first_name_of : DistrictKey → List ℕ → CustomerKey → Customer → Option (List ℕ × ℕ)
+first_name_of h last k x = cond
     (eq_by_cmp district_cmp (district_of_customer k) h && eq_by_cmp (slice_cmp nat_cmp) x.name.last last)
     (Some (x.name.first, k.customer)) None
 
 -- C_FIRST and C_ID of each customer of the district with this C_LAST
 abbrev pub namesakes : DistrictKey → List ℕ → FinMap customer_cmp Customer → List (List ℕ × ℕ)
-namesakes h last customers = filter_map (λ e. named h last e.0 e.1) (entries customers)
+namesakes h last customers = filter_map (λ e. first_name_of h last e.0 e.1) (entries customers)
 
 -- the order of C_FIRST, and where that ties of C_ID
 abbrev pub comes_before : List ℕ × ℕ → List ℕ × ℕ → Bool
@@ -36,9 +36,9 @@ abbrev pub middle : List (List ℕ × ℕ) → Option ℕ
 middle xs = option_map (λ x. x.1) (find (λ x. count_by (λ y. comes_before y x) xs + 1 == (length xs + 1) / 2) xs)
 
 -- the C_ID of the customer that is meant, where there is one
-abbrev pub chosen : DistrictKey → CustomerChoice → FinMap customer_cmp Customer → Option ℕ
-chosen h (Number c) customers = option_map (λ x. c) (get customers (customer_in h c))
-chosen h (LastName last) customers = middle (namesakes h last customers)
+abbrev pub customer_meant : DistrictKey → CustomerChoice → FinMap customer_cmp Customer → Option ℕ
+customer_meant h (Number c) customers = option_map (λ x. c) (get customers (customer_in h c))
+customer_meant h (LastName last) customers = middle (namesakes h last customers)
 
 -- what the customer of a row is called
 abbrev pub name_in : Option Row → Option CustomerName

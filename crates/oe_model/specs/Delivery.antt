@@ -31,16 +31,16 @@ use Rattle.oe_model.specs.Changes.{DeleteNewOrder, UpdateOrder, UpdateOrderLine,
 use Rattle.oe_model.specs.Locks.{hold}
 use Rattle.oe_model.specs.Positions.{Position, DeliveryPosition, DeliveryQueue, DeliveryNothing, DeliveryOrder}
 use Rattle.oe_model.specs.Positions.{DeliveryLine, DeliveryEnd, InDelivery}
-use Rattle.oe_model.specs.Effects.{◌>>=◌, first_out, in_range, Doing, given, within}
+use Rattle.oe_model.specs.Effects.{◌>>=◌, first_out, in_range, Doing, with_value, within}
 use Rattle.oe_model.specs.Payment.{is_balance, is_count}
 
 -- the district's orders that are not delivered
-abbrev pub undelivered : DistrictKey → FinMap new_order_cmp NewOrder → FinMap new_order_cmp NewOrder
-undelivered h queue = retain_keys queue (λ k. eq_by_cmp district_cmp (district_of_new_order k) h)
+abbrev pub new_orders_of : DistrictKey → FinMap new_order_cmp NewOrder → FinMap new_order_cmp NewOrder
+new_orders_of h queue = retain_keys queue (λ k. eq_by_cmp district_cmp (district_of_new_order k) h)
 
 -- the least NO_O_ID of them, which is the first in key order
 abbrev pub oldest : DistrictKey → FinMap new_order_cmp NewOrder → Option ℕ
-oldest h queue = elim (entries (undelivered h queue)) [ [] ↦ None | e ∷ es ↦ Some e.0.order ]
+oldest h queue = elim (entries (new_orders_of h queue)) [ [] ↦ None | e ∷ es ↦ Some e.0.order ]
 
 -- the order's lines, by OL_NUMBER
 abbrev pub lines_of : OrderKey → FinMap order_line_cmp OrderLine → List (OrderLineKey × OrderLine)
@@ -51,11 +51,11 @@ abbrev pub worth : List (OrderLineKey × OrderLine) → ℕ
 worth es = sum_by (λ e. e.1.amount) es
 
 -- the rows after a delivery
-abbrev pub carried : ℕ → Order → Order
-carried carrier x = record x { carrier = Some carrier }
+abbrev pub with_carrier : ℕ → Order → Order
+with_carrier carrier x = record x { carrier = Some carrier }
 
-abbrev pub dated : ℕ → OrderLine → OrderLine
-dated stamp x = record x { delivery = Some stamp }
+abbrev pub with_date : ℕ → OrderLine → OrderLine
+with_date stamp x = record x { delivery = Some stamp }
 
 abbrev pub delivered_to : ℕ → Customer → Customer
 delivered_to sum x = record x {
@@ -68,8 +68,8 @@ delivered_out x = first_out
     ((column.Balance, is_balance x.account.balance) ∷ (column.DeliveryCount, is_count x.account.delivery_count) ∷ [])
 
 -- what a district answers of an order that was delivered
-abbrev pub delivered : ℕ → ℕ → ℕ → DistrictDelivery
-delivered o c sum = Delivered (record { order = o; customer = c; sum = sum })
+abbrev pub delivery_of_order : ℕ → ℕ → ℕ → DistrictDelivery
+delivery_of_order o c sum = Delivered (record { order = o; customer = c; sum = sum })
 
 -- the whole effect on an order that is in the queue, with what the district answers
 abbrev pub delivery_of : DeliveryRequest → ℕ → Rows → Option (Rows × DistrictDelivery)
@@ -80,12 +80,13 @@ delivery_of q o r = do
   Some (
     record r {
       new_orders = remove r.new_orders (new_order_in q.district o);
-      orders = insert r.orders (order_in q.district o) (carried q.carrier order);
-      order_lines = each (λ k x. cond (eq_by_cmp order_cmp (order_of_line k) (order_in q.district o)) (dated q.stamp x)
+      orders = insert r.orders (order_in q.district o) (with_carrier q.carrier order);
+      order_lines = each (λ k x. cond (eq_by_cmp order_cmp (order_of_line k) (order_in q.district o))
+          (with_date q.stamp x)
           x) r.order_lines;
       customers = insert r.customers (customer_in q.district order.customer) customer';
     },
-    delivered o order.customer (worth (lines_of (order_in q.district o) r.order_lines)),
+    delivery_of_order o order.customer (worth (lines_of (order_in q.district o) r.order_lines)),
   )
 
 -- the whole effect in a district
@@ -130,19 +131,19 @@ district_act t q DeliveryQueue r =
     ]
 district_act t q DeliveryNothing r = Ready (t.answer Skipped)
 district_act t q (DeliveryOrder o) r =
-    given (NoSuchRow (key.Order (order_in q.district o))) (get r.orders (order_in q.district o)) (λ x.
-    Go (Some (UpdateOrder (order_in q.district o) (carried q.carrier x)))
+    with_value (NoSuchRow (key.Order (order_in q.district o))) (get r.orders (order_in q.district o)) (λ x.
+    Go (Some (UpdateOrder (order_in q.district o) (with_carrier q.carrier x)))
     (t.here (DeliveryLine o x.customer (map (λ e. e.0.number) (lines_of (order_in q.district o) r.order_lines)) 0)))
 district_act t q (DeliveryLine o c (n ∷ ns) sum) r =
-    given (NoSuchRow (key.OrderLine (line_in (order_in q.district o) n)))
+    with_value (NoSuchRow (key.OrderLine (line_in (order_in q.district o) n)))
     (get r.order_lines (line_in (order_in q.district o) n)) (λ x.
-    Go (Some (UpdateOrderLine (line_in (order_in q.district o) n) (dated q.stamp x)))
+    Go (Some (UpdateOrderLine (line_in (order_in q.district o) n) (with_date q.stamp x)))
     (t.here (DeliveryLine o c ns (sum + x.amount))))
 district_act t q (DeliveryLine o c [] sum) r =
-    given (NoSuchRow (key.Customer (customer_in q.district c))) (get r.customers (customer_in q.district c)) (λ x.
+    with_value (NoSuchRow (key.Customer (customer_in q.district c))) (get r.customers (customer_in q.district c)) (λ x.
     within (delivered_out (delivered_to sum x))
-    (Go (Some (UpdateCustomer (customer_in q.district c) (delivered_to sum x))) (t.next (delivered o c sum))))
-district_act t q (DeliveryEnd o c sum) r = Ready (t.answer (delivered o c sum))
+    (Go (Some (UpdateCustomer (customer_in q.district c) (delivered_to sum x))) (t.next (delivery_of_order o c sum))))
+district_act t q (DeliveryEnd o c sum) r = Ready (t.answer (delivery_of_order o c sum))
 
 abbrev pub delivery_act : DeliveryRequest → DeliveryPosition → Rows → Doing
 delivery_act q p r = district_act (alone q) q p r

@@ -28,9 +28,9 @@ abbrev pub Doing : Type 0
 Doing = Act Change Position Reply Refusal
 
 -- a stage goes on where there is a value, and otherwise fails
-abbrev pub given : {A : Type 0} → Refusal → Option A → (A → Doing) → Doing
-given e None f = Fail e
-given e (Some x) f = f x
+abbrev pub with_value : {A : Type 0} → Refusal → Option A → (A → Doing) → Doing
+with_value e None f = Fail e
+with_value e (Some x) f = f x
 
 -- a stage goes on where no column is out of its range
 abbrev pub within : Option Column → Doing → Doing

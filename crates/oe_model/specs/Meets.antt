@@ -71,13 +71,13 @@ is_insert (InsertOrderLine k x) = true
 is_insert _ = false
 
 -- the rows that the new row of a change refers to, but for those that its key has always referred to
-abbrev pub referred : Change → List Key
-referred (InsertHistory k x) = key.Customer x.customer ∷ key.District x.district ∷ []
-referred (InsertNewOrder k x) = key.Order (order_of_new_order k) ∷ []
-referred (InsertOrder k x) = key.Customer (customer_of_order k x) ∷ []
-referred (InsertOrderLine k x) = key.Order (order_of_line k) ∷ key.Stock (supply_of_line x) ∷ []
-referred (UpdateOrderLine k x) = key.Stock (supply_of_line x) ∷ []
-referred _ = []
+abbrev pub new_references : Change → List Key
+new_references (InsertHistory k x) = key.Customer x.customer ∷ key.District x.district ∷ []
+new_references (InsertNewOrder k x) = key.Order (order_of_new_order k) ∷ []
+new_references (InsertOrder k x) = key.Customer (customer_of_order k x) ∷ []
+new_references (InsertOrderLine k x) = key.Order (order_of_line k) ∷ key.Stock (supply_of_line x) ∷ []
+new_references (UpdateOrderLine k x) = key.Stock (supply_of_line x) ∷ []
+new_references _ = []
 
 -- an update changes a column that is part of an index's key: O_C_ID
 abbrev pub ChangesKeyColumn : Change → Rows → Type 0
@@ -88,6 +88,6 @@ ChangesKeyColumn _ r = ⊥
 abbrev pub Cause : Change → Rows → Refusal → Type 0
 Cause c r (NoSuchRow k) = (k ≡ key_of c) × (is_insert c ≡ false) × (row_at r k ≡ None)
 Cause c r (RowExists k) = (k ≡ key_of c) × (is_insert c ≡ true) × IsSome (row_at r k)
-Cause c r (Reference k) = Contains (referred c) k × (row_at r k ≡ None)
+Cause c r (Reference k) = Contains (new_references c) k × (row_at r k ≡ None)
 Cause c r KeyColumn = ChangesKeyColumn c r
 Cause c r _ = ⊥

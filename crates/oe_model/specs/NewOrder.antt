@@ -42,12 +42,12 @@ use Rattle.oe_model.specs.Locks.{hold}
 use Rattle.oe_model.specs.Positions.{Seen, Filled, NewOrderPosition, NewOrderWarehouse, NewOrderDistrict}
 use Rattle.oe_model.specs.Positions.{NewOrderCustomer, NewOrderOrder, NewOrderQueue, NewOrderStock, NewOrderLine}
 use Rattle.oe_model.specs.Positions.{InNewOrder}
-use Rattle.oe_model.specs.Effects.{◌>>=◌, first_out, in_range, Doing, given, within}
+use Rattle.oe_model.specs.Effects.{◌>>=◌, first_out, in_range, Doing, with_value, within}
 use Rattle.oe_model.specs.Payment.{is_count}
 
 -- the stock rule (clause 2.4.2.2): a stock row after n of its item were ordered from a district of this warehouse
-abbrev pub supplied : ℕ → StockKey → Stock → ℕ → Stock
-supplied home k x n = record x {
+abbrev pub stock_after : ℕ → StockKey → Stock → ℕ → Stock
+stock_after home k x n = record x {
   quantity = cond (nat_le (n + 10) x.quantity) (x.quantity - n) (x.quantity + 91 - n);
   ytd = x.ytd + n;
   order_count = x.order_count + 1;
@@ -59,13 +59,14 @@ abbrev pub stock_of : RequestLine → StockKey
 stock_of l = record { warehouse = l.supply; item = l.item }
 
 -- the quantities that these lines ask of a stock row, in line order
-abbrev pub asked : StockKey → List RequestLine → List ℕ
-asked k [] = []
-asked k (l ∷ ls) = cond (eq_by_cmp stock_cmp k (stock_of l)) (l.quantity ∷ asked k ls) (asked k ls)
+abbrev pub quantities_for : StockKey → List RequestLine → List ℕ
+quantities_for k [] = []
+quantities_for k (l ∷ ls) = cond (eq_by_cmp stock_cmp k (stock_of l)) (l.quantity ∷ quantities_for k ls)
+    (quantities_for k ls)
 
 -- a stock row after these lines
 abbrev pub after_lines : ℕ → List RequestLine → StockKey → Stock → Stock
-after_lines home ls k x = fold (supplied home k) x (asked k ls)
+after_lines home ls k x = fold (stock_after home k) x (quantities_for k ls)
 
 -- the first column of a stock row that leaves its range
 abbrev pub stock_out : Stock → Option Column
@@ -98,8 +99,8 @@ fill q n l item stock = record {
 }
 
 -- the line after the lines before it; none where its item is unused or a column of its stock row would leave its range
-abbrev pub filled : NewOrderRequest → Rows → List RequestLine → RequestLine → Option Filled
-filled q r before l = do
+abbrev pub line_filled_from : NewOrderRequest → Rows → List RequestLine → RequestLine → Option Filled
+line_filled_from q r before l = do
   item ← item_at l.item r.items
   stock ← get r.stocks (stock_of l)
   stock' ← in_range stock_out (after_lines q.district.warehouse (before ++ l ∷ []) (stock_of l) stock)
@@ -109,7 +110,7 @@ filled q r before l = do
 abbrev pub all_filled : NewOrderRequest → Rows → List RequestLine → List RequestLine → Option (List Filled)
 all_filled q r before [] = Some []
 all_filled q r before (l ∷ ls) = do
-  f ← filled q r before l
+  f ← line_filled_from q r before l
   fs ← all_filled q r (before ++ l ∷ []) ls
   Some (f ∷ fs)
 
@@ -132,8 +133,8 @@ with_next x = record x { next_order = x.next_order + 1 }
 abbrev pub next_out : District → Option Column
 next_out x = first_out ((column.NextOrder, nat_le x.next_order 10000000) ∷ [])
 
-abbrev pub seen : Warehouse → District → Customer → Seen
-seen warehouse district customer = record {
+abbrev pub first_reads : Warehouse → District → Customer → Seen
+first_reads warehouse district customer = record {
   order = district.next_order;
   warehouse_tax = warehouse.tax;
   district_tax = district.tax;
@@ -173,7 +174,7 @@ new_order_effect q r = do
       order_lines = with_all (line_entries (order_in q.district district.next_order) fs) r.order_lines;
       stocks = each (after_lines q.district.warehouse q.lines) r.stocks;
     },
-    reply.NewOrder (ordered_reply (seen warehouse district customer) (replies_of fs)),
+    reply.NewOrder (ordered_reply (first_reads warehouse district customer) (replies_of fs)),
   )
 
 -- the program: the lock of each stage
@@ -195,15 +196,15 @@ new_order_ask q (NewOrderLine s before done l f ls) r = Plain
 -- the work of each stage
 abbrev pub new_order_act : NewOrderRequest → NewOrderPosition → Rows → Doing
 new_order_act q NewOrderWarehouse r =
-    given (NoSuchRow (key.Warehouse (warehouse_of_district q.district)))
+    with_value (NoSuchRow (key.Warehouse (warehouse_of_district q.district)))
     (get r.warehouses (warehouse_of_district q.district)) (λ x.
     Go None (InNewOrder q (NewOrderDistrict x.tax)))
 new_order_act q (NewOrderDistrict w) r =
-    given (NoSuchRow (key.District q.district)) (get r.districts q.district) (λ x.
+    with_value (NoSuchRow (key.District q.district)) (get r.districts q.district) (λ x.
     within (next_out (with_next x))
     (Go (Some (UpdateDistrict q.district (with_next x))) (InNewOrder q (NewOrderCustomer x.next_order w x.tax))))
 new_order_act q (NewOrderCustomer o w d) r =
-    given NoCustomer (get r.customers (customer_in q.district q.customer)) (λ x.
+    with_value NoCustomer (get r.customers (customer_in q.district q.customer)) (λ x.
     Go None (InNewOrder q (NewOrderOrder (record {
       order = o;
       warehouse_tax = w;
@@ -219,9 +220,9 @@ new_order_act q (NewOrderQueue s) r =
     (InNewOrder q (NewOrderStock s [] [] q.lines))
 new_order_act q (NewOrderStock s before done []) r = Ready (reply.NewOrder (ordered_reply s done))
 new_order_act q (NewOrderStock s before done (l ∷ ls)) r =
-    given InvalidItem (item_at l.item r.items) (λ item.
-    given (NoSuchRow (key.Stock (stock_of l))) (get r.stocks (stock_of l)) (λ x.
-    let x' : Stock = supplied q.district.warehouse (stock_of l) x l.quantity in
+    with_value InvalidItem (item_at l.item r.items) (λ item.
+    with_value (NoSuchRow (key.Stock (stock_of l))) (get r.stocks (stock_of l)) (λ x.
+    let x' : Stock = stock_after q.district.warehouse (stock_of l) x l.quantity in
     within (stock_out x')
     (Go (Some (UpdateStock (stock_of l) x'))
     (InNewOrder q (NewOrderLine s before done l (fill q (length before + 1) l item x') ls)))))

@@ -31,8 +31,8 @@ use Rattle.oe_model.specs.Changes.{InsertHistory, UpdateWarehouse, UpdateDistric
 use Rattle.oe_model.specs.Locks.{hold}
 use Rattle.oe_model.specs.Positions.{PaymentPosition, PaymentWarehouse, PaymentDistrict, PaymentNames}
 use Rattle.oe_model.specs.Positions.{PaymentCustomer, PaymentHistory, PaymentEnd, InPayment}
-use Rattle.oe_model.specs.Effects.{◌>>=◌, first_out, in_range, Doing, given, within}
-use Rattle.oe_model.specs.Choice.{chosen}
+use Rattle.oe_model.specs.Effects.{◌>>=◌, first_out, in_range, Doing, with_value, within}
+use Rattle.oe_model.specs.Choice.{customer_meant}
 
 -- the rows after a payment
 abbrev pub paid_warehouse : PaymentRequest → Warehouse → Warehouse
@@ -107,7 +107,7 @@ payment_effect t k q r = do
   warehouse' ← in_range paid_warehouse_out (paid_warehouse q warehouse)
   district ← get r.districts q.district
   district' ← in_range paid_district_out (paid_district q district)
-  c ← chosen q.customer_district q.customer r.customers
+  c ← customer_meant q.customer_district q.customer r.customers
   customer ← get r.customers (customer_in q.customer_district c)
   customer' ← in_range paid_customer_out (paid_customer c q customer)
   Some (
@@ -150,20 +150,20 @@ payment_ask q (PaymentEnd y) r = Plain
 -- the work of each stage
 abbrev pub payment_act : ℕ → ℕ → PaymentRequest → PaymentPosition → Rows → Doing
 payment_act t k q PaymentWarehouse r =
-    given (NoSuchRow (key.Warehouse (warehouse_of_district q.district)))
+    with_value (NoSuchRow (key.Warehouse (warehouse_of_district q.district)))
     (get r.warehouses (warehouse_of_district q.district)) (λ x.
     within (paid_warehouse_out (paid_warehouse q x))
     (Go (Some (UpdateWarehouse (warehouse_of_district q.district) (paid_warehouse q x)))
     (InPayment q (PaymentDistrict x.name))))
 payment_act t k q (PaymentDistrict w) r =
-    given (NoSuchRow (key.District q.district)) (get r.districts q.district) (λ x.
+    with_value (NoSuchRow (key.District q.district)) (get r.districts q.district) (λ x.
     within (paid_district_out (paid_district q x))
     (Go (Some (UpdateDistrict q.district (paid_district q x))) (InPayment q (behind_district q.customer w x.name))))
 payment_act t k q (PaymentNames w d) r =
-    given NoCustomer (chosen q.customer_district q.customer r.customers) (λ c.
+    with_value NoCustomer (customer_meant q.customer_district q.customer r.customers) (λ c.
     Go None (InPayment q (PaymentCustomer w d c)))
 payment_act t k q (PaymentCustomer w d c) r =
-    given NoCustomer (get r.customers (customer_in q.customer_district c)) (λ x.
+    with_value NoCustomer (get r.customers (customer_in q.customer_district c)) (λ x.
     within (paid_customer_out (paid_customer c q x))
     (Go (Some (UpdateCustomer (customer_in q.customer_district c) (paid_customer c q x)))
     (InPayment q (PaymentHistory (history_data w d) (paid_reply c (paid_customer c q x))))))

@@ -27,13 +27,14 @@ use Rattle.oe_requests.specs.declared.refusals.Refusal.{Refusal}
 use Rattle.oe_requests.specs.declared.refusals.Refusal.TheVariants.{NoSuchRow, NoCustomer}
 use Rattle.oe_model.specs.Keys.{district_of_order, order_of_line, customer_in, customer_of_order}
 use Rattle.oe_model.specs.Rows.{Rows}
-use Rattle.oe_model.specs.Choice.{chosen}
+use Rattle.oe_model.specs.Choice.{customer_meant}
 use Rattle.oe_model.specs.Delivery.{lines_of}
 
 -- go on where there is a value
-abbrev pub found : {A : Type 0} → Refusal → Option A → (A → Outcome QueryReply Refusal) → Outcome QueryReply Refusal
-found e None f = Missing e
-found e (Some x) f = f x
+abbrev pub reply_with : {A : Type 0} → Refusal → Option A → (A → Outcome QueryReply Refusal)
+    → Outcome QueryReply Refusal
+reply_with e None f = Missing e
+reply_with e (Some x) f = f x
 
 -- the customer's orders
 abbrev pub orders_of : CustomerKey → FinMap order_cmp Order → List (OrderKey × Order)
@@ -66,8 +67,8 @@ status_of lines (Some e) =
 
 abbrev pub order_status : StatusQuery → Rows → Outcome QueryReply Refusal
 order_status q r =
-    found NoCustomer (chosen q.district q.customer r.customers) (λ c.
-    found NoCustomer (get r.customers (customer_in q.district c)) (λ x.
+    reply_with NoCustomer (customer_meant q.district q.customer r.customers) (λ c.
+    reply_with NoCustomer (get r.customers (customer_in q.district c)) (λ x.
     Here (told.Status (record {
       customer = c;
       balance = x.account.balance;
@@ -91,7 +92,7 @@ is_low q lines e = (e.0.warehouse == q.district.warehouse) && nat_le (suc e.1.qu
 -- there are as many as items, since a warehouse has one STOCK row of an item
 abbrev pub stock_level : LevelQuery → Rows → Outcome QueryReply Refusal
 stock_level q r =
-    found (NoSuchRow (key.District q.district)) (get r.districts q.district) (λ x.
+    reply_with (NoSuchRow (key.District q.district)) (get r.districts q.district) (λ x.
     Here (told.Level (count_by (is_low q (recent_lines q.district x.next_order r.order_lines)) (entries r.stocks))))
 
 abbrev pub answer_of : Query → Rows → Outcome QueryReply Refusal

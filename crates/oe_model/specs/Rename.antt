@@ -17,14 +17,14 @@ use Rattle.oe_model.specs.Rows.{Rows}
 use Rattle.oe_model.specs.Changes.{UpdateCustomer}
 use Rattle.oe_model.specs.Locks.{hold}
 use Rattle.oe_model.specs.Positions.{RenamePosition, RenameCustomer, RenameOld, RenameNew, RenameEnd, InRename}
-use Rattle.oe_model.specs.Effects.{◌>>=◌, Doing, given}
+use Rattle.oe_model.specs.Effects.{◌>>=◌, Doing, with_value}
 
 -- the customer with other names: C_LAST and C_FIRST
 abbrev pub with_names : List ℕ → List ℕ → Customer → Customer
 with_names last first x = record x { name = record x.name { last = last; first = first } }
 
-abbrev pub renamed : RenameRequest → Customer → Customer
-renamed q x = with_names q.last q.first x
+abbrev pub with_new_name : RenameRequest → Customer → Customer
+with_new_name q x = with_names q.last q.first x
 
 abbrev pub rename_reply : RenameRequest → RenameReply
 rename_reply q = record { customer = q.customer.customer; last = q.last; first = q.first }
@@ -34,7 +34,7 @@ abbrev pub rename_effect : RenameRequest → Rows → Option (Rows × Reply)
 rename_effect q r = do
   x ← get r.customers q.customer
   Some (
-    record r { customers = insert r.customers q.customer (renamed q x) },
+    record r { customers = insert r.customers q.customer (with_new_name q x) },
     reply.Rename (rename_reply q),
   )
 
@@ -56,11 +56,11 @@ rename_ask q (RenameEnd last) r = Plain
 
 -- the work of each stage
 abbrev pub rename_act : RenameRequest → RenamePosition → Rows → Doing
-rename_act q RenameCustomer r = given NoCustomer (get r.customers q.customer) (λ x.
+rename_act q RenameCustomer r = with_value NoCustomer (get r.customers q.customer) (λ x.
     Go None (InRename q (RenameOld x.name.last)))
 rename_act q (RenameOld last) r = Go None (InRename q (RenameNew last))
-rename_act q (RenameNew last) r = given NoCustomer (get r.customers q.customer) (λ x.
-    Go (Some (UpdateCustomer q.customer (renamed q x))) (InRename q (RenameEnd last)))
+rename_act q (RenameNew last) r = with_value NoCustomer (get r.customers q.customer) (λ x.
+    Go (Some (UpdateCustomer q.customer (with_new_name q x))) (InRename q (RenameEnd last)))
 rename_act q (RenameEnd last) r = Ready (reply.Rename (rename_reply q))
 
 -- the locks that were taken before each stage, the last one first

@@ -24,7 +24,7 @@ use Rattle.oe_model.specs.Keys.{warehouse_of_district, customer_in, customer_of_
 use Rattle.oe_model.specs.Keys.{order_of_line}
 use Rattle.oe_model.specs.Lists.{IsAmong}
 use Rattle.oe_model.specs.Rows.{Rows}
-use Rattle.oe_model.specs.Choice.{chosen}
+use Rattle.oe_model.specs.Choice.{customer_meant}
 use Rattle.oe_model.specs.Payment.{paid_customer, payment_effect}
 use Rattle.oe_model.specs.NewOrder.{stock_of, order_row, new_order_effect}
 use Rattle.oe_model.specs.Delivery.{oldest, lines_of, worth, delivered_to, delivery_effect}
@@ -50,7 +50,7 @@ pub record IsPaid (t k : ℕ) (q : PaymentRequest) (r after : Rows) : Type 0 whe
       r.districts after.districts
   -- the customer that is chosen pays
   pub number : ℕ
-  pub choice : chosen q.customer_district q.customer r.customers ≡ Some number
+  pub choice : customer_meant q.customer_district q.customer r.customers ≡ Some number
   pub customer : Customer
   pub customer_at : get r.customers (customer_in q.customer_district number) ≡ Some customer
   pub customers : HasOnly (customer_in q.customer_district number) (Some (paid_customer number q customer))

@@ -33,12 +33,12 @@ use Rattle.oe_model.specs.Keys.{customer_in, customer_of_order, order_of_line, o
 use Rattle.oe_model.specs.Rows.{Rows}
 use Rattle.oe_model.specs.Lists.{IsAmong, IsDistinct}
 use Rattle.oe_model.specs.Locks.{mode_of, conflict}
-use Rattle.oe_model.specs.Choice.{namesakes, comes_before, middle, chosen}
+use Rattle.oe_model.specs.Choice.{namesakes, comes_before, middle, customer_meant}
 use Rattle.oe_model.specs.Payment.{paid_warehouse, paid_district, paid_customer}
 use Rattle.oe_values.specs.Text.{occurs_in}
-use Rattle.oe_model.specs.NewOrder.{supplied, asked, after_lines, order_row}
-use Rattle.oe_model.specs.Delivery.{oldest, delivered_to, dated, delivery_effect}
-use Rattle.oe_model.specs.Rename.{renamed, rename_effect}
+use Rattle.oe_model.specs.NewOrder.{stock_after, quantities_for, after_lines, order_row}
+use Rattle.oe_model.specs.Delivery.{oldest, delivered_to, with_date, delivery_effect}
+use Rattle.oe_model.specs.Rename.{with_new_name, rename_effect}
 use Rattle.oe_model.specs.Queries.{last_order, stock_level}
 use Rattle.oe_model.specs.Conditions.{HasNewOrder, IsLeast}
 
@@ -89,18 +89,18 @@ AreSmall (n ∷ ns) = (n ≤ 10) × AreSmall ns
 
 -- the stock rule (clause 2.4.2.2)
 pub record Stock_is_exact : Type 0 where
-  pub supplied_by : (home : ℕ) (ls : List RequestLine) (k : StockKey) (x : Stock) → AreSmall (asked k ls)
-      → IsSupplied (asked k ls) x (after_lines home ls k x)
+  pub supplied_by : (home : ℕ) (ls : List RequestLine) (k : StockKey) (x : Stock) → AreSmall (quantities_for k ls)
+      → IsSupplied (quantities_for k ls) x (after_lines home ls k x)
   -- S_REMOTE_CNT rises by the lines of another warehouse's districts
   pub home : (ls : List RequestLine) (k : StockKey) (x : Stock)
       → (after_lines k.warehouse ls k x).remote_count ≡ x.remote_count
   pub remote : (home : ℕ) (ls : List RequestLine) (k : StockKey) (x : Stock) → k.warehouse ≢ home
-      → (after_lines home ls k x).remote_count ≡ x.remote_count + length (asked k ls)
+      → (after_lines home ls k x).remote_count ≡ x.remote_count + length (quantities_for k ls)
   -- 10 or more are left above a line's quantity, or 91 come in
   pub enough : (home n : ℕ) (k : StockKey) (x : Stock) → n + 10 ≤ x.quantity
-      → (supplied home k x n).quantity + n ≡ x.quantity
+      → (stock_after home k x n).quantity + n ≡ x.quantity
   pub refilled : (home n : ℕ) (k : StockKey) (x : Stock) → x.quantity < n + 10 → n ≤ 10
-      → (supplied home k x n).quantity + n ≡ x.quantity + 91
+      → (stock_after home k x n).quantity + n ≡ x.quantity + 91
 
 -- a text stands in another where something comes before and after it
 pub record Text_occurs : Type 0 where
@@ -131,17 +131,17 @@ pub record Delivery_is_exact : Type 0 where
   pub lines : (q : DeliveryRequest) (r after : Rows) (y : Reply) (o : ℕ) (k : OrderLineKey) (x : OrderLine)
       → oldest q.district r.new_orders ≡ Some o → delivery_effect q r ≡ Some (after, y)
       → get r.order_lines k ≡ Some x
-      → (order_of_line k ≡ order_in q.district o → get after.order_lines k ≡ Some (dated q.stamp x))
+      → (order_of_line k ≡ order_in q.district o → get after.order_lines k ≡ Some (with_date q.stamp x))
       × (order_of_line k ≢ order_in q.district o → get after.order_lines k ≡ Some x)
 
 -- a rename, which is none of the standard's transactions
 pub record Rename_is_exact : Type 0 where
-  pub last : (q : RenameRequest) (x : Customer) → (renamed q x).name.last ≡ q.last
-  pub first : (q : RenameRequest) (x : Customer) → (renamed q x).name.first ≡ q.first
+  pub last : (q : RenameRequest) (x : Customer) → (with_new_name q x).name.last ≡ q.last
+  pub first : (q : RenameRequest) (x : Customer) → (with_new_name q x).name.first ≡ q.first
   -- no other column changes
   pub others : (q : RenameRequest) (x : Customer)
-      → record (renamed q x) {
-        name = record (renamed q x).name { last = x.name.last; first = x.name.first };
+      → record (with_new_name q x) {
+        name = record (with_new_name q x).name { last = x.name.last; first = x.name.first };
       } ≡ x
   -- nor does another customer
   pub alone : (q : RenameRequest) (r after : Rows) (y : Reply) (k : CustomerKey) → rename_effect q r ≡ Some (after, y)
@@ -151,12 +151,12 @@ pub record Rename_is_exact : Type 0 where
 -- the district's customers with that name, rounded up; and one is chosen where there is any (clause 2.5.2.2)
 pub record Name_is_middle : Type 0 where
   pub some : (m : FinMap customer_cmp Customer) (h : DistrictKey) (last : List ℕ) (c : ℕ)
-      → chosen h (LastName last) m ≡ Some c
+      → customer_meant h (LastName last) m ≡ Some c
       → (x : Customer) × (get m (customer_in h c) ≡ Some x) × (x.name.last ≡ last)
       × (count_by (λ y. comes_before y (x.name.first, c)) (namesakes h last m) + 1 ≡ (length (namesakes h last m) + 1)
       / 2)
   pub none : (m : FinMap customer_cmp Customer) (h : DistrictKey) (last : List ℕ) (c : ℕ) (x : Customer)
-      → chosen h (LastName last) m ≡ None
+      → customer_meant h (LastName last) m ≡ None
       → get m (customer_in h c) ≡ Some x → x.name.last ≡ last → ⊥
 
 -- an order of the customer, none of whose orders has a larger O_ID
@@ -204,8 +204,9 @@ Modes_conflict = (a b : Mode) → go_together (mode_of a) (Some (mode_of b)) ≡
 -- values worked out by hand
 pub record Worked : Type 0 where
   -- 24 of an item, and 10 and then 5 ordered
-  pub first : (k : StockKey) (x : Stock) → (supplied 1 k (record x { quantity = 24 }) 10).quantity ≡ 14
-  pub second : (k : StockKey) (x : Stock) → (supplied 1 k (supplied 1 k (record x { quantity = 24 }) 10) 5).quantity
+  pub first : (k : StockKey) (x : Stock) → (stock_after 1 k (record x { quantity = 24 }) 10).quantity ≡ 14
+  pub second : (k : StockKey) (x : Stock)
+      → (stock_after 1 k (stock_after 1 k (record x { quantity = 24 }) 10) 5).quantity
       ≡ 100
   -- of four namesakes the second is taken, of three the second, of two the first
   pub of_four : middle ((codes "B", 7) ∷ (codes "A", 9) ∷ (codes "B", 3) ∷ (codes "C", 1) ∷ []) ≡ Some 3

@@ -14,7 +14,7 @@ use Rattle.oe_requests.specs.declared.replies.QueryReply.{QueryReply}
 use Rattle.oe_requests.specs.declared.refusals.Refusal.{Refusal}
 use Rattle.oe_requests.specs.declared.refusals.Refusal.TheVariants.{NoCustomer, Overflow}
 use Rattle.oe_model.specs.Rows.{Rows, is_key, row_at}
-use Rattle.oe_model.specs.Changes.{Change, key_of, row_of, changed, Record, record_in, record_key, restore}
+use Rattle.oe_model.specs.Changes.{Change, key_of, row_of, rows_after, Record, record_in, record_key, restore}
 use Rattle.oe_rows.specs.declared.layouts.Layout.{Layout}
 use Rattle.oe_model.specs.Changes.{put_back, redo}
 use Rattle.oe_model.specs.Lengths.{record_length}
@@ -60,13 +60,13 @@ act x (InRename q p) r = rename_act q p r
 
 -- the locks that were taken on the way to a position; of ten districts, at the district at hand: the others stay held,
 -- and no stage needs them
-abbrev pub taken : Tx Request → Position → List (Hold Name)
-taken x (InPayment q p) = payment_taken q p
-taken x (InNewOrder q p) = new_order_taken q p
-taken x (InDelivery q p) = delivery_taken q p
-taken x (InDeliveries q done p) = delivery_taken (at_hand q done) p
-taken x (DeliveriesEnd done) = []
-taken x (InRename q p) = rename_taken q p
+abbrev pub locks_before : Tx Request → Position → List (Hold Name)
+locks_before x (InPayment q p) = payment_taken q p
+locks_before x (InNewOrder q p) = new_order_taken q p
+locks_before x (InDelivery q p) = delivery_taken q p
+locks_before x (InDeliveries q done p) = delivery_taken (at_hand q done) p
+locks_before x (DeliveriesEnd done) = []
+locks_before x (InRename q p) = rename_taken q p
 
 -- the whole effect of a request, for transaction k of terminal t
 abbrev pub effect_of : ℕ → ℕ → Request → Rows → Option (Rows × Reply)
@@ -119,7 +119,7 @@ system = record {
   row_at = row_at;
   key_of = key_of;
   row_of = row_of;
-  put = changed;
+  put = rows_after;
   Accepts = Accepts;
   Layout = Layout;
   Record = Record;
@@ -148,7 +148,7 @@ system = record {
   ask = ask;
   act = act;
   marks = marks;
-  taken = taken;
+  taken = locks_before;
   whole = λ x r. effect_of x.terminal x.number x.request r;
   Good = Good;
   rejection = rejection;

@@ -14,7 +14,8 @@ use Rattle.oe_moments.specs.declared.notes.DeskNotes.{DeskNotes}
 use Rattle.oe_moments.specs.declared.notes.KeeperNotes.{KeeperNotes}
 use Rattle.oe_moments.specs.declared.notes.Notes.{Notes}
 use Rattle.oe_moments.specs.declared.notes.Notes.TheVariants.{Gone, Dealer, Desk, Keeper}
-use Rattle.oe_moments.specs.Rule.{most, newest, claim, purged, pin_at, pin_word, Guards, IsMoment, SureAbove, FitsDesk}
+use Rattle.oe_moments.specs.Rule.{most, newest, claim, purge_word, pin_at, pin_word, Guards, IsMoment, SureAbove}
+use Rattle.oe_moments.specs.Rule.{FitsDesk}
 use Rattle.oe_moments.specs.Rule.{FitsKeeper, Fits, Watched, Apart, AreWords, Kept}
 
 -- the seat id goes from v to w, and the words to ws: it is enough to look at one other seat
@@ -56,7 +57,7 @@ pub record DeskMove (ws ws' : List ℕ) (d : ℕ) : Type 0 where
   pub newest_up : newest ws ≤ newest ws'
   pub newest_fits : newest ws' ≤ most
   pub claim_is : claim ws' ≡ claim ws
-  pub purged_is : purged ws' ≡ purged ws
+  pub purged_is : purge_word ws' ≡ purge_word ws
   pub pins : (e : ℕ) → e ≢ d → pin_at ws' e ≡ pin_at ws e
 
 pub record DeskTurn (ws ws' : List ℕ) (p p' : DeskNotes) : Type 0 where
@@ -121,16 +122,17 @@ pub desk_turn : (desks : ℕ) (s : State ℕ Notes) (id : ℕ) (p p' : DeskNotes
     → Kept desks (record { words = ws; homes = s.homes; views = slice_set s.views id (Desk p') })
 desk_turn desks s id p p' ws k at t =
     let f : FitsDesk desks s.words p = k.fits id (Desk p) at in
-    let guards : Guards (purged ws) p'.claim p'.pin = subst (λ (x : ℕ). Guards x p'.claim p'.pin) (sym t.move.purged_is)
-    (t.carry (purged s.words) k.words.purged_fits f.guards) in
+    let guards : Guards (purge_word ws) p'.claim p'.pin = subst (λ (x : ℕ). Guards x p'.claim p'.pin)
+    (sym t.move.purged_is)
+    (t.carry (purge_word s.words) k.words.purged_fits f.guards) in
     kept_step desks s id (Desk p) (Desk p') ws k at
     record {
       size = t.move.size ∙ k.words.size;
       newest_fits = t.move.newest_fits;
       claim_fits = subst (λ (x : ℕ). x ≤ most) (sym t.move.claim_is) k.words.claim_fits;
-      purged_fits = subst (λ (x : ℕ). purged ws ≤ x) (sym t.move.claim_is)
+      purged_fits = subst (λ (x : ℕ). purge_word ws ≤ x) (sym t.move.claim_is)
           (subst (λ (x : ℕ). x ≤ claim s.words) (sym t.move.purged_is) k.words.purged_fits);
-      sure = sure_after s.words ws p p' (purged ws) desks t
+      sure = sure_after s.words ws p p' (purge_word ws) desks t
           (subst (λ (x : ℕ). SureAbove s.words x desks) (sym t.move.purged_is) k.words.sure) (λ _. guards);
     }
     record {
@@ -149,15 +151,15 @@ pub record KeeperTurn (desks : ℕ) (ws ws' : List ℕ) (k k' : KeeperNotes) : T
   pub newest_is : newest ws' ≡ newest ws
   pub claim_up : claim ws ≤ claim ws'
   pub claim_fits : claim ws' ≤ most
-  pub purged_fits : purged ws' ≤ claim ws'
+  pub purged_fits : purge_word ws' ≤ claim ws'
   pub pins : (d : ℕ) → pin_at ws' d ≡ pin_at ws d
-  pub horizon : k'.horizon ≡ purged ws'
+  pub horizon : k'.horizon ≡ purge_word ws'
   pub scan : k'.scanning ≡ true → (k'.least ≤ claim ws') × (k'.passed ≤ desks)
   -- a pin's guards of the old horizon and, where it was passed, of the old least are guards of the new ones
   pub least : k'.scanning ≡ true → (d c : ℕ) (t : PinState) → d < desks → d < k'.passed → pin_at ws d ≡ pin_word t
       → (k.scanning ≡ true → d < k.passed → Guards k.least c t) → Guards k'.least c t
-  pub purges : (d c : ℕ) (t : PinState) → d < desks → Guards (purged ws) c t
-      → (k.scanning ≡ true → d < k.passed → Guards k.least c t) → Guards (purged ws') c t
+  pub purges : (d c : ℕ) (t : PinState) → d < desks → Guards (purge_word ws) c t
+      → (k.scanning ≡ true → d < k.passed → Guards k.least c t) → Guards (purge_word ws') c t
 
 pub keeper_turn : (desks : ℕ) (s : State ℕ Notes) (id : ℕ) (k k' : KeeperNotes) (ws : List ℕ) → Kept desks s
     → get_elem? s.views id ≡ some (Keeper k) → KeeperTurn desks s.words ws k k'

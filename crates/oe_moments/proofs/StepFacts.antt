@@ -18,10 +18,14 @@ use Rattle.oe_moments.specs.declared.notes.KeeperNotes.{KeeperNotes}
 use Rattle.oe_moments.specs.declared.notes.DealerNotes.{DealerNotes}
 use Rattle.oe_moments.specs.declared.notes.Notes.{Notes}
 use Rattle.oe_moments.specs.declared.notes.Notes.TheVariants.{Gone, Dealer, Desk, Keeper}
-use Rattle.oe_moments.specs.Rule.{most, newest, claim, purged, pin_at, pin_word, Guards, IsMoment, FitsDesk, FitsKeeper}
-use Rattle.oe_moments.specs.Rule.{FitsDealer, Fits, Apart, AreWords, Kept, saw, with_pin, looked_pin, looked}
-use Rattle.oe_moments.specs.Rule.{sees_newest, tells, announces, looks, makes_sure, clears, reads_purged, raised}
-use Rattle.oe_moments.specs.Rule.{claimed, lowered, scanned, settled, claims, scans, settles, finds, dealer_first}
+use Rattle.oe_moments.specs.Rule.{most, newest, claim, purge_word, pin_at, pin_word, Guards, IsMoment, FitsDesk}
+use Rattle.oe_moments.specs.Rule.{FitsKeeper}
+use Rattle.oe_moments.specs.Rule.{FitsDealer, Fits, Apart, AreWords, Kept, notes_after_sight, with_pin}
+use Rattle.oe_moments.specs.Rule.{pin_after_look, notes_after_look}
+use Rattle.oe_moments.specs.Rule.{sees_newest, tells, announces, looks, makes_sure, clears, reads_purged}
+use Rattle.oe_moments.specs.Rule.{word_after_claim}
+use Rattle.oe_moments.specs.Rule.{after_claim, least_with, after_desk, after_purge, claims, scans, settles, finds}
+use Rattle.oe_moments.specs.Rule.{dealer_first}
 use Rattle.oe_moments.specs.Rule.{saw_pin, dealt_on, next_desk, keeper_out, first_keeper}
 use Rattle.oe_moments.specs.Pins.{is_pinned, is_sure}
 use Rattle.oe_moments.proofs.KeepFacts.{kept_split, DeskMove, DeskTurn, desk_turn, KeeperTurn, keeper_turn}
@@ -79,10 +83,10 @@ loads_newest desks slots id me p is s k _ at _ =
     let at' : get_elem? s.views id ≡ some (Desk p) = at ∙ ap some is in
     let f : FitsDesk desks s.words p = k.fits id (Desk p) at' in
     let n : ℕ = newest s.words in (
-      Desk (saw n p),
+      Desk (notes_after_sight n p),
       keeps,
       tt,
-      desk_load desks s id 0 p (saw n p) k at' (record {
+      desk_load desks s id 0 p (notes_after_sight n p) k at' (record {
         move = unmoved desks s.words p.number k.words;
         number = refl;
         seen = le_refl _;
@@ -91,7 +95,8 @@ loads_newest desks slots id me p is s k _ at _ =
         moment = f.moment;
         carry = λ limit _ g. g;
       }),
-      for_desk me.0 p is (λ (q : DeskNotes). (Desk (saw n p) ≡ Desk (saw n q)) × (q.seen ≤ n) × (n ≤ most))
+      for_desk me.0 p is (λ (q : DeskNotes). (Desk (notes_after_sight n p) ≡ Desk (notes_after_sight n q))
+          × (q.seen ≤ n) × (n ≤ most))
           (refl, f.seen, k.words.newest_fits),
     )
 
@@ -101,10 +106,10 @@ loads_claim desks slots id me p is s k _ at _ =
     let at' : get_elem? s.views id ≡ some (Desk p) = at ∙ ap some is in
     let f : FitsDesk desks s.words p = k.fits id (Desk p) at' in
     let c : ℕ = claim s.words in (
-      Desk (looked c p),
+      Desk (notes_after_look c p),
       keeps,
       tt,
-      desk_load desks s id 1 p (looked c p) k at' (record {
+      desk_load desks s id 1 p (notes_after_look c p) k at' (record {
         move = unmoved desks s.words p.number k.words;
         number = refl;
         seen = f.seen;
@@ -113,23 +118,23 @@ loads_claim desks slots id me p is s k _ at _ =
         moment = moment p.pin f.moment;
         carry = λ limit below g. carry limit c p.claim below p.pin g;
       }),
-      for_desk me.0 p is (λ (q : DeskNotes). (Desk (looked c p) ≡ Desk (looked c q)) × (c ≤ most))
+      for_desk me.0 p is (λ (q : DeskNotes). (Desk (notes_after_look c p) ≡ Desk (notes_after_look c q)) × (c ≤ most))
           (refl, k.words.claim_fits),
     )
   where
-    same : (t : PinState) → pin_word t ≡ pin_word (looked_pin t)
+    same : (t : PinState) → pin_word t ≡ pin_word (pin_after_look t)
     same Free = refl
     same (Announced n) = refl
     same (Looked n) = refl
     same (Sure n) = refl
 
-    moment : (t : PinState) → IsMoment t → IsMoment (looked_pin t)
+    moment : (t : PinState) → IsMoment t → IsMoment (pin_after_look t)
     moment Free m = m
     moment (Announced n) m = m
     moment (Looked n) m = m
     moment (Sure n) m = m
 
-    carry : (limit c old : ℕ) → limit ≤ c → (t : PinState) → Guards limit old t → Guards limit c (looked_pin t)
+    carry : (limit c old : ℕ) → limit ≤ c → (t : PinState) → Guards limit old t → Guards limit c (pin_after_look t)
     carry limit c old below Free g = g
     carry limit c old below (Announced n) g = λ le. le_trans below le
     carry limit c old below (Looked n) g = λ le. le_trans below le
@@ -156,8 +161,8 @@ loads_purged desks slots id me p is s k _ at _ =
       (
         sym is,
         le_trans k.words.purged_fits k.words.claim_fits,
-        for_desk me.0 p is (λ (q : DeskNotes). (n : ℕ) → q.pin ≡ Sure n → purged s.words ≤ n)
-            (λ n sure. subst (λ (t : PinState). Guards (purged s.words) p.claim t) sure f.guards),
+        for_desk me.0 p is (λ (q : DeskNotes). (n : ℕ) → q.pin ≡ Sure n → purge_word s.words ≤ n)
+            (λ n sure. subst (λ (t : PinState). Guards (purge_word s.words) p.claim t) sure f.guards),
       ),
     )
 
@@ -265,7 +270,7 @@ raises_newest desks slots id me p m is fits s k _ at _ =
     let ws : List ℕ = slice_set s.words 0 x in
     let size : length s.words ≡ desks + 3 = k.words.size in
     let now : newest ws ≡ x = word_same s.words 0 x (omega arith) in
-    let p' : DeskNotes = saw x p in (
+    let p' : DeskNotes = notes_after_sight x p in (
       Desk p',
       keeps,
       tt,
@@ -285,7 +290,8 @@ raises_newest desks slots id me p m is fits s k _ at _ =
         moment = f.moment;
         carry = λ limit _ g. g;
       }),
-      for_desk me.0 p is (λ (q : DeskNotes). (Desk p' ≡ Desk (saw (max n m) q)) × (q.seen ≤ n) × (n ≤ most))
+      for_desk me.0 p is (λ (q : DeskNotes). (Desk p' ≡ Desk (notes_after_sight (max n m) q)) × (q.seen ≤ n)
+          × (n ≤ most))
           (refl, f.seen, n_fits),
     )
 
@@ -302,32 +308,32 @@ guards_max a b c (Announced n) g h = g
 guards_max a b c (Looked n) g h = λ le. let x = g le in let y = h le in omega arith
 guards_max a b c (Sure n) g h = omega arith
 
-lowered_less : (least x : ℕ) → lowered least x ≤ least
+lowered_less : (least x : ℕ) → least_with least x ≤ least
 lowered_less least x = grind (arith, nat_tests)
 
-lowered_at : (least n x : ℕ) → (x ≡ 2 * n + 1) ⊎ (x ≡ 2 * n + 2) → lowered least x ≤ n
+lowered_at : (least n x : ℕ) → (x ≡ 2 * n + 1) ⊎ (x ≡ 2 * n + 2) → least_with least x ≤ n
 lowered_at least n x is = grind (arith, nat_tests)
 
-lowered_guards : (least c : ℕ) (t : PinState) → Guards (lowered least (pin_word t)) c t
+lowered_guards : (least c : ℕ) (t : PinState) → Guards (least_with least (pin_word t)) c t
 lowered_guards least c Free = tt
 lowered_guards least c (Announced n) = tt
 lowered_guards least c (Looked n) = λ _. lowered_at least n (2 * n + 1) (Rattle.std.proofs.Common.inl refl)
 lowered_guards least c (Sure n) = lowered_at least n (2 * n + 2) (Rattle.std.proofs.Common.inr refl)
 
 pub raises_claim : (desks slots id : ℕ) (me : Me ℕ Notes) (k : KeeperNotes) (m : ℕ) → me.0 ≡ Keeper k → m ≤ most
-    → Allows (Kept desks) slots id me 1 (raised m) (claims (step 0 0 m 0 none) me)
+    → Allows (Kept desks) slots id me 1 (word_after_claim m) (claims (step 0 0 m 0 none) me)
 raises_claim desks slots id me k m is fits s r _ at _ =
     let at' : get_elem? s.views id ≡ some (Keeper k) = at ∙ ap some is in
     let f : FitsKeeper desks s.words k = r.fits id (Keeper k) at' in
     let c : ℕ = claim s.words in
     let c_fits : c ≤ most = r.words.claim_fits in
-    let x : ℕ = raised m c in
+    let x : ℕ = word_after_claim m c in
     let ws : List ℕ = slice_set s.words 1 x in
     let size : length s.words ≡ desks + 3 = r.words.size in
     let now : claim ws ≡ x = word_same s.words 1 x (omega arith) in
-    let purged_is : purged ws ≡ purged s.words = word_other s.words 1 2 x (λ e. omega arith) in
-    let below : purged s.words ≤ c = r.words.purged_fits in
-    let k' : KeeperNotes = claimed m k in (
+    let purged_is : purge_word ws ≡ purge_word s.words = word_other s.words 1 2 x (λ e. omega arith) in
+    let below : purge_word s.words ≤ c = r.words.purged_fits in
+    let k' : KeeperNotes = after_claim m k in (
       Keeper k',
       keeps,
       tt,
@@ -336,7 +342,7 @@ raises_claim desks slots id me k m is fits s r _ at _ =
         newest_is = word_other s.words 1 0 x (λ e. omega arith);
         claim_up = subst (λ (y : ℕ). c ≤ y) (sym now) (omega arith);
         claim_fits = subst (λ (y : ℕ). y ≤ most) (sym now) (omega arith);
-        purged_fits = subst (λ (y : ℕ). purged ws ≤ y) (sym now)
+        purged_fits = subst (λ (y : ℕ). purge_word ws ≤ y) (sym now)
             (subst (λ (y : ℕ). y ≤ x) (sym purged_is) (omega arith));
         pins = λ d. word_other s.words 1 (d + 3) x (λ q. omega arith);
         horizon = f.horizon ∙ sym purged_is;
@@ -344,7 +350,7 @@ raises_claim desks slots id me k m is fits s r _ at _ =
         least = λ _ d q t lt none word old. absurd (omega arith);
         purges = λ d q t lt g old. subst (λ (y : ℕ). Guards y q t) (sym purged_is) g;
       }),
-      for_keeper me.0 k is (λ (l : KeeperNotes). Keeper k' ≡ Keeper (claimed m l)) refl,
+      for_keeper me.0 k is (λ (l : KeeperNotes). Keeper k' ≡ Keeper (after_claim m l)) refl,
     )
 
 -- a load by the keeper
@@ -366,14 +372,14 @@ scans_pin desks slots id me k word is on more where_is s r _ at _ =
     let f : FitsKeeper desks s.words k = r.fits id (Keeper k) at' in
     let x : ℕ = slice_index s.words word in
     let x_is : x ≡ pin_at s.words k.passed = ap (λ (i : ℕ). slice_index s.words i) where_is in
-    let k' : KeeperNotes = scanned x k in
-    let less : lowered k.least x ≤ k.least = lowered_less k.least x in
+    let k' : KeeperNotes = after_desk x k in
+    let less : least_with k.least x ≤ k.least = lowered_less k.least x in
     let kept : (d q : ℕ) (t : PinState) → d < k.passed + 1 → pin_at s.words d ≡ pin_word t
-    → (k.scanning ≡ true → d < k.passed → Guards k.least q t) → Guards (lowered k.least x) q t
+    → (k.scanning ≡ true → d < k.passed → Guards k.least q t) → Guards (least_with k.least x) q t
     = λ d q t lt is_word old. dite (ℕ_discrete d k.passed)
-    (λ (same : d ≡ k.passed). subst (λ (y : ℕ). Guards (lowered k.least y) q t)
+    (λ (same : d ≡ k.passed). subst (λ (y : ℕ). Guards (least_with k.least y) q t)
     (sym (x_is ∙ (ap (λ (e : ℕ). pin_at s.words e) (sym same) ∙ is_word))) (lowered_guards k.least q t))
-    (λ ne. guards_less k.least (lowered k.least x) q t less (old on (omega arith))) in (
+    (λ ne. guards_less k.least (least_with k.least x) q t less (old on (omega arith))) in (
       Keeper k',
       keeps,
       tt,
@@ -389,7 +395,7 @@ scans_pin desks slots id me k word is on more where_is s r _ at _ =
         least = λ _ d q t lt below is_word old. kept d q t below is_word old;
         purges = λ d q t lt g old. g;
       }),
-      for_keeper me.0 k is (λ (l : KeeperNotes). Keeper k' ≡ Keeper (scanned x l)) refl,
+      for_keeper me.0 k is (λ (l : KeeperNotes). Keeper k' ≡ Keeper (after_desk x l)) refl,
     )
 
 pub stores_purged : (desks slots id : ℕ) (me : Me ℕ Notes) (k : KeeperNotes) (x : ℕ) → me.0 ≡ Keeper k
@@ -400,14 +406,14 @@ stores_purged desks slots id me k x is on all what s r _ at _ =
     let f : FitsKeeper desks s.words k = r.fits id (Keeper k) at' in
     let ws : List ℕ = slice_set s.words 2 x in
     let size : length s.words ≡ desks + 3 = r.words.size in
-    let now : purged ws ≡ x = word_same s.words 2 x (omega arith) in
+    let now : purge_word ws ≡ x = word_same s.words 2 x (omega arith) in
     let claim_is : claim ws ≡ claim s.words = word_other s.words 2 1 x (λ e. omega arith) in
-    let old : purged s.words ≤ claim s.words = r.words.purged_fits in
+    let old : purge_word s.words ≤ claim s.words = r.words.purged_fits in
     let least : k.least ≤ claim s.words = (f.scan on).least in
-    let horizon : k.horizon ≡ purged s.words = f.horizon in
+    let horizon : k.horizon ≡ purge_word s.words = f.horizon in
     let fits : x ≤ claim s.words = omega arith in
-    let x_is : x ≡ max (purged s.words) k.least = what ∙ ap (λ (y : ℕ). max y k.least) horizon in
-    let k' : KeeperNotes = settled k in (
+    let x_is : x ≡ max (purge_word s.words) k.least = what ∙ ap (λ (y : ℕ). max y k.least) horizon in
+    let k' : KeeperNotes = after_purge k in (
       Keeper k',
       keeps,
       tt,
@@ -422,9 +428,9 @@ stores_purged desks slots id me k x is on all what s r _ at _ =
         scan = λ off. absurd (true≢false (sym off));
         least = λ off. absurd (true≢false (sym off));
         purges = λ d q t lt g watched. subst (λ (y : ℕ). Guards y q t) (sym (now ∙ x_is))
-            (guards_max (purged s.words) k.least q t g (watched on (omega arith)));
+            (guards_max (purge_word s.words) k.least q t g (watched on (omega arith)));
       }),
-      for_keeper me.0 k is (λ (l : KeeperNotes). Keeper k' ≡ Keeper (settled l)) refl,
+      for_keeper me.0 k is (λ (l : KeeperNotes). Keeper k' ≡ Keeper (after_purge l)) refl,
     )
 
 pub finds_pin : (desks slots id : ℕ) (me : Me ℕ Notes) (k : KeeperNotes) (d word : ℕ) → me.0 ≡ Keeper k → d < desks

@@ -36,8 +36,8 @@ newest ws = slice_index ws newest_index
 abbrev pub claim : List ℕ → ℕ
 claim ws = slice_index ws claim_index
 
-abbrev pub purged : List ℕ → ℕ
-purged ws = slice_index ws purged_index
+abbrev pub purge_word : List ℕ → ℕ
+purge_word ws = slice_index ws purged_index
 
 abbrev pub pin_at : List ℕ → ℕ → ℕ
 pin_at ws d = slice_index ws (d + first_pin)
@@ -82,7 +82,7 @@ pub record FitsDesk (desks : ℕ) (ws : List ℕ) (p : DeskNotes) : Type 0 where
   pub claimed : p.claim ≤ claim ws
   pub word : pin_at ws p.number ≡ pin_word p.pin
   pub moment : IsMoment p.pin
-  pub guards : Guards (purged ws) p.claim p.pin
+  pub guards : Guards (purge_word ws) p.claim p.pin
 
 -- a scan that has passed the desks below a number
 pub record Scan (desks : ℕ) (ws : List ℕ) (k : KeeperNotes) : Type 0 where
@@ -92,14 +92,14 @@ pub record Scan (desks : ℕ) (ws : List ℕ) (k : KeeperNotes) : Type 0 where
 
 -- what the keeper knows
 pub record FitsKeeper (desks : ℕ) (ws : List ℕ) (k : KeeperNotes) : Type 0 where
-  pub horizon : k.horizon ≡ purged ws
+  pub horizon : k.horizon ≡ purge_word ws
   pub scan : k.scanning ≡ true → Scan desks ws k
 
 -- what the dealer knows
 pub record FitsDealer (desks : ℕ) (ws : List ℕ) (o : DealerNotes) : Type 0 where
   pub dealt : o.dealt ≤ desks
   pub free : (d : ℕ) → o.dealt ≤ d → d < desks → pin_at ws d ≡ no_pin
-  pub unpurged : o.keeper ≡ false → purged ws ≡ 0
+  pub unpurged : o.keeper ≡ false → purge_word ws ≡ 0
 
 abbrev pub Fits : ℕ → List ℕ → Notes → Type 0
 Fits desks ws Gone = Unit {0}
@@ -132,8 +132,8 @@ pub record AreWords (desks : ℕ) (ws : List ℕ) : Type 0 where
   pub size : length ws ≡ desks + first_pin
   pub newest_fits : newest ws ≤ most
   pub claim_fits : claim ws ≤ most
-  pub purged_fits : purged ws ≤ claim ws
-  pub sure : SureAbove ws (purged ws) desks
+  pub purged_fits : purge_word ws ≤ claim ws
+  pub sure : SureAbove ws (purge_word ws) desks
 
 -- the rule: what the words keep, what each holder knows of them, and what any two know
 pub record Kept (desks : ℕ) (s : State ℕ Notes) : Type 0 where
@@ -148,32 +148,33 @@ turn true = false
 turn false = true
 
 -- the desk has loaded the newest moment, and seen or told that one
-abbrev pub saw : ℕ → DeskNotes → DeskNotes
-saw n p = record p { seen = n; turned = turn p.turned }
+abbrev pub notes_after_sight : ℕ → DeskNotes → DeskNotes
+notes_after_sight n p = record p { seen = n; turned = turn p.turned }
 
 -- the desk's pin has come that far
 abbrev pub with_pin : PinState → DeskNotes → DeskNotes
 with_pin t p = record p { pin = t }
 
 -- a pin that was announced before a look
-abbrev pub looked_pin : PinState → PinState
-looked_pin (Announced n) = Looked n
-looked_pin Free = Free
-looked_pin (Looked n) = Looked n
-looked_pin (Sure n) = Sure n
+abbrev pub pin_after_look : PinState → PinState
+pin_after_look (Announced n) = Looked n
+pin_after_look Free = Free
+pin_after_look (Looked n) = Looked n
+pin_after_look (Sure n) = Sure n
 
 -- the desk has looked at what the keeper claims
-abbrev pub looked : ℕ → DeskNotes → DeskNotes
-looked c p = record p { claim = c; pin = looked_pin p.pin }
+abbrev pub notes_after_look : ℕ → DeskNotes → DeskNotes
+notes_after_look c p = record p { claim = c; pin = pin_after_look p.pin }
 
 -- a desk reads the newest moment, which is not below what it has seen
 abbrev pub sees_newest : Step ℕ → Me ℕ Notes → ℕ → Me ℕ Notes → Type 0
-sees_newest s v found w = (p : DeskNotes) → v.0 ≡ Desk p → (w.0 ≡ Desk (saw found p)) × (p.seen ≤ found)
+sees_newest s v found w = (p : DeskNotes) → v.0 ≡ Desk p → (w.0 ≡ Desk (notes_after_sight found p)) × (p.seen ≤ found)
     × (found ≤ most)
 
 -- a desk raises the newest moment to at least the one told
 abbrev pub tells : Step ℕ → Me ℕ Notes → ℕ → Me ℕ Notes → Type 0
-tells s v found w = (p : DeskNotes) → v.0 ≡ Desk p → (w.0 ≡ Desk (saw (max found s.first) p)) × (p.seen ≤ found)
+tells s v found w = (p : DeskNotes) → v.0 ≡ Desk p → (w.0 ≡ Desk (notes_after_sight (max found s.first) p))
+    × (p.seen ≤ found)
     × (found ≤ most)
 
 abbrev pub announces : Step ℕ → Me ℕ Notes → ℕ → Me ℕ Notes → Type 0
@@ -181,7 +182,7 @@ announces s v found w = (p : DeskNotes) → v.0 ≡ Desk p → w.0 ≡ Desk (wit
 
 -- a desk reads what the keeper claims, which is a moment
 abbrev pub looks : Step ℕ → Me ℕ Notes → ℕ → Me ℕ Notes → Type 0
-looks s v found w = (p : DeskNotes) → v.0 ≡ Desk p → (w.0 ≡ Desk (looked found p)) × (found ≤ most)
+looks s v found w = (p : DeskNotes) → v.0 ≡ Desk p → (w.0 ≡ Desk (notes_after_look found p)) × (found ≤ most)
 
 abbrev pub makes_sure : Step ℕ → Me ℕ Notes → ℕ → Me ℕ Notes → Type 0
 makes_sure s v found w = (p : DeskNotes) → v.0 ≡ Desk p → (n : ℕ) → p.pin ≡ Looked n → w.0 ≡ Desk (with_pin (Sure n) p)
@@ -197,37 +198,37 @@ reads_purged s v found w = (w.0 ≡ v.0) × (found ≤ most)
 -- WHAT EACH STEP OF THE KEEPER MAKES OF ITS NOTES
 
 -- what a claim of m makes of the word: it never falls
-abbrev pub raised : ℕ → ℕ → ℕ
-raised m n = max n m
+abbrev pub word_after_claim : ℕ → ℕ → ℕ
+word_after_claim m n = max n m
 
 -- the keeper has claimed m, and begins a scan
-abbrev pub claimed : ℕ → KeeperNotes → KeeperNotes
-claimed m k = record k { scanning = true; passed = 0; claim = m; least = m; turned = turn k.turned }
+abbrev pub after_claim : ℕ → KeeperNotes → KeeperNotes
+after_claim m k = record k { scanning = true; passed = 0; claim = m; least = m; turned = turn k.turned }
 
 -- the least after a pin word was found, which holds a moment unless there is no pin
-abbrev pub lowered : ℕ → ℕ → ℕ
-lowered least found = if found == no_pin then least else min least ((found - 1) / 2)
+abbrev pub least_with : ℕ → ℕ → ℕ
+least_with least found = if found == no_pin then least else min least ((found - 1) / 2)
 
 -- the keeper has passed a desk, whose pin word it found
-abbrev pub scanned : ℕ → KeeperNotes → KeeperNotes
-scanned found k = record k { scanning = true; passed = k.passed + 1; least = lowered k.least found }
+abbrev pub after_desk : ℕ → KeeperNotes → KeeperNotes
+after_desk found k = record k { scanning = true; passed = k.passed + 1; least = least_with k.least found }
 
 -- the keeper has purged up to the least moment of the scan, or no further than before
-abbrev pub settled : KeeperNotes → KeeperNotes
-settled k = record k { scanning = false; horizon = max k.horizon k.least }
+abbrev pub after_purge : KeeperNotes → KeeperNotes
+after_purge k = record k { scanning = false; horizon = max k.horizon k.least }
 
 -- the keeper has looked at the pin of desk d, and found that word
 abbrev pub saw_pin : ℕ → ℕ → KeeperNotes → KeeperNotes
 saw_pin d found k = record k { found = record { desk = d; word = found; turned = turn k.found.turned } }
 
 abbrev pub claims : Step ℕ → Me ℕ Notes → ℕ → Me ℕ Notes → Type 0
-claims s v found w = (k : KeeperNotes) → v.0 ≡ Keeper k → w.0 ≡ Keeper (claimed s.first k)
+claims s v found w = (k : KeeperNotes) → v.0 ≡ Keeper k → w.0 ≡ Keeper (after_claim s.first k)
 
 abbrev pub scans : Step ℕ → Me ℕ Notes → ℕ → Me ℕ Notes → Type 0
-scans s v found w = (k : KeeperNotes) → v.0 ≡ Keeper k → w.0 ≡ Keeper (scanned found k)
+scans s v found w = (k : KeeperNotes) → v.0 ≡ Keeper k → w.0 ≡ Keeper (after_desk found k)
 
 abbrev pub settles : Step ℕ → Me ℕ Notes → ℕ → Me ℕ Notes → Type 0
-settles s v found w = (k : KeeperNotes) → v.0 ≡ Keeper k → w.0 ≡ Keeper (settled k)
+settles s v found w = (k : KeeperNotes) → v.0 ≡ Keeper k → w.0 ≡ Keeper (after_purge k)
 
 -- the keeper looks at the pin of a desk; one that it finds sure is not below the horizon
 abbrev pub finds : Step ℕ → Me ℕ Notes → ℕ → Me ℕ Notes → Type 0

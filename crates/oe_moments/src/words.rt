@@ -5,7 +5,7 @@
 //! has a seat. Only `open` takes memory, and may be refused it. No call waits.
 ghost use Rattle.std.specs.Prelude.{◌≡◌, ◌≢◌, ◌↔◌, ℕ, ◌+◌, ◌-◌, ◌<◌, ◌≤◌, max, true, false, IfOk, IfErr, OnOk, OnErr, IsTrue};
 ghost use Rattle.atomic_table.specs.Seated.{TableId};
-ghost use Rattle.oe_moments.specs.Rule.{saw, turn, with_pin, looked, looked_pin, claimed, lowered, scanned, settled, saw_pin, fresh, at_start, no_pin, announced_word, sure_word, pin_word};
+ghost use Rattle.oe_moments.specs.Rule.{notes_after_sight, turn, with_pin, notes_after_look, pin_after_look, after_claim, least_with, after_desk, after_purge, saw_pin, fresh, at_start, no_pin, announced_word, sure_word, pin_word};
 ghost use Rattle.oe_moments.specs.Pins.{TheSeat, TheKeeper, TheDealer, AreOfDesks, HaveDesk, with_notes, with_watch, with_deal, is_pinned, is_sure, Holds};
 ghost use Rattle.oe_moments.specs.declared.notes.PinState.TheVariants.{Free, Announced, Looked, Sure};
 ghost use Rattle.oe_moments.specs.declared.notes.Notes.TheVariants.{Dealer, Desk, Keeper};
@@ -261,7 +261,7 @@ impl Moments {
     /// Loads the newest moment, which is at least each that this desk saw or told.
     pub fn newest(&self, seat: &mut DeskSeat) -> Moment
         requires { seat.old.words ≡ self.now }
-        ensures seat { seat.new ≡ with_notes (saw result seat.old.notes) seat.old }
+        ensures seat { seat.new ≡ with_notes (notes_after_sight result seat.old.notes) seat.old }
         ensures rises { seat.old.notes.seen ≤ result }
     {
         let shared = &self.table.shared;
@@ -275,7 +275,7 @@ impl Moments {
     /// Tells a moment: from then on this desk sees no earlier one as the newest.
     pub fn told(&self, seat: &mut DeskSeat, moment: Moment)
         requires { seat.old.words ≡ self.now }
-        ensures seat { seat.new ≡ with_notes (saw seat.new.notes.seen seat.old.notes) seat.old }
+        ensures seat { seat.new ≡ with_notes (notes_after_sight seat.new.notes.seen seat.old.notes) seat.old }
         ensures rises { seat.old.notes.seen ≤ seat.new.notes.seen }
         ensures told { moment ≤ seat.new.notes.seen }
     {
@@ -290,7 +290,7 @@ impl Moments {
         requires words { seat.old.words ≡ self.now }
         requires unsure { is_sure seat.old.notes.pin ≡ false }
         ensures seat { seat.new ≡
-            with_notes (with_pin (Announced result) (saw result seat.old.notes)) seat.old }
+            with_notes (with_pin (Announced result) (notes_after_sight result seat.old.notes)) seat.old }
         ensures rises { seat.old.notes.seen ≤ result }
     {
         let newest = self.newest(seat);
@@ -304,7 +304,7 @@ impl Moments {
     /// Looks at the moment that the keeper claims.
     pub fn look(&self, seat: &mut DeskSeat) -> Moment
         requires { seat.old.words ≡ self.now }
-        ensures seat { seat.new ≡ with_notes (looked result seat.old.notes) seat.old }
+        ensures seat { seat.new ≡ with_notes (notes_after_look result seat.old.notes) seat.old }
     {
         let shared = &self.table.shared;
         let found = shared.load::<Looks>(&mut seat.chair, CLAIM);
@@ -412,7 +412,7 @@ impl Moments {
     /// Claims a moment, up to which the keeper would purge, and begins a scan.
     pub fn claim(&self, keeper: &mut KeeperSeat, moment: Moment)
         requires { keeper.old.words ≡ self.now }
-        ensures { keeper.new ≡ with_watch (claimed moment keeper.old.notes) keeper.old }
+        ensures { keeper.new ≡ with_watch (after_claim moment keeper.old.notes) keeper.old }
     {
         let shared = &self.table.shared;
         shared.fetch_max::<Claims>(&mut keeper.chair, CLAIM, moment.get());
@@ -428,7 +428,7 @@ impl Moments {
         requires words { keeper.old.words ≡ self.now }
         requires scanning { keeper.old.notes.scanning ≡ true }
         requires more { HaveDesk self.now keeper.old.notes.passed }
-        ensures { keeper.new ≡ with_watch (scanned result keeper.old.notes) keeper.old }
+        ensures { keeper.new ≡ with_watch (after_desk result keeper.old.notes) keeper.old }
     {
         let shared = &self.table.shared;
         let word = keeper.knows.passed as usize + PINS;
@@ -444,7 +444,7 @@ impl Moments {
         requires words { keeper.old.words ≡ self.now }
         requires scanning { keeper.old.notes.scanning ≡ true }
         requires all { AreOfDesks self.now keeper.old.notes.passed }
-        ensures keeper { keeper.new ≡ with_watch (settled keeper.old.notes) keeper.old }
+        ensures keeper { keeper.new ≡ with_watch (after_purge keeper.old.notes) keeper.old }
         ensures horizon { result ≡ keeper.new.notes.horizon }
     {
         let shared = &self.table.shared;
@@ -520,7 +520,7 @@ fn sure(moment: Moment) -> u64
 
 // Gives the pin after a look at the claim.
 fn after_look(pin: &PinState) -> PinState
-    ensures { result ≡ looked_pin pin.now }
+    ensures { result ≡ pin_after_look pin.now }
 {
     match pin {
         PinState::Announced(moment) => PinState::Looked(*moment),
@@ -530,7 +530,7 @@ fn after_look(pin: &PinState) -> PinState
 
 // Lowers the least moment of a scan to the one that a pin word holds.
 fn lower(least: Moment, found: u64) -> Moment
-    ensures { result ≡ lowered least found }
+    ensures { result ≡ least_with least found }
 {
     if found == NONE {
         return least;

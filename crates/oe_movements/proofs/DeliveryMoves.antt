@@ -24,7 +24,8 @@ use Rattle.oe_rows.proofs.KeyFacts.{exact_order, order_line_total, exact_order_l
 use Rattle.oe_model.specs.Keys.{order_of_line, customer_in, order_in, new_order_in}
 use Rattle.oe_model.specs.Rows.{Rows}
 use Rattle.oe_model.specs.Maps.{each, sum_of}
-use Rattle.oe_model.specs.Delivery.{oldest, lines_of, worth, dated, carried, delivered_to, delivered_out, delivery_of}
+use Rattle.oe_model.specs.Delivery.{oldest, lines_of, worth, with_date, with_carrier, delivered_to, delivered_out}
+use Rattle.oe_model.specs.Delivery.{delivery_of}
 use Rattle.oe_model.specs.Delivery.{district_effect, delivery_effect}
 use Rattle.oe_model.specs.Deliveries.{districts, in_district, in_turn, deliveries_effect}
 use Rattle.oe_model.specs.Conditions.{HasNewOrder}
@@ -35,7 +36,8 @@ use Rattle.oe_model.proofs.EffectFacts.{made_by, there, there_in_range}
 use Rattle.oe_model.proofs.PresenceFacts.{present_some, not_turned, own_or_old, each_left}
 use Rattle.oe_model.proofs.QueueFacts.{oldest_least}
 use Rattle.oe_consistency.proofs.DeliveryMore.{district_more}
-use Rattle.oe_movements.specs.Movements.{delivered_of, is_ordered, ordered, one_remote, is_delivered_to, deliveries_to}
+use Rattle.oe_movements.specs.Movements.{delivered_of, is_ordered, order_sum, one_remote, is_delivered_to}
+use Rattle.oe_movements.specs.Movements.{deliveries_to}
 use Rattle.oe_movements.specs.Movements.{quantity_of, one_line, Payment_count, Delivery_count}
 use Rattle.oe_movements.specs.Movements.{Delivery_count_at, Payment_count_at, Movements}
 use Rattle.oe_movements.specs.Movements.{IsNumberedFirst}
@@ -59,12 +61,12 @@ module _ (initial : ℕ) (q : DeliveryRequest) (r : Rows) (h : HasMovements init
   value = worth (lines_of k r.order_lines)
 
   abbrev date : OrderLineKey → OrderLine → OrderLine
-  date l y = cond (eq_by_cmp order_cmp (order_of_line l) k) (dated q.stamp y) y
+  date l y = cond (eq_by_cmp order_cmp (order_of_line l) k) (with_date q.stamp y) y
 
   abbrev pub made : Rows
   made = record r {
     new_orders = remove r.new_orders j;
-    orders = insert r.orders k (carried q.carrier order);
+    orders = insert r.orders k (with_carrier q.carrier order);
     order_lines = each date r.order_lines;
     customers = insert r.customers owner (delivered_to value u);
   }
@@ -83,18 +85,18 @@ module _ (initial : ℕ) (q : DeliveryRequest) (r : Rows) (h : HasMovements init
 
   -- what counts no date counts as before
   lines_same : (F : OrderLineKey → OrderLine → ℕ)
-      → ((l : OrderLineKey) (y : OrderLine) → F l (dated q.stamp y) ≡ F l y)
+      → ((l : OrderLineKey) (y : OrderLine) → F l (with_date q.stamp y) ≡ F l y)
       → sum_of F made.order_lines ≡ sum_of F r.order_lines
   lines_same F same = sum-each order_line_total exact_order_line F date r.order_lines
       (λ l y. by_test l y (eq_by_cmp order_cmp (order_of_line l) k))
     where
-      by_test : (l : OrderLineKey) (y : OrderLine) (b : Bool) → F l (cond b (dated q.stamp y) y) ≡ F l y
+      by_test : (l : OrderLineKey) (y : OrderLine) (b : Bool) → F l (cond b (with_date q.stamp y) y) ≡ F l y
       by_test l y true = same l y
       by_test l y false = refl
 
   ordered_same : (figure : OrderLineKey → OrderLine → ℕ)
-      → ((l : OrderLineKey) (y : OrderLine) → figure l (dated q.stamp y) ≡ figure l y) → (i : StockKey)
-      → ordered figure initial made i ≡ ordered figure initial r i
+      → ((l : OrderLineKey) (y : OrderLine) → figure l (with_date q.stamp y) ≡ figure l y) → (i : StockKey)
+      → order_sum figure initial made i ≡ order_sum figure initial r i
   ordered_same figure same i =
       lines_same (λ l y. cond (is_ordered initial i l y) (figure l y) 0)
       (λ l y. ap (λ n. cond (is_ordered initial i l y) n 0) (same l y))
@@ -105,13 +107,13 @@ module _ (initial : ℕ) (q : DeliveryRequest) (r : Rows) (h : HasMovements init
   deliveries_now c =
       let of : OrderKey → Order → ℕ = λ i x. cond (is_delivered_to initial c i x) 1 0 in
       let sum : deliveries_to initial made c + number_at of k (get r.orders k) ≡ deliveries_to initial r c
-      + of k (carried q.carrier order) =
-      sum-insert order_total exact_order of r.orders k (carried q.carrier order) in
+      + of k (with_carrier q.carrier order) =
+      sum-insert order_total exact_order of r.orders k (with_carrier q.carrier order) in
       let before : number_at of k (get r.orders k) ≡ 0 =
       ap (number_at of k) order_at
       ∙ ap (λ (v : Option ℕ). cond (eq_by_cmp customer_cmp owner c && is_some v && nat_lt (delivered_of initial) o) 1 0)
       uncarried ∙ none (eq_by_cmp customer_cmp owner c) in
-      let after : of k (carried q.carrier order) ≡ if_of_customer c owner 1 =
+      let after : of k (with_carrier q.carrier order) ≡ if_of_customer c owner 1 =
       ap (λ t. cond (eq_by_cmp customer_cmp owner c && true && t) 1 0) later
       ∙ one (eq_by_cmp customer_cmp owner c) in
       omega arith
@@ -160,16 +162,17 @@ module _ (initial : ℕ) (q : DeliveryRequest) (r : Rows) (h : HasMovements init
   remotes_same i = lines_same (λ l y. if_of_order i (order_of_line l) (one_remote l y)) (λ l y. refl)
 
   local_now : IsCounted made
-  local_now i x e = go (own_or_old order_total exact_order r.orders k (carried q.carrier order) i x e)
+  local_now i x e = go (own_or_old order_total exact_order r.orders k (with_carrier q.carrier order) i x e)
     where
       kept : (z : Order) → (z.all_local ≡ true) ↔ (remotes_of r i ≡ 0)
           → (z.all_local ≡ true) ↔ (remotes_of made i ≡ 0)
       kept z old = (λ t. remotes_same i ∙ old.0 t, λ t. old.1 (sym (remotes_same i) ∙ t))
 
-      go : ((i ≡ k) × (carried q.carrier order ≡ x)) ⊎ ((eq_by_cmp order_cmp i k ≡ false) × (get r.orders i ≡ Some x))
+      go : ((i ≡ k) × (with_carrier q.carrier order ≡ x))
+          ⊎ ((eq_by_cmp order_cmp i k ≡ false) × (get r.orders i ≡ Some x))
           → (x.all_local ≡ true) ↔ (remotes_of made i ≡ 0)
       go (inl s) = subst (λ (y : Order). (y.all_local ≡ true) ↔ (remotes_of made i ≡ 0)) s.1
-          (kept (carried q.carrier order)
+          (kept (with_carrier q.carrier order)
           (to_counted r h.movements.all_local i order (ap (get r.orders) s.0 ∙ order_at)))
       go (inr s) = kept x (to_counted r h.movements.all_local i x s.1)
 

@@ -23,7 +23,8 @@ use Rattle.oe_model.specs.Rows.{Rows}
 use Rattle.oe_model.specs.Maps.{with_all, sum_of}
 use Rattle.oe_model.specs.Positions.{Filled}
 use Rattle.oe_model.specs.Requests.{IsRequestLine}
-use Rattle.oe_model.specs.NewOrder.{stock_of, asked, supplied, after_lines, stock_out, item_at, filled, all_filled}
+use Rattle.oe_model.specs.NewOrder.{stock_of, quantities_for, stock_after, after_lines, stock_out, item_at}
+use Rattle.oe_model.specs.NewOrder.{line_filled_from, all_filled}
 use Rattle.oe_model.specs.NewOrder.{line_entries}
 use Rattle.oe_model.proofs.SumFacts.{number_at, sum-insert}
 use Rattle.oe_model.proofs.EffectFacts.{there, there_in_range}
@@ -45,7 +46,7 @@ module _ (q : NewOrderRequest) (r : Rows) where
   are_asked [] before (f ∷ fs) e = let no : ⊥ = cc in absurd no
   are_asked (l ∷ ls) before fs e =
       let P : Type 0 = AreAsked (l ∷ ls) fs in
-      there P (filled q r before l) _ fs e (λ f f_is e.
+      there P (line_filled_from q r before l) _ fs e (λ f f_is e.
       there P (item_at l.item r.items) _ f f_is (λ item _ f_is.
       there P (get r.stocks (stock_of l)) _ f f_is (λ stock _ f_is.
       there_in_range P stock_out (after_lines q.district.warehouse (before ++ l ∷ []) (stock_of l) stock) _ f f_is
@@ -93,7 +94,7 @@ module _ (k : OrderKey) (F : OrderLineKey → OrderLine → ℕ) where
 module _ (initial home : ℕ) (o : OrderKey) (later : nat_lt initial o.order ≡ true) (figure : Stock → ℕ)
     (counts : OrderLineKey → OrderLine → ℕ) (k : StockKey)
     (one : (x : Stock) (f : Filled) (n : ℕ) → supply_of_line f.row ≡ k → f.row.quantity ≡ n
-    → figure (supplied home k x n) ≡ figure x + counts (line_in o f.number) f.row) where
+    → figure (stock_after home k x n) ≡ figure x + counts (line_in o f.number) f.row) where
   abbrev pub counted : Filled → ℕ
   counted f = cond (is_ordered initial k (line_in o f.number) f.row) (counts (line_in o f.number) f.row) 0
 
@@ -123,14 +124,15 @@ module _ (initial home : ℕ) (o : OrderKey) (later : nat_lt initial o.order ≡
 
       by_test : (b : Bool) → eq_by_cmp stock_cmp k (stock_of l) ≡ b
           → ((y : Stock) → figure (after_lines home ls k y) ≡ figure y + sum_by counted fs)
-          → figure (fold (supplied home k) x (cond b (l.quantity ∷ asked k ls) (asked k ls))) ≡ figure x
+          → figure (fold (stock_after home k) x (cond b (l.quantity ∷ quantities_for k ls) (quantities_for k ls)))
+          ≡ figure x
           + sum_by counted (f ∷ fs)
       by_test true t rest =
           let supply : supply_of_line f.row ≡ k =
           a.0 ∙ sym (Rattle.oe_model.proofs.MapFacts.is_same stock_total Rattle.oe_rows.proofs.KeyFacts.exact_stock k
           (stock_of l) t) in
           let step = one x f l.quantity supply a.1 in
-          let more = rest (supplied home k x l.quantity) in
+          let more = rest (stock_after home k x l.quantity) in
           let own = of_row f l true a.0 t in
           let c = cons in
           omega arith
@@ -150,8 +152,9 @@ after_quantity home k (l ∷ ls) x valid h =
     (λ y g. after_quantity home k ls y (All-tail IsRequestLine l ls valid) g)
   where
     by_test : (b : Bool) → ((y : Stock) → Stock_quantity_at y → Stock_quantity_at (after_lines home ls k y))
-        → Stock_quantity_at (fold (supplied home k) x (cond b (l.quantity ∷ asked k ls) (asked k ls)))
-    by_test true rest = rest (supplied home k x l.quantity)
+        → Stock_quantity_at (fold (stock_after home k) x
+        (cond b (l.quantity ∷ quantities_for k ls) (quantities_for k ls)))
+    by_test true rest = rest (stock_after home k x l.quantity)
         (one_range (nat_le (l.quantity + 10) x.quantity) x.quantity l.quantity refl
         (All-head IsRequestLine l ls valid).quantity.1 h.0 h.1)
     by_test false rest = rest x h

@@ -26,7 +26,7 @@ use Rattle.oe_model.specs.Maps.{each, with_all, sum_of}
 use Rattle.oe_model.specs.Meets.{Meets}
 use Rattle.oe_model.specs.Positions.{Filled}
 use Rattle.oe_model.specs.Requests.{IsNewOrder}
-use Rattle.oe_model.specs.NewOrder.{next_out, supplied, after_lines, all_filled, order_row, new_order_row, with_next}
+use Rattle.oe_model.specs.NewOrder.{next_out, stock_after, after_lines, all_filled, order_row, new_order_row, with_next}
 use Rattle.oe_model.specs.NewOrder.{line_entries, new_order_effect}
 use Rattle.oe_model.specs.Conditions.{Condition_2}
 use Rattle.oe_model.specs.FurtherConditions.{if_of_order}
@@ -36,7 +36,7 @@ use Rattle.oe_model.proofs.EffectFacts.{made_by, there, there_in_range}
 use Rattle.oe_model.proofs.PresenceFacts.{not_turned, own_or_old, each_row, row_of_each, missing, key_cases}
 use Rattle.oe_model.proofs.NewOrderFacts.{IsFresh}
 use Rattle.oe_model.proofs.NewOrderGood.{AreLines, lines_are, zeros, is_fresh}
-use Rattle.oe_movements.specs.Movements.{delivered_of, is_ordered, ordered, quantity_of, one_line, one_remote}
+use Rattle.oe_movements.specs.Movements.{delivered_of, is_ordered, order_sum, quantity_of, one_line, one_remote}
 use Rattle.oe_movements.specs.Movements.{is_delivered_to, deliveries_to}
 use Rattle.oe_movements.specs.Movements.{Stock_quantity, Stock_quantity_at, Movements, IsNumberedFirst}
 use Rattle.oe_movements.proofs.LineFacts.{AreAsked, are_asked, sum_of_lines, counted, after_figure, after_quantity}
@@ -88,12 +88,12 @@ module _ (initial : ℕ) (q : NewOrderRequest) (r : Rows) (first : IsNumberedFir
   -- a figure of a stock row still is the sum of what its lines count
   figure_now : (figure : Stock → ℕ) (counts : OrderLineKey → OrderLine → ℕ)
       → ((i : StockKey) (x : Stock) (f : Filled) (n : ℕ) → supply_of_line f.row ≡ i → f.row.quantity ≡ n
-      → figure (supplied home i x n) ≡ figure x + counts (line_in k f.number) f.row)
-      → ((i : StockKey) (x : Stock) → get r.stocks i ≡ Some x → figure x ≡ ordered counts initial r i)
-      → (i : StockKey) (x : Stock) → get made.stocks i ≡ Some x → figure x ≡ ordered counts initial made i
+      → figure (stock_after home i x n) ≡ figure x + counts (line_in k f.number) f.row)
+      → ((i : StockKey) (x : Stock) → get r.stocks i ≡ Some x → figure x ≡ order_sum counts initial r i)
+      → (i : StockKey) (x : Stock) → get made.stocks i ≡ Some x → figure x ≡ order_sum counts initial made i
   figure_now figure counts one before i x e =
       let row = row_of_each stock_total exact_stock (after_lines home q.lines) r.stocks i x e in
-      let old : figure row.0 ≡ ordered counts initial r i = before i row.0 row.1 in
+      let old : figure row.0 ≡ order_sum counts initial r i = before i row.0 row.1 in
       let grown : figure (after_lines home q.lines i row.0) ≡ figure row.0
       + sum_by (counted initial home k later figure counts i (one i)) fs =
       after_figure initial home k later figure counts i (one i) q.lines fs row.0 asked in
@@ -102,7 +102,7 @@ module _ (initial : ℕ) (q : NewOrderRequest) (r : Rows) (first : IsNumberedFir
       omega arith
 
   remote_counts : (i : StockKey) (x : Stock) (f : Filled) (n : ℕ) → supply_of_line f.row ≡ i → f.row.quantity ≡ n
-      → (supplied home i x n).remote_count ≡ x.remote_count + one_remote (line_in k f.number) f.row
+      → (stock_after home i x n).remote_count ≡ x.remote_count + one_remote (line_in k f.number) f.row
   remote_counts i x f n s e =
       by_test (i.warehouse == home) ∙ ap (λ (t : Bool). x.remote_count + cond t 0 1)
       (ap (λ (v : StockKey). v.warehouse == home) (sym s))

@@ -17,10 +17,10 @@ use Rattle.oe_rows.proofs.KeyFacts.{district_total, exact_district, customer_tot
 use Rattle.oe_rows.proofs.KeyFacts.{exact_history}
 use Rattle.oe_model.specs.Keys.{warehouse_of_district, customer_in}
 use Rattle.oe_model.specs.Rows.{Rows}
-use Rattle.oe_model.specs.Choice.{chosen}
+use Rattle.oe_model.specs.Choice.{customer_meant}
 use Rattle.oe_model.specs.Payment.{payment_effect, paid_warehouse, paid_district, paid_customer, paid_warehouse_out}
 use Rattle.oe_model.specs.Payment.{paid_district_out, paid_customer_out, history_data, history_row, history_key}
-use Rattle.oe_model.specs.Rename.{renamed, rename_effect}
+use Rattle.oe_model.specs.Rename.{with_new_name, rename_effect}
 use Rattle.oe_model.specs.FurtherConditions.{if_of_customer}
 use Rattle.oe_model.proofs.MapFacts.{is_self}
 use Rattle.oe_model.proofs.SumFacts.{number_at, sum-insert}
@@ -118,7 +118,7 @@ payment_moves initial t k q r after y new first m e =
     there_in_range P paid_warehouse_out (paid_warehouse q w) _ _ e (λ _ e.
     there P (get r.districts q.district) _ _ e (λ d d_at e.
     there_in_range P paid_district_out (paid_district q d) _ _ e (λ _ e.
-    there P (chosen q.customer_district q.customer r.customers) _ _ e (λ c _ e.
+    there P (customer_meant q.customer_district q.customer r.customers) _ _ e (λ c _ e.
     there P (get r.customers (customer_in q.customer_district c)) _ _ e (λ u u_at e.
     there_in_range P paid_customer_out (paid_customer c q u) _ _ e (λ _ e.
     let rows : Rows = paid initial t k q r first m new w d d_at c u u_at in
@@ -133,13 +133,13 @@ payment_moves initial t k q r after y new first m e =
 module _ (initial : ℕ) (q : RenameRequest) (r : Rows) (m : Movements initial r) (u : Customer)
     (u_at : get r.customers q.customer ≡ Some u) where
   abbrev named : Rows
-  named = record r { customers = insert r.customers q.customer (renamed q u) }
+  named = record r { customers = insert r.customers q.customer (with_new_name q u) }
 
   -- what the names don't tell
-  still : (P : CustomerKey → Customer → Type 0) → P q.customer (renamed q u)
+  still : (P : CustomerKey → Customer → Type 0) → P q.customer (with_new_name q u)
       → ((j : CustomerKey) (x : Customer) → get r.customers j ≡ Some x → P j x)
       → (j : CustomerKey) (x : Customer) → get named.customers j ≡ Some x → P j x
-  still P own old = each_row customer_total exact_customer P r.customers q.customer (renamed q u) own old
+  still P own old = each_row customer_total exact_customer P r.customers q.customer (with_new_name q u) own old
 
   pub named_movements : Movements initial named
   named_movements = record {

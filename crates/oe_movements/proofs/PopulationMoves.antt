@@ -33,7 +33,7 @@ use Rattle.oe_model.proofs.CountFacts.{sum-listed}
 use Rattle.oe_model.proofs.PopulationFacts.{same_there, counts_or, district_get, customer_get, stock_get, district_held}
 use Rattle.oe_model.proofs.PopulationFacts.{customer_is, new_order_is, held, line_held}
 use Rattle.oe_consistency.proofs.PopulationMore.{has_more, order_row, line_row, history_row, history_at}
-use Rattle.oe_movements.specs.Movements.{is_ordered, ordered, one_remote, payments_of, is_delivered_to}
+use Rattle.oe_movements.specs.Movements.{is_ordered, order_sum, one_remote, payments_of, is_delivered_to}
 use Rattle.oe_movements.specs.Movements.{Stock_quantity_at, Movements}
 use Rattle.oe_movements.specs.Movements.{Payment_count, Delivery_count, IsNumberedFirst}
 use Rattle.oe_movements.proofs.LocalFacts.{remotes_of, IsCounted, from_counted}
@@ -48,7 +48,7 @@ module _ (s : Scale) (r : Rows) (sc : IsScale s) (p : IsPopulated s r) where
   stock_row k x e = same_there _ _ x (sym (stock_get s r sc p k) ∙ e)
 
   -- each line is of an order that the population has
-  nothing_ordered : (figure : OrderLineKey → OrderLine → ℕ) (k : StockKey) → ordered figure s.customers r k ≡ 0
+  nothing_ordered : (figure : OrderLineKey → OrderLine → ℕ) (k : StockKey) → order_sum figure s.customers r k ≡ 0
   nothing_ordered figure k = sum-none order_line_total exact_order_line
       (λ l y. cond (is_ordered s.customers k l y) (figure l y) 0) r.order_lines (λ l y e.
       let line = line_held s r sc p l (line_row s r sc p l y e).0 in

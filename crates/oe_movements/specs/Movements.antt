@@ -30,8 +30,8 @@ abbrev pub is_ordered : ℕ → StockKey → OrderLineKey → OrderLine → Bool
 is_ordered initial k l y = eq_by_cmp stock_cmp (supply_of_line y) k && nat_lt initial l.order
 
 -- the sum of a figure of these lines
-abbrev pub ordered : (OrderLineKey → OrderLine → ℕ) → ℕ → Rows → StockKey → ℕ
-ordered figure initial r k = sum_of (λ l y. cond (is_ordered initial k l y) (figure l y) 0) r.order_lines
+abbrev pub order_sum : (OrderLineKey → OrderLine → ℕ) → ℕ → Rows → StockKey → ℕ
+order_sum figure initial r k = sum_of (λ l y. cond (is_ordered initial k l y) (figure l y) 0) r.order_lines
 
 -- OL_QUANTITY; one line; one line where another warehouse than its order's supplied it
 abbrev pub quantity_of : OrderLineKey → OrderLine → ℕ
@@ -64,15 +64,15 @@ AreHome r k = (l : OrderLineKey) (y : OrderLine) → get r.order_lines l ≡ Som
 -- of a STOCK row: S_YTD is the sum of OL_QUANTITY of the lines that it supplied, where the population did not have
 -- their order (clauses 2.4.2.2, 4.3.3.1)
 abbrev pub Stock_ytd_at : ℕ → Rows → StockKey → Stock → Type 0
-Stock_ytd_at initial r k x = x.ytd ≡ ordered quantity_of initial r k
+Stock_ytd_at initial r k x = x.ytd ≡ order_sum quantity_of initial r k
 
 -- S_ORDER_CNT is the number of these lines
 abbrev pub Stock_orders_at : ℕ → Rows → StockKey → Stock → Type 0
-Stock_orders_at initial r k x = x.order_count ≡ ordered one_line initial r k
+Stock_orders_at initial r k x = x.order_count ≡ order_sum one_line initial r k
 
 -- S_REMOTE_CNT is the number of those of another warehouse's order
 abbrev pub Stock_remote_at : ℕ → Rows → StockKey → Stock → Type 0
-Stock_remote_at initial r k x = x.remote_count ≡ ordered one_remote initial r k
+Stock_remote_at initial r k x = x.remote_count ≡ order_sum one_remote initial r k
 
 -- of a customer: C_PAYMENT_CNT is the number of its HISTORY rows (clauses 2.5.2.2, 4.3.3.1)
 abbrev pub Payment_count_at : Rows → CustomerKey → Customer → Type 0

@@ -28,7 +28,7 @@ use Rattle.oe_model.specs.Positions.{Seen, NewOrderQueue, NewOrderStock, NewOrde
 use Rattle.oe_model.specs.NewOrder.{stock_holds, ordered_reply, new_order_ask, new_order_act, new_order_taken}
 use Rattle.oe_model.proofs.LawFacts.{holds_more}
 use Rattle.oe_engine.specs.View.{EngineState, View, view_of, Handle, IsOpen}
-use Rattle.oe_engine.specs.Programs.{GoesOn, IsReady, IsRefused, new_order_reply, wanted}
+use Rattle.oe_engine.specs.Programs.{GoesOn, IsReady, IsRefused, new_order_reply, lock_asked}
 use Rattle.oe_engine.specs.Stages.{Does, HoldsAll}
 use Rattle.oe_engine.specs.declared.programs.Progress.{Progress}
 use Rattle.oe_engine.specs.declared.programs.Progress.TheVariants as progress
@@ -226,6 +226,6 @@ order_at_line v t q f l g here e h =
 
 -- the lock of an item's stock is asked for where the item is there
 pub stock_wanted : (n : Name) (o : Option Item) → option_map (λ (x : Item). hold n theory.Exclusive) o
-    ≡ wanted (elim o [ None ↦ Stop InvalidItem | Some x ↦ Take n theory.Exclusive ])
+    ≡ lock_asked (elim o [ None ↦ Stop InvalidItem | Some x ↦ Take n theory.Exclusive ])
 stock_wanted n None = refl
 stock_wanted n (Some x) = refl

@@ -22,12 +22,12 @@ use Rattle.oe_requests.specs.declared.replies.LineReply.{LineReply}
 use Rattle.oe_requests.specs.declared.refusals.Column.{Column}
 use Rattle.oe_requests.specs.declared.refusals.Refusal.TheVariants.{NoSuchRow, InvalidItem, Overflow}
 use Rattle.oe_change.specs.declared.writes.Write.TheVariants as write
-use Rattle.oe_formulas.specs.Checks.{checked, row_with}
+use Rattle.oe_formulas.specs.Checks.{row_in_ranges, row_with}
 use Rattle.oe_model.specs.Rows.{Rows}
 use Rattle.oe_model.specs.Changes.{UpdateDistrict, UpdateStock}
-use Rattle.oe_model.specs.Effects.{Doing, given, within}
+use Rattle.oe_model.specs.Effects.{Doing, with_value, within}
 use Rattle.oe_model.specs.Positions.{Seen, NewOrderDistrict, NewOrderCustomer, NewOrderStock, NewOrderLine, InNewOrder}
-use Rattle.oe_model.specs.NewOrder.{supplied, stock_of, stock_out, item_at, fill, with_next, next_out, new_order_ask}
+use Rattle.oe_model.specs.NewOrder.{stock_after, stock_of, stock_out, item_at, fill, with_next, next_out, new_order_ask}
 use Rattle.oe_model.specs.NewOrder.{new_order_act}
 use Rattle.oe_neworder.specs.Program.{filled_by}
 use Rattle.oe_neworder.specs.Looks.{Writes, IsSupply}
@@ -36,7 +36,7 @@ use Rattle.oe_neworder.specs.declared.looks.Supply.TheVariants as supply
 
 -- columns that were tested: in their ranges, and out of them
 module _ {A : Type 0} (out : A → Option Column) (x : A) where
-  fits : (f : A → Doing) (y : A) → ◌≡◌ {A = Result A Column} (Ok y) (checked out x) → within (out x) (f x) ≡ f y
+  fits : (f : A → Doing) (y : A) → ◌≡◌ {A = Result A Column} (Ok y) (row_in_ranges out x) → within (out x) (f x) ≡ f y
   fits f y e = by (out x) e
     where
       by : (o : Option Column) → ◌≡◌ {A = Result A Column} (Ok y) (elim o [ None ↦ Ok x | Some c ↦ Err c ])
@@ -44,7 +44,7 @@ module _ {A : Type 0} (out : A → Option Column) (x : A) where
       by None h = let same : x ≡ y = cc in ap f same
       by (Some c) h = absurd (let no : ⊥ = cc in no)
 
-  leaves : (d : Doing) (c : Column) → ◌≡◌ {A = Result A Column} (Err c) (checked out x)
+  leaves : (d : Doing) (c : Column) → ◌≡◌ {A = Result A Column} (Err c) (row_in_ranges out x)
       → within (out x) d ≡ Fail (Overflow c)
   leaves d c e = by (out x) e
     where
@@ -60,12 +60,12 @@ module _ (q : NewOrderRequest) (r : Rows) (x : District) (here : get r.districts
       (Go (Some (UpdateDistrict q.district (with_next x))) (InNewOrder q (NewOrderCustomer x.next_order w x.tax))) ≡ d
       → new_order_act q (NewOrderDistrict w) r ≡ d
   at_district d e =
-      subst (λ o. given (NoSuchRow (key.District q.district)) o (λ z.
+      subst (λ o. with_value (NoSuchRow (key.District q.district)) o (λ z.
       within (next_out (with_next z))
       (Go (Some (UpdateDistrict q.district (with_next z))) (InNewOrder q (NewOrderCustomer z.next_order w z.tax))))
       ≡ d) (sym here) e
 
-  pub number_taken : (n : ℕ) → row_with (λ k. record x { next_order = k }) (Ok n) ≡ checked next_out (with_next x)
+  pub number_taken : (n : ℕ) → row_with (λ k. record x { next_order = k }) (Ok n) ≡ row_in_ranges next_out (with_next x)
       → Writes q r (NewOrderDistrict w) (write.NextOrder q.district n) (NewOrderCustomer x.next_order w x.tax)
   number_taken n e = (
     UpdateDistrict q.district (record x { next_order = n }),
@@ -77,7 +77,7 @@ module _ (q : NewOrderRequest) (r : Rows) (x : District) (here : get r.districts
         (record x { next_order = n }) e),
   )
 
-  pub number_out : (c : Column) → row_with {A = ℕ} (λ k. record x { next_order = k }) (Err c) ≡ checked next_out
+  pub number_out : (c : Column) → row_with {A = ℕ} (λ k. record x { next_order = k }) (Err c) ≡ row_in_ranges next_out
       (with_next x)
       → new_order_act q (NewOrderDistrict w) r ≡ Fail (Overflow c)
   number_out c e = at_district (Fail (Overflow c))
@@ -115,44 +115,46 @@ module _ (q : NewOrderRequest) (r : Rows) (y : Seen) (before : List RequestLine)
   after z = Go (Some (UpdateStock (stock_of l) z))
       (InNewOrder q (NewOrderLine y before done l (fill q (length before + 1) l item z) ls))
 
-  at_item : (d : Doing) → given (NoSuchRow (key.Stock (stock_of l))) (get r.stocks (stock_of l)) (λ z.
-      within (stock_out (supplied q.district.warehouse (stock_of l) z l.quantity))
-      (after (supplied q.district.warehouse (stock_of l) z l.quantity))) ≡ d
+  at_item : (d : Doing) → with_value (NoSuchRow (key.Stock (stock_of l))) (get r.stocks (stock_of l)) (λ z.
+      within (stock_out (stock_after q.district.warehouse (stock_of l) z l.quantity))
+      (after (stock_after q.district.warehouse (stock_of l) z l.quantity))) ≡ d
       → new_order_act q (NewOrderStock y before done (l ∷ ls)) r ≡ d
   at_item d e =
-      subst (λ o. given InvalidItem o (λ i. given (NoSuchRow (key.Stock (stock_of l))) (get r.stocks (stock_of l)) (λ z.
-      let z' : Stock = supplied q.district.warehouse (stock_of l) z l.quantity in
+      subst (λ o. with_value InvalidItem o
+      (λ i. with_value (NoSuchRow (key.Stock (stock_of l))) (get r.stocks (stock_of l)) (λ z.
+      let z' : Stock = stock_after q.district.warehouse (stock_of l) z l.quantity in
       within (stock_out z')
       (Go (Some (UpdateStock (stock_of l) z'))
       (InNewOrder q (NewOrderLine y before done l (fill q (length before + 1) l i z') ls))))) ≡ d) (sym sold) e
 
   at_stock : (x : Stock) → get r.stocks (stock_of l) ≡ Some x → (d : Doing)
-      → within (stock_out (supplied q.district.warehouse (stock_of l) x l.quantity))
-      (after (supplied q.district.warehouse (stock_of l) x l.quantity)) ≡ d
+      → within (stock_out (stock_after q.district.warehouse (stock_of l) x l.quantity))
+      (after (stock_after q.district.warehouse (stock_of l) x l.quantity)) ≡ d
       → new_order_act q (NewOrderStock y before done (l ∷ ls)) r ≡ d
   at_stock x here d e =
-      at_item d (subst (λ o. given (NoSuchRow (key.Stock (stock_of l))) o (λ z.
-      within (stock_out (supplied q.district.warehouse (stock_of l) z l.quantity))
-      (after (supplied q.district.warehouse (stock_of l) z l.quantity))) ≡ d) (sym here) e)
+      at_item d (subst (λ o. with_value (NoSuchRow (key.Stock (stock_of l))) o (λ z.
+      within (stock_out (stock_after q.district.warehouse (stock_of l) z l.quantity))
+      (after (stock_after q.district.warehouse (stock_of l) z l.quantity))) ≡ d) (sym here) e)
 
   pub no_stock : get r.stocks (stock_of l) ≡ None
       → new_order_act q (NewOrderStock y before done (l ∷ ls)) r ≡ Fail (NoSuchRow (key.Stock (stock_of l)))
   no_stock none =
-      at_item (Fail (NoSuchRow (key.Stock (stock_of l)))) (ap (λ o. given (NoSuchRow (key.Stock (stock_of l))) o (λ z.
-      within (stock_out (supplied q.district.warehouse (stock_of l) z l.quantity))
-      (after (supplied q.district.warehouse (stock_of l) z l.quantity)))) none)
+      at_item (Fail (NoSuchRow (key.Stock (stock_of l))))
+      (ap (λ o. with_value (NoSuchRow (key.Stock (stock_of l))) o (λ z.
+      within (stock_out (stock_after q.district.warehouse (stock_of l) z l.quantity))
+      (after (stock_after q.district.warehouse (stock_of l) z l.quantity)))) none)
 
   pub stock_leaves : (x : Stock) → get r.stocks (stock_of l) ≡ Some x → (c : Column)
-      → row_with {A = StockCounters} (λ n. with_counters n x) (Err c) ≡ checked stock_out
-      (supplied q.district.warehouse (stock_of l) x l.quantity)
+      → row_with {A = StockCounters} (λ n. with_counters n x) (Err c) ≡ row_in_ranges stock_out
+      (stock_after q.district.warehouse (stock_of l) x l.quantity)
       → new_order_act q (NewOrderStock y before done (l ∷ ls)) r ≡ Fail (Overflow c)
   stock_leaves x here c e = at_stock x here (Fail (Overflow c))
-      (leaves stock_out (supplied q.district.warehouse (stock_of l) x l.quantity)
-      (after (supplied q.district.warehouse (stock_of l) x l.quantity)) c e)
+      (leaves stock_out (stock_after q.district.warehouse (stock_of l) x l.quantity)
+      (after (stock_after q.district.warehouse (stock_of l) x l.quantity)) c e)
 
   pub stock_sold : (x : Stock) → get r.stocks (stock_of l) ≡ Some x → (n : StockCounters) (f : Filled)
-      → row_with (λ n. with_counters n x) (Ok n) ≡ checked stock_out
-      (supplied q.district.warehouse (stock_of l) x l.quantity)
+      → row_with (λ n. with_counters n x) (Ok n) ≡ row_in_ranges stock_out
+      (stock_after q.district.warehouse (stock_of l) x l.quantity)
       → filled_by f ≡ fill q (length before + 1) l item (with_counters n x)
       → Writes q r (NewOrderStock y before done (l ∷ ls)) (write.StockCounters (stock_of l) n)
       (NewOrderLine y before done l (filled_by f) ls)
@@ -161,7 +163,7 @@ module _ (q : NewOrderRequest) (r : Rows) (y : Seen) (before : List RequestLine)
     ap (option_map (λ z. UpdateStock (stock_of l) (with_counters n z))) here,
     at_stock x here (Go (Some (UpdateStock (stock_of l) (with_counters n x)))
         (InNewOrder q (NewOrderLine y before done l (filled_by f) ls)))
-        (fits stock_out (supplied q.district.warehouse (stock_of l) x l.quantity) after (with_counters n x) e
+        (fits stock_out (stock_after q.district.warehouse (stock_of l) x l.quantity) after (with_counters n x) e
         ∙ ap (λ g. Go (Some (UpdateStock (stock_of l) (with_counters n x)))
         (InNewOrder q (NewOrderLine y before done l g ls))) (sym same)),
   )
@@ -193,13 +195,14 @@ module _ (q : NewOrderRequest) (r : Rows) (l : RequestLine) (n : ℕ) where
         none
 
     pub too_much : (x : Stock) (c : Column) → get r.stocks k ≡ Some x
-        → row_with {A = StockCounters} (λ m. with_counters m x) (Err c) ≡ checked stock_out
-        (supplied q.district.warehouse k x l.quantity)
+        → row_with {A = StockCounters} (λ m. with_counters m x) (Err c) ≡ row_in_ranges stock_out
+        (stock_after q.district.warehouse k x l.quantity)
         → IsSupply q r l n (supply.Fails k (Overflow c))
     unfolding asks_of
     too_much x c here e =
-        subst (λ j. get r.stocks j ≡ Some x → row_with {A = StockCounters} (λ m. with_counters m x) (Err c) ≡ checked
-        stock_out (supplied q.district.warehouse j x l.quantity)
+        subst (λ j. get r.stocks j ≡ Some x → row_with {A = StockCounters} (λ m. with_counters m x) (Err c)
+        ≡ row_in_ranges
+        stock_out (stock_after q.district.warehouse j x l.quantity)
         → IsSupply q r l n (supply.Fails j (Overflow c))) (sym same)
         (λ g h. (
           refl,
@@ -212,14 +215,15 @@ module _ (q : NewOrderRequest) (r : Rows) (l : RequestLine) (n : ℕ) where
         )) here e
 
     pub filled_so : (x : Stock) (m : StockCounters) (f : Filled) → get r.stocks k ≡ Some x
-        → row_with (λ m. with_counters m x) (Ok m) ≡ checked stock_out (supplied q.district.warehouse k x l.quantity)
+        → row_with (λ m. with_counters m x) (Ok m)
+        ≡ row_in_ranges stock_out (stock_after q.district.warehouse k x l.quantity)
         → f.number ≡ n → f.row ≡ (fill q n l item x).row
         → f.reply ≡ (fill q n l item (record x { quantity = m.quantity })).reply
         → IsSupply q r l n (supply.Fills k m f)
     unfolding asks_of
     filled_so x m f here e number row reply =
-        subst (λ j. get r.stocks j ≡ Some x → row_with (λ m. with_counters m x) (Ok m) ≡ checked stock_out
-        (supplied q.district.warehouse j x l.quantity)
+        subst (λ j. get r.stocks j ≡ Some x → row_with (λ m. with_counters m x) (Ok m) ≡ row_in_ranges stock_out
+        (stock_after q.district.warehouse j x l.quantity)
         → IsSupply q r l n (supply.Fills j m f)) (sym same)
         (λ g h. λ y before done ls count. (
           asks_stock q r y before done l ls (Some item) sold,

@@ -9,7 +9,7 @@ use Rattle.oe_requests.specs.declared.refusals.Refusal.{Refusal}
 use Rattle.oe_requests.specs.declared.refusals.Refusal.TheVariants.{NoCustomer, InvalidItem}
 use Rattle.oe_change.specs.declared.writes.Write.{Write}
 use Rattle.oe_change.specs.declared.writes.Write.TheVariants.{NextOrder, StockCounters}
-use Rattle.oe_change.specs.Writes.{written}
+use Rattle.oe_change.specs.Writes.{change_of}
 use Rattle.oe_formulas.specs.declared.orders.Seen as formulas
 use Rattle.oe_formulas.specs.Orders.{seen_by}
 use Rattle.oe_model.specs.Keys.{customer_in}
@@ -27,7 +27,7 @@ use Rattle.oe_neworder.specs.declared.looks.Supply.TheVariants as supply
 -- the stage makes the change that this write is of these rows, and the next stage is at that position
 abbrev pub Writes : NewOrderRequest → Rows → NewOrderPosition → Write → NewOrderPosition → Type 0
 Writes q r p w p' =
-    (c : Change) × (written w r ≡ Some c) × (new_order_act q p r ≡ Go (Some c) (InNewOrder q p'))
+    (c : Change) × (change_of w r ≡ Some c) × (new_order_act q p r ≡ Go (Some c) (InNewOrder q p'))
 
 -- the first stage, with W_TAX
 abbrev pub ReadsTax : NewOrderRequest → Rows → Result ℕ Refusal → Type 0

@@ -13,7 +13,7 @@ ghost use Rattle.oe_engine.specs.View.{view_of, IsOpen};
 ghost use Rattle.oe_model.specs.Locks.{hold};
 ghost use Rattle.oe_model.specs.NewOrder.{item_at, new_order_ask, stock_of};
 ghost use Rattle.oe_store.specs.Places.{rows};
-ghost use Rattle.oe_engine.specs.Programs.{hold_of, new_order_reply, wanted};
+ghost use Rattle.oe_engine.specs.Programs.{hold_of, new_order_reply, lock_asked};
 ghost use Rattle.oe_engine.specs.Stages.{Does};
 ghost use Rattle.oe_neworder.specs.Program.{line_position};
 ghost use Rattle.oe_neworder.specs.Stages.{Advances, HoldsTaken, Fills};
@@ -233,7 +233,7 @@ impl Filling {
     /// none where no line is left, or the item is unused.
     pub(crate) fn wanted(&self, request: &NewOrderRequest, tables: &Tables) -> Option<Lock>
         ensures { option_map hold_of result
-            ≡ wanted (new_order_ask request.now (line_position request.now self.now)
+            ≡ lock_asked (new_order_ask request.now (line_position request.now self.now)
             (rows tables.now)) }
     {
         let Some(line) = self.next_line(request) else {

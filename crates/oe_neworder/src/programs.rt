@@ -7,7 +7,7 @@ ghost use Rattle.oe_model.specs.Positions.{InNewOrder, NewOrderCustomer};
 ghost use Rattle.oe_engine.specs.View.{IsOpen};
 ghost use Rattle.oe_model.specs.NewOrder.{new_order_ask};
 ghost use Rattle.oe_store.specs.Places.{rows};
-ghost use Rattle.oe_engine.specs.Programs.{Progresses, hold_of, new_order_reply, wanted};
+ghost use Rattle.oe_engine.specs.Programs.{Progresses, hold_of, new_order_reply, lock_asked};
 ghost use Rattle.oe_neworder.specs.Program.{position_of, IsBeforeLines};
 ghost use Rattle.oe_neworder.specs.Stages.{HoldsTaken};
 
@@ -39,7 +39,7 @@ pub enum Program {
 /// Gives the lock of the customer who orders; none where the customer is absent.
 fn customer_lock(request: &NewOrderRequest, tables: &Tables) -> Option<Lock>
     ensures { (o w d : ℕ) → option_map hold_of result
-        ≡ wanted (new_order_ask request.now (NewOrderCustomer o w d) (rows tables.now)) }
+        ≡ lock_asked (new_order_ask request.now (NewOrderCustomer o w d) (rows tables.now)) }
 {
     let key = &request.district.customer(request.customer);
     match tables.customer(*key) {
@@ -88,7 +88,7 @@ impl Program {
     /// it: the customer is absent, or an item unused.
     pub fn wanted(&self, request: &NewOrderRequest, tables: &Tables) -> Option<Lock>
         ensures { option_map hold_of result
-            ≡ wanted (new_order_ask request.now (position_of request.now self.now)
+            ≡ lock_asked (new_order_ask request.now (position_of request.now self.now)
             (rows tables.now)) }
     {
         let district = &request.district;

@@ -10,12 +10,12 @@ use Rattle.memchr.specs.Find.{IsFirstByte, Nowhere, Passes, is_byte}
 use Rattle.oe_numbers.specs.declared.kinds.Kind.{Kind}
 use Rattle.oe_numbers.specs.declared.kinds.Kind.TheVariants as kind
 use Rattle.oe_numbers.specs.declared.kinds.Kinds.{Kinds}
-use Rattle.oe_numbers.specs.Kinds.{kind_name, is_named, marked, none_named, parts_from, parts_of, IsPart, Names}
+use Rattle.oe_numbers.specs.Kinds.{kind_name, is_named, with_kind, none_named, parts_from, parts_of, IsPart, Names}
 
 -- each part names a kind, beside those that were named before
 abbrev pub NameAll : List (List ℕ) → Kinds → Kinds → Type 0
 NameAll [] before k = k ≡ before
-NameAll (p ∷ ps) before k = (x : Kind) × (p ≡ kind_name x) × NameAll ps (marked x before) k
+NameAll (p ∷ ps) before k = (x : Kind) × (p ≡ kind_name x) × NameAll ps (with_kind x before) k
 
 abbrev HasNoComma : List ℕ → Type 0
 HasNoComma bytes = All (λ b. b ≢ 44) bytes
@@ -82,9 +82,9 @@ one_kind x y e = told x ∙ ap (λ (p : List ℕ). first_of (slice_index p 0)) e
 
 -- what parts name, the first of which names this kind
 pub named : (p : List ℕ) (ps : List (List ℕ)) (x : Kind) (before k : Kinds) → p ≡ kind_name x
-    → NameAll (p ∷ ps) before k → NameAll ps (marked x before) k
+    → NameAll (p ∷ ps) before k → NameAll ps (with_kind x before) k
 named p ps x before k e (y, f, r) =
-    subst (λ (z : Kind). NameAll ps (marked z before) k) (one_kind y x (sym f ∙ e)) r
+    subst (λ (z : Kind). NameAll ps (with_kind z before) k) (one_kind y x (sym f ∙ e)) r
 
 -- WHAT IS NAMED
 
@@ -96,7 +96,7 @@ by_kind P a b c d e kind.Status = c
 by_kind P a b c d e kind.Delivery = d
 by_kind P a b c d e kind.Level = e
 
-own_named : (x : Kind) (b : Kinds) → is_named (marked x b) x ≡ true
+own_named : (x : Kind) (b : Kinds) → is_named (with_kind x b) x ≡ true
 own_named kind.NewOrder b = refl
 own_named kind.Payment b = refl
 own_named kind.Status b = refl
@@ -104,38 +104,38 @@ own_named kind.Delivery b = refl
 own_named kind.Level b = refl
 
 -- another kind is named as before
-named_before : (x y : Kind) (b : Kinds) → (x ≡ y) ⊎ (is_named (marked x b) y ≡ is_named b y)
+named_before : (x y : Kind) (b : Kinds) → (x ≡ y) ⊎ (is_named (with_kind x b) y ≡ is_named b y)
 named_before kind.NewOrder y b =
-    by_kind (λ y. (kind.NewOrder ≡ y) ⊎ (is_named (marked kind.NewOrder b) y ≡ is_named b y)) (inl refl) (inr refl)
+    by_kind (λ y. (kind.NewOrder ≡ y) ⊎ (is_named (with_kind kind.NewOrder b) y ≡ is_named b y)) (inl refl) (inr refl)
     (inr refl) (inr refl) (inr refl) y
 named_before kind.Payment y b =
-    by_kind (λ y. (kind.Payment ≡ y) ⊎ (is_named (marked kind.Payment b) y ≡ is_named b y)) (inr refl) (inl refl)
+    by_kind (λ y. (kind.Payment ≡ y) ⊎ (is_named (with_kind kind.Payment b) y ≡ is_named b y)) (inr refl) (inl refl)
     (inr refl) (inr refl) (inr refl) y
 named_before kind.Status y b =
-    by_kind (λ y. (kind.Status ≡ y) ⊎ (is_named (marked kind.Status b) y ≡ is_named b y)) (inr refl) (inr refl)
+    by_kind (λ y. (kind.Status ≡ y) ⊎ (is_named (with_kind kind.Status b) y ≡ is_named b y)) (inr refl) (inr refl)
     (inl refl) (inr refl) (inr refl) y
 named_before kind.Delivery y b =
-    by_kind (λ y. (kind.Delivery ≡ y) ⊎ (is_named (marked kind.Delivery b) y ≡ is_named b y)) (inr refl) (inr refl)
+    by_kind (λ y. (kind.Delivery ≡ y) ⊎ (is_named (with_kind kind.Delivery b) y ≡ is_named b y)) (inr refl) (inr refl)
     (inr refl) (inl refl) (inr refl) y
 named_before kind.Level y b =
-    by_kind (λ y. (kind.Level ≡ y) ⊎ (is_named (marked kind.Level b) y ≡ is_named b y)) (inr refl) (inr refl)
+    by_kind (λ y. (kind.Level ≡ y) ⊎ (is_named (with_kind kind.Level b) y ≡ is_named b y)) (inr refl) (inr refl)
     (inr refl) (inr refl) (inl refl) y
 
 -- a kind is named where it was, or is this one
-marked_names : (x y : Kind) (b : Kinds) → IsTrue (is_named (marked x b) y) ↔ (IsTrue (is_named b y) ⊎ (x ≡ y))
+marked_names : (x y : Kind) (b : Kinds) → IsTrue (is_named (with_kind x b) y) ↔ (IsTrue (is_named b y) ⊎ (x ≡ y))
 marked_names x y b = go (named_before x y b)
   where
-    go : (x ≡ y) ⊎ (is_named (marked x b) y ≡ is_named b y)
-        → IsTrue (is_named (marked x b) y) ↔ (IsTrue (is_named b y) ⊎ (x ≡ y))
+    go : (x ≡ y) ⊎ (is_named (with_kind x b) y ≡ is_named b y)
+        → IsTrue (is_named (with_kind x b) y) ↔ (IsTrue (is_named b y) ⊎ (x ≡ y))
     go (inl same) = (
       (λ _. inr same),
-      (λ _. subst (λ (z : Kind). IsTrue (is_named (marked x b) z)) same (own_named x b)),
+      (λ _. subst (λ (z : Kind). IsTrue (is_named (with_kind x b) z)) same (own_named x b)),
     )
     go (inr same) = ((λ h. inl (subst IsTrue same h)), back)
       where
-        back : IsTrue (is_named b y) ⊎ (x ≡ y) → IsTrue (is_named (marked x b) y)
+        back : IsTrue (is_named b y) ⊎ (x ≡ y) → IsTrue (is_named (with_kind x b) y)
         back (inl h) = subst IsTrue (sym same) h
-        back (inr e) = subst (λ (z : Kind). IsTrue (is_named (marked x b) z)) e (own_named x b)
+        back (inr e) = subst (λ (z : Kind). IsTrue (is_named (with_kind x b) z)) e (own_named x b)
 
 -- each part is a kind's name, and a kind is named where it was before, or where a part is its name
 record Tells (ps : List (List ℕ)) (before k : Kinds) : Type 0 where
@@ -153,7 +153,7 @@ tells [] before k e = record {
     ]),
   );
 }
-tells (p ∷ ps) before k (x, e, rest) = let t = tells ps (marked x before) k rest in record {
+tells (p ∷ ps) before k (x, e, rest) = let t = tells ps (with_kind x before) k rest in record {
   parts = λ q h. elim h [
     | inl same ↦ (x, sym same ∙ e)
     | inr later ↦ t.parts q later
@@ -202,7 +202,7 @@ names_all (p ∷ ps) before k t =
     let (x, e) = t.parts p (inl refl) in (
       x,
       e,
-      names_all ps (marked x before) k (record {
+      names_all ps (with_kind x before) k (record {
         parts = λ q later. t.parts q (inr later);
         kinds = λ y. (
           (λ h. elim ((t.kinds y).0 h) [

@@ -24,12 +24,12 @@ is_named k kind.Delivery = k.delivery
 is_named k kind.Level = k.level
 
 -- one more is named
-abbrev pub marked : Kind → Kinds → Kinds
-marked kind.NewOrder k = record k { new_order = true }
-marked kind.Payment k = record k { payment = true }
-marked kind.Status k = record k { status = true }
-marked kind.Delivery k = record k { delivery = true }
-marked kind.Level k = record k { level = true }
+abbrev pub with_kind : Kind → Kinds → Kinds
+with_kind kind.NewOrder k = record k { new_order = true }
+with_kind kind.Payment k = record k { payment = true }
+with_kind kind.Status k = record k { status = true }
+with_kind kind.Delivery k = record k { delivery = true }
+with_kind kind.Level k = record k { level = true }
 
 -- the parts of a word, which commas part; `held` stands before the word in its first part
 abbrev pub parts_from : List ℕ → List ℕ → List (List ℕ)

@@ -1,6 +1,6 @@
 //! The kinds of transactions that a load is made of, and how they are named.
 ghost use Rattle.std.specs.Prelude.{◌≡◌, ◌≢◌, false, MatchOption};
-ghost use Rattle.oe_numbers.specs.Kinds.{kind_name, marked, none_named, Names};
+ghost use Rattle.oe_numbers.specs.Kinds.{kind_name, with_kind, none_named, Names};
 ghost use Rattle.oe_numbers.specs.declared.kinds.Kind.{Kind};
 ghost use Rattle.oe_numbers.specs.declared.kinds.Kinds.{Kinds};
 
@@ -66,7 +66,7 @@ impl Kinds {
 
     /// Names one more.
     fn with(self, kind: Kind) -> Kinds
-        ensures { result ≡ marked kind self }
+        ensures { result ≡ with_kind kind self }
     {
         match kind {
             Kind::NewOrder => Kinds {

@@ -23,22 +23,23 @@ use Rattle.oe_requests.specs.declared.refusals.Refusal.{Refusal}
 use Rattle.oe_requests.specs.declared.refusals.Refusal.TheVariants.{NoSuchRow, NoCustomer, Overflow}
 use Rattle.oe_model.specs.Keys.{warehouse_of_district, customer_in}
 use Rattle.oe_model.specs.Changes.{InsertHistory, UpdateWarehouse, UpdateDistrict, UpdateCustomer}
-use Rattle.oe_model.specs.Choice.{chosen, middle, namesakes}
-use Rattle.oe_model.specs.Effects.{Doing, given, within}
+use Rattle.oe_model.specs.Choice.{customer_meant, middle, namesakes}
+use Rattle.oe_model.specs.Effects.{Doing, with_value, within}
 use Rattle.oe_model.specs.Positions.{PaymentWarehouse, PaymentDistrict, PaymentNames, PaymentCustomer, PaymentHistory}
 use Rattle.oe_model.specs.Positions.{PaymentEnd, InPayment}
 use Rattle.oe_model.specs.Payment.{paid_warehouse, paid_warehouse_out, paid_district, paid_district_out, paid_customer}
 use Rattle.oe_model.specs.Payment.{paid_customer_out, history_data, history_row, history_key, paid_reply, names_lock}
 use Rattle.oe_model.specs.Payment.{behind_district}
 use Rattle.oe_change.specs.declared.writes.Write.TheVariants as write
-use Rattle.oe_formulas.specs.Checks.{checked, paid_with}
+use Rattle.oe_formulas.specs.Checks.{row_in_ranges, paid_with}
 use Rattle.oe_engine.specs.View.{EngineState, view_of, Handle}
 use Rattle.oe_engine.specs.Programs.{ask_here, act_here}
 use Rattle.oe_payment.specs.Stages.{IsStage}
 
 -- a row whose columns are in their ranges goes on with the stage after it, and another fails
 module _ {A : Type 0} (out : A → Option Column) (x : A) (d : A → Doing) where
-  goes_within : (after : A) → ◌≡◌ {A = Result A Column} (Ok after) (checked out x) → within (out x) (d x) ≡ d after
+  goes_within : (after : A) → ◌≡◌ {A = Result A Column} (Ok after) (row_in_ranges out x) → within (out x) (d x)
+      ≡ d after
   goes_within after e = go (out x) e
     where
       go : (o : Option Column) → ◌≡◌ {A = Result A Column} (Ok after) (elim o [ None ↦ Ok x | Some c ↦ Err c ])
@@ -46,7 +47,7 @@ module _ {A : Type 0} (out : A → Option Column) (x : A) (d : A → Doing) wher
       go None e = let same : after ≡ x = cc in ap d (sym same)
       go (Some c) e = let no : ⊥ = cc in absurd no
 
-  fails_within : (c : Column) → ◌≡◌ {A = Result A Column} (Err c) (checked out x)
+  fails_within : (c : Column) → ◌≡◌ {A = Result A Column} (Err c) (row_in_ranges out x)
       → within (out x) (d x) ≡ Fail (Overflow c)
   fails_within c e = go (out x) e
     where
@@ -67,24 +68,25 @@ module _ (q : PaymentRequest) (x : Handle) (s : EngineState) where
   pub warehouse_absent : get (view_of s).rows.warehouses (warehouse_of_district q.district) ≡ None
       → act_here s x (request.Payment q) (InPayment q PaymentWarehouse) ≡ Fail
       (NoSuchRow (key.Warehouse (warehouse_of_district q.district)))
-  warehouse_absent e = ap (λ o. given (NoSuchRow (key.Warehouse (warehouse_of_district q.district))) o do_warehouse) e
+  warehouse_absent e = ap (λ o. with_value
+      (NoSuchRow (key.Warehouse (warehouse_of_district q.district))) o do_warehouse) e
 
   pub warehouse_fails : (w : Warehouse) (c : Column)
       → get (view_of s).rows.warehouses (warehouse_of_district q.district) ≡ Some w
-      → Err c ≡ checked paid_warehouse_out (paid_warehouse q w)
+      → Err c ≡ row_in_ranges paid_warehouse_out (paid_warehouse q w)
       → act_here s x (request.Payment q) (InPayment q PaymentWarehouse) ≡ Fail (Overflow c)
   warehouse_fails w c e out =
-      ap (λ o. given (NoSuchRow (key.Warehouse (warehouse_of_district q.district))) o do_warehouse) e
+      ap (λ o. with_value (NoSuchRow (key.Warehouse (warehouse_of_district q.district))) o do_warehouse) e
       ∙ fails_within paid_warehouse_out (paid_warehouse q w) (on_warehouse w) c out
 
   pub warehouse_stage : (w : Warehouse) (y : ℕ)
       → get (view_of s).rows.warehouses (warehouse_of_district q.district) ≡ Some w
-      → Ok (record w { ytd = y }) ≡ checked paid_warehouse_out (paid_warehouse q w)
+      → Ok (record w { ytd = y }) ≡ row_in_ranges paid_warehouse_out (paid_warehouse q w)
       → IsStage q x s PaymentWarehouse (write.WarehouseYtd (warehouse_of_district q.district) y)
       (UpdateWarehouse (warehouse_of_district q.district) (record w { ytd = y })) (PaymentDistrict w.name)
   warehouse_stage w y e within_range = record {
     asks = refl;
-    does = ap (λ o. given (NoSuchRow (key.Warehouse (warehouse_of_district q.district))) o do_warehouse) e
+    does = ap (λ o. with_value (NoSuchRow (key.Warehouse (warehouse_of_district q.district))) o do_warehouse) e
         ∙ goes_within paid_warehouse_out (paid_warehouse q w) (on_warehouse w) (record w { ytd = y }) within_range;
     written = ap (option_map (λ z. UpdateWarehouse (warehouse_of_district q.district) (record z { ytd = y }))) e;
   }
@@ -101,22 +103,22 @@ module _ (q : PaymentRequest) (x : Handle) (s : EngineState) where
     pub district_absent : get (view_of s).rows.districts q.district ≡ None
         → act_here s x (request.Payment q) (InPayment q (PaymentDistrict name_of)) ≡ Fail
         (NoSuchRow (key.District q.district))
-    district_absent e = ap (λ o. given (NoSuchRow (key.District q.district)) o do_district) e
+    district_absent e = ap (λ o. with_value (NoSuchRow (key.District q.district)) o do_district) e
 
     pub district_fails : (d : District) (c : Column) → get (view_of s).rows.districts q.district ≡ Some d
-        → Err c ≡ checked paid_district_out (paid_district q d)
+        → Err c ≡ row_in_ranges paid_district_out (paid_district q d)
         → act_here s x (request.Payment q) (InPayment q (PaymentDistrict name_of)) ≡ Fail (Overflow c)
     district_fails d c e out =
-        ap (λ o. given (NoSuchRow (key.District q.district)) o do_district) e
+        ap (λ o. with_value (NoSuchRow (key.District q.district)) o do_district) e
         ∙ fails_within paid_district_out (paid_district q d) (on_district d) c out
 
     pub district_stage : (d : District) (y : ℕ) → get (view_of s).rows.districts q.district ≡ Some d
-        → Ok (record d { ytd = y }) ≡ checked paid_district_out (paid_district q d)
+        → Ok (record d { ytd = y }) ≡ row_in_ranges paid_district_out (paid_district q d)
         → IsStage q x s (PaymentDistrict name_of) (write.DistrictYtd q.district y)
         (UpdateDistrict q.district (record d { ytd = y })) (behind_district q.customer name_of d.name)
     district_stage d y e within_range = record {
       asks = refl;
-      does = ap (λ o. given (NoSuchRow (key.District q.district)) o do_district) e
+      does = ap (λ o. with_value (NoSuchRow (key.District q.district)) o do_district) e
           ∙ goes_within paid_district_out (paid_district q d) (on_district d) (record d { ytd = y }) within_range;
       written = ap (option_map (λ z. UpdateDistrict q.district (record z { ytd = y }))) e;
     }
@@ -131,10 +133,11 @@ module _ (q : PaymentRequest) (x : Handle) (s : EngineState) where
     names_asks = ap (names_lock q.customer_district) by_name
 
     pub names_find : (o : Option ℕ) → middle (namesakes q.customer_district last (view_of s).rows.customers) ≡ o
-        → act_here s x (request.Payment q) (InPayment q (PaymentNames w d)) ≡ given NoCustomer o go_named
+        → act_here s x (request.Payment q) (InPayment q (PaymentNames w d)) ≡ with_value NoCustomer o go_named
     names_find o e =
-        ap (λ (who : CustomerChoice). given NoCustomer (chosen q.customer_district who (view_of s).rows.customers)
-        go_named) by_name ∙ ap (λ z. given NoCustomer z go_named) e
+        ap (λ (who : CustomerChoice). with_value NoCustomer
+        (customer_meant q.customer_district who (view_of s).rows.customers)
+        go_named) by_name ∙ ap (λ z. with_value NoCustomer z go_named) e
 
   -- a payment by number has no such stage
   pub number_stops : (w d : List ℕ) (c : ℕ) → q.customer ≡ Number c
@@ -166,14 +169,14 @@ module _ (q : PaymentRequest) (x : Handle) (s : EngineState) where
       customer_asks = ap lock_of row
 
       does_customer : act_here s x (request.Payment q) (InPayment q (PaymentCustomer w d n)) ≡ do_customer z
-      does_customer = ap (λ o. given NoCustomer o do_customer) row
+      does_customer = ap (λ o. with_value NoCustomer o do_customer) row
 
-      pub customer_fails : (c : Column) → Err c ≡ checked paid_customer_out (paid_customer n q z)
+      pub customer_fails : (c : Column) → Err c ≡ row_in_ranges paid_customer_out (paid_customer n q z)
           → act_here s x (request.Payment q) (InPayment q (PaymentCustomer w d n)) ≡ Fail (Overflow c)
       customer_fails c out = does_customer ∙ fails_within paid_customer_out (paid_customer n q z) on_customer c out
 
       module _ (a : Account)
-          (within_range : Ok (paid_with n q z a) ≡ checked paid_customer_out (paid_customer n q z)) where
+          (within_range : Ok (paid_with n q z a) ≡ row_in_ranges paid_customer_out (paid_customer n q z)) where
         goes_customer : act_here s x (request.Payment q) (InPayment q (PaymentCustomer w d n)) ≡ on_customer
             (paid_with n q z a)
         goes_customer = does_customer ∙ goes_within paid_customer_out (paid_customer n q z) on_customer

@@ -7,7 +7,7 @@ ghost use Rattle.oe_requests.specs.declared.replies.Reply.{Reply};
 ghost use Rattle.oe_model.specs.Positions.{InPayment, PaymentCustomer, PaymentWarehouse};
 ghost use Rattle.oe_model.specs.Payment.{names_lock, payment_ask};
 ghost use Rattle.oe_store.specs.Places.{rows};
-ghost use Rattle.oe_engine.specs.Programs.{Progresses, hold_of, payment_reply, wanted};
+ghost use Rattle.oe_engine.specs.Programs.{Progresses, hold_of, payment_reply, lock_asked};
 
 use crate::positions::{Position, Stage};
 use crate::stages::carry_out;
@@ -38,7 +38,7 @@ impl Model for Program {
 /// Gives the lock of who has the last name that a request gives; none where it gives a number.
 fn names_lock(request: &PaymentRequest) -> Option<Lock>
     ensures { option_map hold_of result
-        ≡ wanted (names_lock request.now.customer_district request.now.customer) }
+        ≡ lock_asked (names_lock request.now.customer_district request.now.customer) }
 {
     match &request.customer {
         CustomerChoice::Number(_) => None,
@@ -52,7 +52,7 @@ fn names_lock(request: &PaymentRequest) -> Option<Lock>
 /// Gives the lock of the customer who pays; none where there is none.
 fn customer_lock(request: &PaymentRequest, number: CustomerNumber, tables: &Tables) -> Option<Lock>
     ensures { (w d : List ℕ) → option_map hold_of result
-        ≡ wanted (payment_ask request.now (PaymentCustomer w d number) (rows tables.now)) }
+        ≡ lock_asked (payment_ask request.now (PaymentCustomer w d number) (rows tables.now)) }
 {
     let key = &request.customer_district.customer(number);
     match tables.customer(*key) {
@@ -103,7 +103,7 @@ impl Program {
     /// it: there is no such customer.
     pub fn wanted(&self, request: &PaymentRequest, tables: &Tables) -> Option<Lock>
         ensures { option_map hold_of result
-            ≡ wanted (payment_ask request.now self.now (rows tables.now)) }
+            ≡ lock_asked (payment_ask request.now self.now (rows tables.now)) }
     {
         let district = &request.district;
         match self.position.stage {

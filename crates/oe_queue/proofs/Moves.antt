@@ -17,8 +17,10 @@ use Rattle.oe_queue.specs.declared.rules.Knowledge.{Knowledge}
 use Rattle.oe_queue.specs.declared.rules.Knowledge.TheVariants.{Gone, Sending, Taking}
 use Rattle.oe_queue.specs.Ends.{TheSender, sent_in, hand_of}
 use Rattle.oe_queue.specs.Order.{IsBeginning, sender_of, messages_of}
-use Rattle.oe_queue.specs.Rule.{IsAmong, IsTaker, IsSound, IsInOrder, Agree, Kept, nothing_taken, submitted, taken}
-use Rattle.oe_queue.specs.Rule.{Submits, Takes, one_more, new_sender, with_next, next_sender, told, told_by, Tells}
+use Rattle.oe_queue.specs.Rule.{IsAmong, IsTaker, IsSound, IsInOrder, Agree, Kept, nothing_taken, after_submit}
+use Rattle.oe_queue.specs.Rule.{after_take}
+use Rattle.oe_queue.specs.Rule.{Submits, Takes, one_more, new_sender, with_next, next_sender, after_report}
+use Rattle.oe_queue.specs.Rule.{knowledge_after, Tells}
 
 -- MESSAGES OF ONE TERMINAL
 
@@ -119,10 +121,10 @@ pub pushes : (n pass : ℕ) (v : Knowledge) (s : Submitted) (x : Message) → v 
     → Pushes Kept n pass v x (Submits v x)
 pushes n pass v s x is own queued views room k at' =
     let at : get_elem? views pass ≡ some (Sending s) = at' ∙ ap some is in
-    let w : Knowledge = Sending (submitted s x) in (
+    let w : Knowledge = Sending (after_submit s x) in (
       w,
       kept_step queued (queued ++ x ∷ []) views pass (Sending s) w k at tt others between,
-      for_sender v s is (λ (q : Submitted). w ≡ Sending (submitted q x)) refl,
+      for_sender v s is (λ (q : Submitted). w ≡ Sending (after_submit q x)) refl,
     )
   where
     taker : (t : Taken) → IsTaker queued t → IsInOrder queued t s → IsTaker (queued ++ x ∷ []) t
@@ -136,8 +138,8 @@ pushes n pass v s x is own queued views room k at' =
     }
 
     others : (u : Knowledge) → IsSound queued u → Agree queued (Sending s) u → Agree queued u (Sending s)
-        → IsSound (queued ++ x ∷ []) u × Agree (queued ++ x ∷ []) (Sending (submitted s x)) u
-        × Agree (queued ++ x ∷ []) u (Sending (submitted s x))
+        → IsSound (queued ++ x ∷ []) u × Agree (queued ++ x ∷ []) (Sending (after_submit s x)) u
+        × Agree (queued ++ x ∷ []) u (Sending (after_submit s x))
     others Gone f a b = (tt, tt, tt)
     others (Sending q) f a b = (tt, a, b)
     others (Taking t) f a b = (
@@ -170,13 +172,13 @@ pushes n pass v s x is own queued views room k at' =
 pub pops : (pass : ℕ) (v : Knowledge) (t : Taken) → v ≡ Taking t → Pops Kept pass v (Takes v)
 pops pass v t is x queued views k at' =
     let at : get_elem? views pass ≡ some (Taking t) = at' ∙ ap some is in
-    let w : Knowledge = Taking (taken t x) in (
+    let w : Knowledge = Taking (after_take t x) in (
       w,
       kept_step (x ∷ queued) queued views pass (Taking t) w k at (mine (k.each pass (Taking t) at)) others between,
-      for_taker v t is (λ (q : Taken). w ≡ Taking (taken q x)) refl,
+      for_taker v t is (λ (q : Taken). w ≡ Taking (after_take q x)) refl,
     )
   where
-    mine : IsTaker (x ∷ queued) t → IsTaker queued (taken t x)
+    mine : IsTaker (x ∷ queued) t → IsTaker queued (after_take t x)
     mine f = record {
       unmade = λ d le. ap (messages_of d) (moved t.messages queued x) ∙ f.unmade d le;
       told = λ gone on. (
@@ -187,8 +189,8 @@ pops pass v t is x queued views k at' =
     }
 
     others : (u : Knowledge) → IsSound (x ∷ queued) u → Agree (x ∷ queued) (Taking t) u
-        → Agree (x ∷ queued) u (Taking t) → IsSound queued u × Agree queued (Taking (taken t x)) u
-        × Agree queued u (Taking (taken t x))
+        → Agree (x ∷ queued) u (Taking t) → IsSound queued u × Agree queued (Taking (after_take t x)) u
+        × Agree queued u (Taking (after_take t x))
     others Gone f a b = (tt, tt, tt)
     others (Sending q) f a b = (
       tt,
@@ -302,9 +304,9 @@ agree_gone queued (Sending s) = tt
 agree_gone queued (Taking t) = tt
 
 merges_at : (pass : ℕ) (t : Taken) (other : ℕ) (s : Submitted)
-    → Merges Kept pass (Taking t) other (Sending s) (Taking (told t s)) Gone
+    → Merges Kept pass (Taking t) other (Sending s) (Taking (after_report t s)) Gone
 merges_at pass t other s queued views k at apart there =
-    let both : Knowledge = Taking (told t s) in
+    let both : Knowledge = Taking (after_report t s) in
     let was : get_elem? views other ≡ some (Sending s) =
     ⊎_elim (λ (r : (other ≡ pass) × (both ≡ Sending s)). absurd (apart r.0))
     (λ (r : (other ≢ pass) × (get_elem? views other ≡ some (Sending s))). r.1)
@@ -344,7 +346,7 @@ merges_at pass t other s queued views k at apart there =
           (cases i a ea);
     }
   where
-    hears : (queued : List Message) → IsTaker queued t → IsInOrder queued t s → IsTaker queued (told t s)
+    hears : (queued : List Message) → IsTaker queued t → IsInOrder queued t s → IsTaker queued (after_report t s)
     hears queued f own = record {
       unmade = f.unmade;
       told = λ gone on. ⊎_elim (λ (now : gone ≡ s). subst (λ (q : Submitted). (q.terminal ≤ t.senders)
@@ -353,7 +355,7 @@ merges_at pass t other s queued views k at apart there =
     }
 
     meets : (queued : List Message) (u : Knowledge) → Agree queued (Taking t) u → Agree queued u (Sending s)
-        → Agree queued (Taking (told t s)) u × Agree queued u (Taking (told t s))
+        → Agree queued (Taking (after_report t s)) u × Agree queued u (Taking (after_report t s))
     meets queued Gone a b = (tt, tt)
     meets queued (Sending q) a b = (
       record {
@@ -369,9 +371,10 @@ merges_at pass t other s queued views k at apart there =
 
 -- the taker is told what a sender knows, which is then gone
 pub merges : (pass : ℕ) (v : Knowledge) (t : Taken) (other : ℕ) (w : Knowledge) (s : Submitted) → v ≡ Taking t
-    → w ≡ Sending s → Merges Kept pass v other w (told_by v w) Gone
-merges pass v t other w s is is' = subst (λ (x : Knowledge). Merges Kept pass x other w (told_by x w) Gone) (sym is)
-    (subst (λ (y : Knowledge). Merges Kept pass (Taking t) other y (told_by (Taking t) y) Gone) (sym is')
+    → w ≡ Sending s → Merges Kept pass v other w (knowledge_after v w) Gone
+merges pass v t other w s is is' = subst (λ (x : Knowledge). Merges Kept pass x other w (knowledge_after x w) Gone)
+    (sym is)
+    (subst (λ (y : Knowledge). Merges Kept pass (Taking t) other y (knowledge_after (Taking t) y) Gone) (sym is')
     (merges_at pass t other s))
 
 -- WHAT THE ENDS SHOW
@@ -386,10 +389,11 @@ as_taking w t e = e ∙ ap Taking (sym (ap hand_of e))
 
 -- what was taken is a beginning of what was submitted
 pub begins_with : (v w u : Knowledge) (t : Taken) (s : Submitted) (queued : List Message) → v ≡ Taking t → w ≡ Sending s
-    → u ≡ told_by v w → Tells u queued → IsBeginning (messages_of s.terminal t.messages) s.messages
+    → u ≡ knowledge_after v w → Tells u queued → IsBeginning (messages_of s.terminal t.messages) s.messages
 begins_with v w u t s queued is is' both tell =
-    let at : u ≡ Taking (told t s) = both ∙ (ap (λ (x : Knowledge). told_by x w) is ∙ ap (told_by (Taking t)) is') in
-    let whole = tell (told t s) at s (inl refl) in
+    let at : u ≡ Taking (after_report t s) = both
+    ∙ (ap (λ (x : Knowledge). knowledge_after x w) is ∙ ap (knowledge_after (Taking t)) is') in
+    let whole = tell (after_report t s) at s (inl refl) in
     (messages_of s.terminal queued, sym (messages_of-append s.terminal t.messages queued) ∙ whole)
 
 -- where nothing is queued, all that was told is taken

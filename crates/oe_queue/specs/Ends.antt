@@ -40,8 +40,8 @@ hand_of Gone = nothing_taken
 hand_of (Sending s) = nothing_taken
 
 -- a sender that has submitted nothing
-abbrev pub unused : TheQueue → ℕ → TheSender
-unused q t = record { queue = q; terminal = t; sent = [] }
+abbrev pub new_sender : TheQueue → ℕ → TheSender
+new_sender q t = record { queue = q; terminal = t; sent = [] }
 
 -- the taker has heard what a sender submitted
 abbrev pub with_heard : TheSender → TheTaker → TheTaker

@@ -54,18 +54,18 @@ abbrev pub nothing_taken : Taken
 nothing_taken = record { messages = []; senders = 0; told = [] }
 
 -- a message is submitted
-abbrev pub submitted : Submitted → Message → Submitted
-submitted s m = record s { messages = s.messages ++ m ∷ [] }
+abbrev pub after_submit : Submitted → Message → Submitted
+after_submit s m = record s { messages = s.messages ++ m ∷ [] }
 
 abbrev pub Submits : Knowledge → Message → Knowledge → Type 0
-Submits v m w = (s : Submitted) → v ≡ Sending s → w ≡ Sending (submitted s m)
+Submits v m w = (s : Submitted) → v ≡ Sending s → w ≡ Sending (after_submit s m)
 
 -- a message is taken
-abbrev pub taken : Taken → Message → Taken
-taken t m = record t { messages = t.messages ++ m ∷ [] }
+abbrev pub after_take : Taken → Message → Taken
+after_take t m = record t { messages = t.messages ++ m ∷ [] }
 
 abbrev pub Takes : Knowledge → Message → Knowledge → Type 0
-Takes v m w = (t : Taken) → v ≡ Taking t → w ≡ Taking (taken t m)
+Takes v m w = (t : Taken) → v ≡ Taking t → w ≡ Taking (after_take t m)
 
 -- the next terminal gets a sender
 abbrev pub one_more : Taken → Taken
@@ -85,15 +85,15 @@ next_sender Gone = Gone
 next_sender (Sending s) = Gone
 
 -- a sender tells what it submitted
-abbrev pub told : Taken → Submitted → Taken
-told t s = record t { told = s ∷ t.told }
+abbrev pub after_report : Taken → Submitted → Taken
+after_report t s = record t { told = s ∷ t.told }
 
-abbrev pub told_by : Knowledge → Knowledge → Knowledge
-told_by (Taking t) (Sending s) = Taking (told t s)
-told_by (Taking t) Gone = Taking t
-told_by (Taking t) (Taking u) = Taking t
-told_by Gone w = Gone
-told_by (Sending s) w = Sending s
+abbrev pub knowledge_after : Knowledge → Knowledge → Knowledge
+knowledge_after (Taking t) (Sending s) = Taking (after_report t s)
+knowledge_after (Taking t) Gone = Taking t
+knowledge_after (Taking t) (Taking u) = Taking t
+knowledge_after Gone w = Gone
+knowledge_after (Sending s) w = Sending s
 
 -- what is learnt of each that has told: what was taken of it, and then what is queued of it, is what it submitted
 abbrev pub Tells : Knowledge → List Message → Type 0

@@ -6,7 +6,7 @@
 ghost use Rattle.std.specs.Prelude.{◌≡◌, ◌+◌, ◌<◌, ◌++◌, [], ◌∷◌, OnOk, OnErr, IfOk, IfSome, IfNone};
 ghost use Rattle.crossbeam_channel.specs.Claims.{view as known, IsSeatAt};
 ghost use Rattle.crossbeam_channel.specs.Ends.{sends_on, receives_on};
-ghost use Rattle.oe_queue.specs.Ends.{TheSender, TheTaker, sent_in, hand_of, unused, with_heard, HasTakenAll};
+ghost use Rattle.oe_queue.specs.Ends.{TheSender, TheTaker, sent_in, hand_of, new_sender, with_heard, HasTakenAll};
 ghost use Rattle.oe_queue.specs.Order.{sender_of, messages_of, IsBeginning};
 ghost use Rattle.oe_queue.specs.Rule.{one_more};
 ghost use Rattle.oe_queue.specs.declared.rules.Knowledge.TheVariants.{Sending, Taking};
@@ -79,7 +79,7 @@ impl SendingEnd {
             × (pass.new.me.0.of ≡ pass.old.me.0.of) }
         ensures taker { known pass.new ≡ Taking (one_more (hand_of (known pass.old))) }
         ensures sender { IfOk result (λ s.
-            s ≡ unused (record { table = pass.old.table_id; key = pass.old.me.0.of }) terminal) }
+            s ≡ new_sender (record { table = pass.old.table_id; key = pass.old.me.0.of }) terminal) }
     {
         let theirs = end.another::<Making>(pass);
         Ok(SendingEnd {

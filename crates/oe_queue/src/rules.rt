@@ -1,7 +1,7 @@
 //! The rule of the queue, and what each step of a sender or of the taker makes of what it knows.
 //! All of it is for proofs: no value of these types is made.
 ghost use Rattle.std.specs.Prelude.{⊤};
-ghost use Rattle.oe_queue.specs.Rule.{Kept, Submits, Takes, Tells, nothing_taken, with_next, next_sender, told_by};
+ghost use Rattle.oe_queue.specs.Rule.{Kept, Submits, Takes, Tells, nothing_taken, with_next, next_sender, knowledge_after};
 ghost use Rattle.oe_queue.specs.declared.rules.Knowledge.TheVariants.{Gone, Taking};
 
 use crate::messages::Message;
@@ -75,7 +75,7 @@ impl Split<Knowledge> for Making {
 pub struct Telling;
 
 impl Join<Knowledge> for Telling {
-    ghost both = { told_by };
+    ghost both = { knowledge_after };
 
     ghost spent = { Gone };
 }

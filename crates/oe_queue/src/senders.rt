@@ -4,7 +4,7 @@
 //! last. So a sender that has ended can submit nothing more.
 ghost use Rattle.std.specs.Prelude.{◌≡◌, ◌+◌, ◌++◌, ℕ, [], ◌∷◌, Some, false, vec_len, slice_get, OnOk, OnErr, IfOk, IfErr};
 ghost use Rattle.std.specs.List.{Contains};
-ghost use Rattle.oe_queue.specs.Ends.{TheSender, unused, with_heard};
+ghost use Rattle.oe_queue.specs.Ends.{TheSender, new_sender, with_heard};
 ghost use Rattle.oe_queue.specs.Order.{messages_of, IsBeginning, has_end, IsEnded};
 ghost use Rattle.oe_queue.specs.declared.messages.Message.TheVariants.{Delivery, End};
 
@@ -50,7 +50,7 @@ impl Model for Finished {
 pub fn open(alloc: Global, terminals: TerminalCount) -> Result<(Vec<Sender>, Taker), AllocError>
     ensures count { IfOk result (λ r. vec_len r.0 ≡ terminals) }
     ensures senders { IfOk result (λ r. (k : ℕ) (s : TheSender) → slice_get r.0.items k ≡ Some s
-        → s ≡ unused r.1.queue (k + 1)) }
+        → s ≡ new_sender r.1.queue (k + 1)) }
     ensures taker { IfOk result (λ r. (r.1.taken ≡ []) × (r.1.heard ≡ [])) }
 {
     let (end, receiver, mut pass) = bounded_with(alloc, CAPACITY)?;

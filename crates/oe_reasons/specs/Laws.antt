@@ -33,7 +33,7 @@ use Rattle.oe_reasons.specs.declared.verbs.Verb.{Verb}
 use Rattle.oe_reasons.specs.declared.verbs.Kind.{Kind}
 use Rattle.oe_reasons.specs.Verbs.{kind_of, kind_word, verb_of, verb_word}
 use Rattle.oe_reasons.specs.Columns.{columns_of, fault_of, forms, forms_of, greatest, least, least_words, most_words}
-use Rattle.oe_reasons.specs.Shapes.{ranged}
+use Rattle.oe_reasons.specs.Shapes.{columns_with_range}
 
 abbrev pub InColumn : Column → ℕ → Type 0
 InColumn c n = (least c ≤ n) × (n ≤ greatest c)
@@ -136,7 +136,7 @@ pub record Verbs_are_read : Type 0 where
 abbrev pub IsTold : Column → Type 0
 IsTold (column.Verb v) = Unit {0}
 IsTold (column.Kind k) = Unit {0}
-IsTold c = Contains ranged c
+IsTold c = Contains columns_with_range c
 
 abbrev pub BeginsWith : Verb → Form → Type 0
 BeginsWith v f = slice_get (columns_of f) 0 ≡ Some (column.Verb v)

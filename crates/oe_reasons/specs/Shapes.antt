@@ -98,8 +98,8 @@ range_text c = bounds_text c
 -- THE LIST OF BOTH
 
 -- the columns whose ranges the list has
-abbrev pub ranged : List Column
-ranged =
+abbrev pub columns_with_range : List Column
+columns_with_range =
     column.Warehouses ∷ column.Customers ∷ column.Items ∷ column.Extents ∷ column.Layout ∷ column.Terminal ∷
     column.Warehouse ∷ column.District ∷ column.CustomerWarehouse ∷ column.CustomerDistrict ∷ column.Buyer ∷
     column.Amount ∷ column.Stamp ∷ column.Customer ∷ column.OrderLine ∷ column.Supply ∷ column.Item ∷ column.Quantity ∷
@@ -107,17 +107,17 @@ ranged =
     column.Table ∷ []
 
 -- a name and the blanks that make it 22 bytes
-abbrev pub padded : List ℕ → List ℕ
-padded name = name ++ drop (length name) (codes "                      ")
+abbrev pub name_with_blanks : List ℕ → List ℕ
+name_with_blanks name = name ++ drop (length name) (codes "                      ")
 
 unfoldable pub form_line : Form → List ℕ
 form_line f = codes " " ++ form_text f ++ codes "\n"
 
 unfoldable pub range_line : Column → List ℕ
-range_line c = codes "  " ++ padded (shown_word c) ++ range_text c ++ codes "\n"
+range_line c = codes "  " ++ name_with_blanks (shown_word c) ++ range_text c ++ codes "\n"
 
 -- the forms, and the ranges of their columns
 unfoldable pub forms_text : List ℕ
 forms_text =
     codes "\nThe forms of a script's lines, with their columns in capitals:\n\n" ++ flat_map form_line forms
-    ++ codes "\nWhat stands in each column:\n\n" ++ flat_map range_line ranged
+    ++ codes "\nWhat stands in each column:\n\n" ++ flat_map range_line columns_with_range

@@ -3,7 +3,7 @@ ghost use Rattle.std.specs.Prelude.{◌≡◌, ◌≤◌, ◌+◌, ◌*◌, ◌+
 ghost use Rattle.std.specs.List.{flat_map};
 ghost use Rattle.arrayvec.specs.ArrayVec.{array_vec_len};
 ghost use Rattle.oe_reasons.specs.Shapes.{bounds_text, either_text, form_line, form_text, forms_text};
-ghost use Rattle.oe_reasons.specs.Shapes.{greatest_text, least_text, lines_text, more_text, or_text, padded};
+ghost use Rattle.oe_reasons.specs.Shapes.{greatest_text, least_text, lines_text, more_text, or_text, name_with_blanks};
 ghost use Rattle.oe_reasons.specs.Shapes.{range_line, range_text, shown_columns, shown_word, spaced_word};
 
 use crate::forms::{Column, FORMS, Form};
@@ -252,7 +252,7 @@ fn range(out: &mut Pending, column: Column)
 fn padded(out: &mut Pending, name: &[u8])
     requires short { length name.now ≤ 22 }
     requires room { array_vec_len out.old + 22 ≤ SIZE }
-    ensures items { out.new.items ≡ out.old.items ++ padded name.now }
+    ensures items { out.new.items ≡ out.old.items ++ name_with_blanks name.now }
     ensures len { array_vec_len out.new ≤ array_vec_len out.old + 22 }
 {
     let blanks: &[u8] = BLANKS;

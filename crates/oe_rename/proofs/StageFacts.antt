@@ -17,9 +17,9 @@ use Rattle.oe_requests.specs.declared.replies.Reply.TheVariants as reply
 use Rattle.oe_requests.specs.declared.refusals.Refusal.{Refusal}
 use Rattle.oe_requests.specs.declared.refusals.Refusal.TheVariants.{NoCustomer}
 use Rattle.oe_model.specs.Changes.{UpdateCustomer}
-use Rattle.oe_model.specs.Effects.{Doing, given}
+use Rattle.oe_model.specs.Effects.{Doing, with_value}
 use Rattle.oe_model.specs.Positions.{RenameCustomer, RenameOld, RenameNew, RenameEnd, InRename}
-use Rattle.oe_model.specs.Rename.{HasLast, renamed, rename_reply, rename_taken, names_of}
+use Rattle.oe_model.specs.Rename.{HasLast, with_new_name, rename_reply, rename_taken, names_of}
 use Rattle.oe_model.specs.System.{system}
 use Rattle.oe_model.proofs.SystemLaws.{name_refl}
 use Rattle.oe_change.specs.declared.writes.Write.TheVariants as write
@@ -75,7 +75,7 @@ module _ (q : RenameRequest) (x : Handle) (s : EngineState) where
   read_name y = Go None (InRename q (RenameOld y.name.last))
 
   abbrev set_name : List ℕ → Customer → Doing
-  set_name last y = Go (Some (UpdateCustomer q.customer (renamed q y))) (InRename q (RenameEnd last))
+  set_name last y = Go (Some (UpdateCustomer q.customer (with_new_name q y))) (InRename q (RenameEnd last))
 
   pub absent_stops : get (view_of s).rows.customers q.customer ≡ None
       → ask_here s x (request.Rename q) (InRename q RenameCustomer) ≡ Stop NoCustomer
@@ -88,16 +88,16 @@ module _ (q : RenameRequest) (x : Handle) (s : EngineState) where
 
     pub customer_reads : act_here s x (request.Rename q) (InRename q RenameCustomer) ≡ Go None
         (InRename q (RenameOld y.name.last))
-    customer_reads = ap (λ o. given NoCustomer o read_name) here
+    customer_reads = ap (λ o. with_value NoCustomer o read_name) here
 
     pub names_written : (last first : List ℕ) → last ≡ q.last → first ≡ q.first
         → change_written (write.CustomerNames q.customer last first) (view_of s)
-        ≡ Some (UpdateCustomer q.customer (renamed q y))
+        ≡ Some (UpdateCustomer q.customer (with_new_name q y))
     names_written last first same_last same_first =
         ap (λ (l : List ℕ). change_written (write.CustomerNames q.customer l first) (view_of s)) same_last
         ∙ ap (λ (f : List ℕ). change_written (write.CustomerNames q.customer q.last f) (view_of s)) same_first
-        ∙ ap (option_map (λ z. UpdateCustomer q.customer (renamed q z))) here
+        ∙ ap (option_map (λ z. UpdateCustomer q.customer (with_new_name q z))) here
 
     pub names_set : (last : List ℕ) → act_here s x (request.Rename q) (InRename q (RenameNew last)) ≡ Go
-        (Some (UpdateCustomer q.customer (renamed q y))) (InRename q (RenameEnd last))
-    names_set last = ap (λ o. given NoCustomer o (set_name last)) here
+        (Some (UpdateCustomer q.customer (with_new_name q y))) (InRename q (RenameEnd last))
+    names_set last = ap (λ o. with_value NoCustomer o (set_name last)) here

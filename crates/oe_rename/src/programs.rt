@@ -8,7 +8,7 @@ ghost use Rattle.oe_model.specs.Positions.{InRename};
 ghost use Rattle.oe_model.specs.Rename.{rename_ask};
 ghost use Rattle.oe_store.specs.Places.{rows};
 ghost use Rattle.oe_engine.specs.View.{IsOpen};
-ghost use Rattle.oe_engine.specs.Programs.{Progresses, hold_of, renamed_reply, wanted};
+ghost use Rattle.oe_engine.specs.Programs.{Progresses, hold_of, renamed_reply, lock_asked};
 ghost use Rattle.oe_rename.specs.Program.{position_of, HasEnded, HoldsTaken, Recalls, Steps};
 
 use crate::stages::{set_names, take_customer, take_old_name};
@@ -82,7 +82,7 @@ impl Program {
     /// it: there is no such customer.
     pub fn wanted(&self, request: &RenameRequest, tables: &Tables) -> Option<Lock>
         ensures { option_map hold_of result
-            ≡ wanted (rename_ask request.now (position_of self.now) (rows tables.now)) }
+            ≡ lock_asked (rename_ask request.now (position_of self.now) (rows tables.now)) }
     {
         let key = &request.customer;
         match self {

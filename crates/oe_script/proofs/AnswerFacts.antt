@@ -38,8 +38,8 @@ use Rattle.oe_model.specs.Requests.{MayRefuse, PaymentMayRefuse, NewOrderMayRefu
 use Rattle.oe_model.specs.Requests.{first_absent}
 use Rattle.oe_model.specs.Requests.{rejection, query_rejection, number_rejection, warehouse_no, warehouses_of}
 use Rattle.oe_model.specs.Keys.{customer_in}
-use Rattle.oe_model.specs.Choice.{chosen}
-use Rattle.oe_model.specs.Queries.{found, last_order, status_of, recent_lines, is_low, answer_of}
+use Rattle.oe_model.specs.Choice.{customer_meant}
+use Rattle.oe_model.specs.Queries.{reply_with, last_order, status_of, recent_lines, is_low, answer_of}
 use Rattle.oe_model.specs.System.{system, terminal_limit}
 use Rattle.oe_model.proofs.SystemLaws.{laws}
 use Rattle.oe_audit.specs.Verdict.{condition_of, verdict_of}
@@ -257,18 +257,19 @@ own_turned_away (query.Level q) r e h = own_absent (q.district.warehouse ∷ [])
 
 -- what is told of what is found, or the refusal where nothing is
 own_told : {A : Type 0} (d : Refusal) (o : Option A) (k : A → QueryReply) (e : Refusal) → IsOwn d
-    → found d o (λ x. Here (k x)) ≡ Missing e → IsOwn e
+    → reply_with d o (λ x. Here (k x)) ≡ Missing e → IsOwn e
 own_told d None k e own h = let same : d ≡ e = cc in subst IsOwn same own
 own_told d (Some x) k e own h = let no : ⊥ = cc in absurd no
 
 own_chosen : (o : Option ℕ) (at : ℕ → Option Customer) (k : ℕ → Customer → QueryReply) (e : Refusal)
-    → found refusal.NoCustomer o (λ c. found refusal.NoCustomer (at c) (λ x. Here (k c x))) ≡ Missing e → IsOwn e
+    → reply_with refusal.NoCustomer o (λ c. reply_with refusal.NoCustomer (at c) (λ x. Here (k c x))) ≡ Missing e
+    → IsOwn e
 own_chosen None at k e h = let same : refusal.NoCustomer ≡ e = cc in subst IsOwn same tt
 own_chosen (Some c) at k e h = own_told {A = Customer} refusal.NoCustomer (at c) (k c) e tt h
 
 own_missing : (q : Query) (r : Rows) (e : Refusal) → answer_of q r ≡ Missing e → IsOwn e
 own_missing (query.Status q) r e h =
-    own_chosen (chosen q.district q.customer r.customers) (λ c. get r.customers (customer_in q.district c))
+    own_chosen (customer_meant q.district q.customer r.customers) (λ c. get r.customers (customer_in q.district c))
     (λ c x. told.Status (record {
       customer = c;
       balance = x.account.balance;

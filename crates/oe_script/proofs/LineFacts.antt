@@ -5,7 +5,7 @@ use Rattle.std.specs.Prelude.{◌⊎◌, ◌≢◌}
 use Rattle.std.proofs.lemmas.Bool.{cases_order}
 use Rattle.oe_theory.specs.Next.{Next}
 use Rattle.oe_theory.specs.World.{World}
-use Rattle.oe_theory.specs.Theorems.{opened}
+use Rattle.oe_theory.specs.Theorems.{world_at_opening}
 use Rattle.oe_theory.proofs.Theorems.{opening_is_reached}
 use Rattle.oe_requests.specs.declared.refusals.Refusal.TheVariants as refusal
 use Rattle.oe_requests.specs.declared.replies.Reply.{Reply}
@@ -34,7 +34,8 @@ use Rattle.oe_core.specs.Steps.{step_in, answer_in, Advances}
 use Rattle.oe_core.specs.declared.advances.Advanced.{Advanced}
 use Rattle.oe_core.specs.declared.advances.Advanced.TheVariants as advanced
 use Rattle.oe_io.specs.Lines.{bad_line}
-use Rattle.oe_script.specs.Script.{State, moment_in, told, Stepped, IsAllowed, Answers, Asks, LineAnswer, RunOfLines}
+use Rattle.oe_script.specs.Script.{State, moment_in, step_answer, Stepped, IsAllowed, Answers, Asks, LineAnswer}
+use Rattle.oe_script.specs.Script.{RunOfLines}
 use Rattle.oe_script.specs.Script.{Holds, shown_text, RunsIn}
 pub use Rattle.oe_admission.specs.Programs.{IsLive}
 use Rattle.oe_admission.proofs.LiveFacts.{next_live}
@@ -60,14 +61,15 @@ live_runs zero w t x w' l r = next_live w _ _ w' l r.1
 live_runs (suc n) w t x w' l r = live_runs n r.0 t x w' (next_live w _ _ r.0 l r.1) r.2
 
 -- a core that is opened on a population is live
-pub opened_live : (r : Rows) (n : ℕ) (l : Layout) → IsPopulation r → (w : World system) → w ≡ opened system r n l
+pub opened_live : (r : Rows) (n : ℕ) (l : Layout) → IsPopulation r → (w : World system) → w
+    ≡ world_at_opening system r n l
     → IsLive (Some w)
 opened_live r n l p w is =
     subst (λ (v : World system). IsLive (Some v)) (sym is)
     (opening_is_reached system laws r n l (population_is_good r p), λ t. tt)
 
 live_opened : (s : Scale) (ring : RingChoice) (r : Rows) → IsScale s → IsPopulated s r
-    → IsLive (Some (opened system r ring.extents (layout_of ring)))
+    → IsLive (Some (world_at_opening system r ring.extents (layout_of ring)))
 live_opened s ring r h p =
     opened_live r ring.extents (layout_of ring) (population_is_one.is_population s r h p) _ refl
 
@@ -122,7 +124,7 @@ abbrev IsAnswered : State → Command → Type 0
 IsAnswered s c = (text : List ℕ) × (s' : State) × Answers s c text s'
 
 stepped : (w : World system) (i : Step) → IsTold w i → (text : List ℕ) × (s' : State) × Stepped w i text s'
-stepped w i (x, w', serves) = (told i x, Some w', (x, w', serves, refl, refl))
+stepped w i (x, w', serves) = (step_answer i x, Some w', (x, w', serves, refl, refl))
 
 answered : (s : State) (c : Command) → HasForm c → IsLive s → IsAllowed s c → IsAnswered s c
 answered None (command.Open scale ring) f l a =

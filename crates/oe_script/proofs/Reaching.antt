@@ -9,7 +9,8 @@ use Rattle.std.proofs.lemmas.Grind.{flat_map-append}
 use Rattle.std.proofs.lemmas.Bool.{cases_eq}
 use Rattle.oe_io.specs.Ports.{Sink, Sent, Cut, Streams}
 use Rattle.oe_script.specs.Outcome.{Replies}
-use Rattle.oe_script.specs.Script.{State, LineAnswer, RunOfLines, IsInLine, ended, last_text, Output, Holds, Reached}
+use Rattle.oe_script.specs.Script.{State, LineAnswer, RunOfLines, IsInLine, with_line_end, last_text, Output, Holds}
+use Rattle.oe_script.specs.Script.{Reached}
 use Rattle.oe_script.specs.Hearing.{Heard, HearsLine, HearsRun, HearsReached, HearsAll, HearsEach, HeardFront, Attends}
 use Rattle.oe_script.specs.Hearing.{last_heard}
 use Rattle.oe_script.specs.Session.{Standing, Broken, Fed}
@@ -78,7 +79,7 @@ module _ (begun : State) (live : IsLive begun) where
       → Reached begun (input ++ b ∷ []) out s n (line ++ b ∷ [])
   reach_byte input out s n line b h r = record {
     lines = r.lines;
-    whole = ap (λ z. z ++ b ∷ []) r.whole ∙ append_assoc (flat_map ended r.lines) line (b ∷ []);
+    whole = ap (λ z. z ++ b ∷ []) r.whole ∙ append_assoc (flat_map with_line_end r.lines) line (b ∷ []);
     each = r.each;
     tail = All-push (λ x. x ≢ 10) line b r.tail h;
     counted = r.counted;
@@ -90,7 +91,7 @@ module _ (begun : State) (live : IsLive begun) where
       → Reached begun (input ++ more) out s n (line ++ more)
   reach_bytes input out s n line more h r = record {
     lines = r.lines;
-    whole = ap (λ z. z ++ more) r.whole ∙ append_assoc (flat_map ended r.lines) line more;
+    whole = ap (λ z. z ++ more) r.whole ∙ append_assoc (flat_map with_line_end r.lines) line more;
     each = r.each;
     tail = All-append (λ b. b ≢ 10) line more r.tail h;
     counted = r.counted;
@@ -102,9 +103,9 @@ module _ (begun : State) (live : IsLive begun) where
       Reached begun (input ++ 10 ∷ []) (out ++ text) v (n + 1) []
   reach_line input out s v n line text r a = record {
     lines = r.lines ++ line ∷ [];
-    whole = ap (λ z. z ++ 10 ∷ []) r.whole ∙ append_assoc (flat_map ended r.lines) line (10 ∷ [])
-        ∙ ap (λ z. flat_map ended r.lines ++ z) (sym (append-nil (line ++ 10 ∷ [])))
-        ∙ sym (flat_map-append ended r.lines (line ∷ [])) ∙ sym (append-nil _);
+    whole = ap (λ z. z ++ 10 ∷ []) r.whole ∙ append_assoc (flat_map with_line_end r.lines) line (10 ∷ [])
+        ∙ ap (λ z. flat_map with_line_end r.lines ++ z) (sym (append-nil (line ++ 10 ∷ [])))
+        ∙ sym (flat_map-append with_line_end r.lines (line ∷ [])) ∙ sym (append-nil _);
     each = All-push IsInLine r.lines line r.each r.tail;
     tail = all_none (λ b. b ≢ 10);
     counted = ap (λ z. z + 1) r.counted ∙ sym (length_push r.lines line);

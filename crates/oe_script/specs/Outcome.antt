@@ -12,7 +12,7 @@ use Rattle.oe_core.specs.Steps.{step_in, answer_in}
 use Rattle.oe_core.specs.declared.advances.Advanced.{Advanced}
 use Rattle.oe_core.specs.declared.advances.Advanced.TheVariants as advanced
 use Rattle.oe_io.specs.Ports.{Sink, Sent, Cut}
-use Rattle.oe_script.specs.Script.{State, told, RunsIn, LineAnswer}
+use Rattle.oe_script.specs.Script.{State, step_answer, RunsIn, LineAnswer}
 use Rattle.oe_script.specs.Hearing.{Takes}
 
 -- the answer of an Advance that ended so and left its terminal this last reply
@@ -24,7 +24,7 @@ IsAnswer last (advanced.RolledBack e) x = x ≡ answer.Refused e
 
 -- a step was served, and the line of its answer appended
 abbrev pub Tells : World system → Step → World system → List ℕ → List ℕ → Type 0
-Tells w i w' old new = (x : Answer) × Next system w (step_in i) (answer_in i x) w' × (new ≡ old ++ told i x)
+Tells w i w' old new = (x : Answer) × Next system w (step_in i) (answer_in i x) w' × (new ≡ old ++ step_answer i x)
 
 -- a run's stages were served, and the line of the last answer appended
 abbrev pub TellsRun : World system → ℕ → World system → List ℕ → List ℕ → Type 0

@@ -4,7 +4,7 @@ use Rattle.std.specs.Prelude.{length, Option, Some, None, codes}
 use Rattle.std.specs.List.{flat_map}
 use Rattle.oe_theory.specs.World.{World, newest, tables}
 use Rattle.oe_theory.specs.Next.{Next}
-use Rattle.oe_theory.specs.Theorems.{opened}
+use Rattle.oe_theory.specs.Theorems.{world_at_opening}
 use Rattle.oe_requests.specs.declared.refusals.Refusal.TheVariants as refusal
 use Rattle.oe_rows.specs.declared.scales.Scale.{Scale}
 use Rattle.oe_model.specs.Rows.{Rows}
@@ -45,14 +45,14 @@ audit_text c (answer.Audited v) = audit_line c v
 audit_text c x = answer_line x
 
 -- the text of a step's answer
-abbrev pub told : Step → Answer → List ℕ
-told (step.Audit c m) x = audit_text c x
-told i x = answer_line x
+abbrev pub step_answer : Step → Answer → List ℕ
+step_answer (step.Audit c m) x = audit_text c x
+step_answer i x = answer_line x
 
 -- the step may be answered by this text, and this state is left
 abbrev pub Stepped : World system → Step → List ℕ → State → Type 0
 Stepped w i text s = (x : Answer) × (w' : World system) × Next system w (step_in i) (answer_in i x) w'
-    × (text ≡ told i x) × (s ≡ Some w')
+    × (text ≡ step_answer i x) × (s ≡ Some w')
 
 -- n advances of terminal t that are answered `more`, and one with this answer, which is another
 abbrev pub RunsIn : ℕ → World system → ℕ → Answer → World system → Type 0
@@ -69,7 +69,7 @@ Ran w t text s = (n : ℕ) × (x : Answer) × (w' : World system) × RunsIn n w 
 abbrev pub Opens : Scale → RingChoice → List ℕ → State → Type 0
 Opens scale ring text s =
     ((r : Rows) × IsPopulated scale r × (text ≡ codes "opened\n")
-    × (s ≡ Some (opened system r ring.extents (layout_of ring))))
+    × (s ≡ Some (world_at_opening system r ring.extents (layout_of ring))))
     ⊎ ((text ≡ answer_line (answer.Refused refusal.NoMemory)) × (s ≡ None))
 
 -- what is shown of a world as it stands: a table's rows, who waits for whom, or who holds what
@@ -125,8 +125,8 @@ RunOfLines s n (line ∷ lines) text s' =
 abbrev pub IsInLine : List ℕ → Type 0
 IsInLine line = All (λ b. b ≢ 10) line
 
-abbrev pub ended : List ℕ → List ℕ
-ended line = line ++ 10 ∷ []
+abbrev pub with_line_end : List ℕ → List ℕ
+with_line_end line = line ++ 10 ∷ []
 
 -- a last line without its end is none of the forms
 abbrev pub last_text : ℕ → List ℕ → List ℕ
@@ -139,7 +139,7 @@ pub record Output (begun : State) (input out : List ℕ) : Type 0 where
   pub last : List ℕ
   pub answers : List ℕ
   pub state : State
-  pub whole : input ≡ flat_map ended lines ++ last
+  pub whole : input ≡ flat_map with_line_end lines ++ last
   pub each : All IsInLine lines
   pub tail : IsInLine last
   pub run : RunOfLines begun 0 lines answers state
@@ -153,7 +153,7 @@ Holds held true line = 1_024 < length line
 -- of the input these lines were answered, by this output, and a beginning of the next line was read
 pub record Reached (begun : State) (input out : List ℕ) (state : State) (count : ℕ) (line : List ℕ) : Type 0 where
   pub lines : List (List ℕ)
-  pub whole : input ≡ flat_map ended lines ++ line
+  pub whole : input ≡ flat_map with_line_end lines ++ line
   pub each : All IsInLine lines
   pub tail : IsInLine line
   pub counted : count ≡ length lines

@@ -2,7 +2,7 @@
 ghost use Rattle.std.specs.Prelude.{◌≡◌, ◌≤◌, ◌+◌, ◌++◌, ℕ, List, length, Option, Some, None, IfOk, IsSome};
 ghost use Rattle.arrayvec.specs.ArrayVec.{array_vec_len};
 ghost use Rattle.oe_theory.specs.Next.{Next};
-ghost use Rattle.oe_theory.specs.Theorems.{opened};
+ghost use Rattle.oe_theory.specs.Theorems.{world_at_opening};
 ghost use Rattle.oe_model.specs.Rows.{Rows};
 ghost use Rattle.oe_lines.specs.Rings.{layout_of};
 ghost use Rattle.oe_model.specs.Population.{IsPopulated};
@@ -208,7 +208,7 @@ fn populated(alloc: Global, scale: Scale, ring: RingChoice) -> Result<Core, NoMe
     requires { HasForm (asks.Open scale ring) }
     ensures { IfOk result (λ c.
         (r : Rows) × IsPopulated scale r
-        × (world_of c ≡ opened system r ring.extents (layout_of ring))) }
+        × (world_of c ≡ world_at_opening system r ring.extents (layout_of ring))) }
 {
     match populate(alloc, scale) {
         Ok(tables) => Core::open(alloc, tables, ring.extents, ring.layout_or_whole_rows()),

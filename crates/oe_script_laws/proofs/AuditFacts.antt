@@ -34,7 +34,7 @@ use Rattle.oe_consistency.proofs.KeptMore.{kept, base_more}
 use Rattle.oe_consistency.proofs.PopulationMore.{population_has_more}
 use Rattle.oe_core.specs.Steps.{step_in, answer_in}
 use Rattle.oe_script.specs.Script as script
-use Rattle.oe_script.specs.Script.{State, moment_in, told, Answers, Asks, LineAnswer, RunOfLines}
+use Rattle.oe_script.specs.Script.{State, moment_in, step_answer, Answers, Asks, LineAnswer, RunOfLines}
 use Rattle.oe_script.proofs.LineFacts.{one_command}
 use Rattle.oe_script_laws.specs.Deeds.{Deed, No_form, Opening, Shown, Steps, Entry, Takes, Was, Passed}
 use Rattle.oe_script_laws.specs.Laws.{IsReachedState, IsConsistentState, IsOfFour, IsAudited, Audits_hold, HasMore}
@@ -119,13 +119,13 @@ module _ (w : World system) (c : Condition) (holds : (m : ℕ) → IsHeld c (at 
       (model.verdict (condition_of c) (at system w m)) → x ≡ answer.Audited verdict.Holds
   held m x h = answer_once (step.Audit c m) x (answer.Audited verdict.Holds) (h ∙ ap theory.Audited (holds m))
 
-  step_told : (m : ℕ) (x : Answer) (w' : World system) (text : List ℕ) → text ≡ told (step.Audit c m) x
+  step_told : (m : ℕ) (x : Answer) (w' : World system) (text : List ℕ) → text ≡ step_answer (step.Audit c m) x
       → Audited w m c (answer_in (step.Audit c m) x) w' → IsAudited w c m text × (w' ≡ w)
-  step_told m x w' text t (sees l u e same) = (inl (l, u, t ∙ ap (told (step.Audit c m)) (held m x e)), same)
+  step_told m x w' text t (sees l u e same) = (inl (l, u, t ∙ ap (step_answer (step.Audit c m)) (held m x e)), same)
   step_told m x w' text t (is_old l e same) = (
     inr (inl (
       l,
-      t ∙ ap (told (step.Audit c m))
+      t ∙ ap (step_answer (step.Audit c m))
           (answer_once (step.Audit c m) x (answer.Refused (refusal.TooOld (horizon system w))) e),
     )),
     same,
@@ -133,7 +133,7 @@ module _ (w : World system) (c : Condition) (holds : (m : ℕ) → IsHeld c (at 
   step_told m x w' text t (is_future l e same) = (
     inr (inr (
       l,
-      t ∙ ap (told (step.Audit c m))
+      t ∙ ap (step_answer (step.Audit c m))
           (answer_once (step.Audit c m) x (answer.Refused (refusal.Future (newest system w))) e),
     )),
     same,

@@ -6,13 +6,14 @@ use Rattle.std.proofs.lemmas.Bool.{cases_eq, eq-eqb, ne_eqb, false≢true}
 use Rattle.oe_theory.specs.Machine.{Machine, Mode, Ask, Stop, Plain, Take}
 use Rattle.oe_theory.specs.World.{set, Open, World, tx_of, tables}
 use Rattle.oe_theory.specs.Next.{Step, Begin, Advance, Save, Back, Rollback, Read, Audit, Purge, Rewind, Answer, Begun}
-use Rattle.oe_theory.specs.Next.{Rolled_back, Busy, Already_open, works_on, IsPast, put_active, begun, moved, IsGranted}
+use Rattle.oe_theory.specs.Next.{Rolled_back, Busy, Already_open, works_on, IsPast, put_active, open_at_begin}
+use Rattle.oe_theory.specs.Next.{open_after, IsGranted}
 use Rattle.oe_theory.specs.Next.{IsInTheWay, GivesWay, MayLackMemory, MayBegin, Next, begins, goes_on, commits, saves}
 use Rattle.oe_theory.specs.Next.{goes_back, rolls_back, reads, audits, purges, rewinds, stops, fails, is_busy, is_full}
 use Rattle.oe_theory.specs.Next.{is_rejected, is_open, number_is_rejected, query_is_rejected, misses, not_open, too_old}
 use Rattle.oe_theory.specs.Next.{future, not_quiet, lacks_memory_at_begin, lacks_memory, Event, Run}
 use Rattle.oe_theory.specs.Laws.{IsSameEver, Sound, Laws}
-use Rattle.oe_theory.specs.Erase.{is_idle, is_rollback, is_commit, names, is_of, tidy, erased, is_rolled_back}
+use Rattle.oe_theory.specs.Erase.{is_idle, is_rollback, is_commit, names, is_of, tidy, events_without, is_rolled_back}
 use Rattle.oe_theory.proofs.Sets.{set_same, set_other, set_cases, some_inj, some_none}
 use Rattle.oe_theory.proofs.Tables.{same_ever}
 use Rattle.oe_theory.proofs.Steps.{reads_alone, acts_alone, sound_drop}
@@ -172,17 +173,17 @@ module _ (M : Machine) (L : Laws M) where
           (cond (is_rollback M a) true (cond (is_commit M a) false (is_rolled_back M t (last ∷ []))))
           (is_rolled_back M t (last ∷ []))) apart ∙ ends
 
-      gone : erased M t (last ∷ []) ≡ []
+      gone : events_without M t (last ∷ []) ≡ []
       gone = ap (λ (z : Bool). cond z [] (last ∷ [])) own
 
-      left : erased M t (first ∷ last ∷ []) ≡ first ∷ []
+      left : events_without M t (first ∷ last ∷ []) ≡ first ∷ []
       left =
-          ap (λ (z : Bool). cond z (cond (is_rollback M a) (tidy M (last ∷ [])) (erased M t (last ∷ [])))
-          (cond (is_idle M a) (erased M t (last ∷ [])) (first ∷ erased M t (last ∷ [])))) apart
-          ∙ (ap (λ (z : Bool). cond z (erased M t (last ∷ [])) (first ∷ erased M t (last ∷ []))) idle
+          ap (λ (z : Bool). cond z (cond (is_rollback M a) (tidy M (last ∷ [])) (events_without M t (last ∷ [])))
+          (cond (is_idle M a) (events_without M t (last ∷ [])) (first ∷ events_without M t (last ∷ [])))) apart
+          ∙ (ap (λ (z : Bool). cond z (events_without M t (last ∷ [])) (first ∷ events_without M t (last ∷ []))) idle
           ∙ ap (λ z. first ∷ z) gone)
 
-      run : Run M (without_open M t w) (erased M t (first ∷ last ∷ [])) (without_open M t v)
+      run : Run M (without_open M t w) (events_without M t (first ∷ last ∷ [])) (without_open M t v)
       run = run_erased M L w s t o l (first ∷ last ∷ []) (without_open M t v)
           (v, n, (without_open M t v, rolls_back t p k, refl)) over
 
@@ -199,11 +200,11 @@ module _ (M : Machine) (L : Laws M) where
       → (i : Step M) (a : Answer M) (v : World M) → works_on M i ≢ Some t → Next M w i a v → Beside w t i a v
   beside w s t o l _ _ _ h (begins u q b) =
       let ne : u ≢ t = λ z. some_none o (sym l ∙ (ap w.active (sym z) ∙ b.closed)) in
-      let k = still_open w t u o (Some (begun M w u q)) ne l in
+      let k = still_open w t u o (Some (open_at_begin M w u q)) ne l in
       stands refl o k (accepted w s t o o l _ _ _ h (begins u q b) refl k)
   beside w s t o l _ _ _ h (goes_on u p c q e g r room) =
       let k = still_open w t u o
-      (Some (moved M w.layout p (ask (tx_of M u p) p.now.position (tables M w)) c q (tables M w)))
+      (Some (open_after M w.layout p (ask (tx_of M u p) p.now.position (tables M w)) c q (tables M w)))
       (λ z. h (ap Some z)) l in
       stands refl o k (accepted w s t o o l _ _ _ h (goes_on u p c q e g r room) refl k)
   beside w s t o l _ _ _ h (commits u p reply e g r) =
@@ -304,7 +305,7 @@ module _ (M : Machine) (L : Laws M) where
       over = ap (λ (z : Bool). cond z (cond (is_rollback M a) true (cond (is_commit M a) false false)) false)
           (of_own t i h) ∙ ap (λ (z : Bool). cond z true (cond (is_commit M a) false false)) b
 
-      left : erased M t (first ∷ []) ≡ []
+      left : events_without M t (first ∷ []) ≡ []
       left =
           ap (λ (z : Bool). cond z (cond (is_rollback M a) [] []) (cond (is_idle M a) [] (first ∷ []))) (of_own t i h)
           ∙ ap (λ (z : Bool). cond z [] []) b
@@ -339,14 +340,14 @@ module _ (M : Machine) (L : Laws M) where
           ∙ (ap (λ (z : Bool). cond z true (cond (is_commit M a) false (is_rolled_back M t (last ∷ [])))) b
           ∙ (ap (λ (z : Bool). cond z false (is_rolled_back M t (last ∷ []))) c ∙ ends))
 
-      gone : erased M t (last ∷ []) ≡ []
+      gone : events_without M t (last ∷ []) ≡ []
       gone = ap (λ (z : Bool). cond z [] (last ∷ [])) own
 
-      left : erased M t (first ∷ last ∷ []) ≡ []
+      left : events_without M t (first ∷ last ∷ []) ≡ []
       left =
-          ap (λ (z : Bool). cond z (cond (is_rollback M a) (tidy M (last ∷ [])) (erased M t (last ∷ [])))
-          (cond (is_idle M a) (erased M t (last ∷ [])) (first ∷ erased M t (last ∷ [])))) (of_own t i h)
-          ∙ (ap (λ (z : Bool). cond z (tidy M (last ∷ [])) (erased M t (last ∷ []))) b ∙ gone)
+          ap (λ (z : Bool). cond z (cond (is_rollback M a) (tidy M (last ∷ [])) (events_without M t (last ∷ [])))
+          (cond (is_idle M a) (events_without M t (last ∷ [])) (first ∷ events_without M t (last ∷ [])))) (of_own t i h)
+          ∙ (ap (λ (z : Bool). cond z (tidy M (last ∷ [])) (events_without M t (last ∷ []))) b ∙ gone)
 
   own_place : (w : World M) (t u : ℕ) (o : Open M) → ◌≡◌ {A = Option ℕ} (Some u) (Some t)
       → set u (Some o) w.active t ≡ Some o
@@ -356,7 +357,7 @@ module _ (M : Machine) (L : Laws M) where
       → (i : Step M) (a : Answer M) (v : World M) → works_on M i ≡ Some t → Next M w i a v → Own w t a v
   own w s t o l _ _ _ h (begins u q b) = absurd (some_none t (sym h))
   own w s t o l _ _ _ h (goes_on u p c q e g r room) =
-      let p' = moved M w.layout p (ask (tx_of M u p) p.now.position (tables M w)) c q (tables M w) in
+      let p' = open_after M w.layout p (ask (tx_of M u p) p.now.position (tables M w)) c q (tables M w) in
       went_on refl p' (own_place w t u p' h)
       (keeps w s t o p' l _ _ _ h (goes_on u p c q e g r room) refl refl (own_place w t u p' h))
   own w s t o l _ _ _ h (commits u p reply e g r) = was_committed refl refl
@@ -388,7 +389,7 @@ module _ (M : Machine) (L : Laws M) where
       over : is_rolled_back M t (last ∷ []) ≡ true
       over = ap (λ (z : Bool). cond z true false) mine
 
-      left : erased M t (last ∷ []) ≡ []
+      left : events_without M t (last ∷ []) ≡ []
       left = ap (λ (z : Bool). cond z [] (last ∷ [])) mine
 
       back : (o : Open M) (v : World M) → Next M w (Begin t q) Begun v → v.active t ≡ Some o → without_open M t v ≡ w
@@ -401,10 +402,11 @@ module _ (M : Machine) (L : Laws M) where
           → (o : Open M) × (v.active t ≡ Some o) × (without_open M t v ≡ w)
       go _ _ _ (begins u p b) i a =
           let same : u ≡ t = cc in
-          let k = set_same u (Some (begun M w u p)) w.active t (sym same) in (
-            begun M w u p,
+          let k = set_same u (Some (open_at_begin M w u p)) w.active t (sym same) in (
+            open_at_begin M w u p,
             k,
-            back (begun M w u p) _
-                (subst (λ (z : Step M). Next M w z Begun (put_active M u (Some (begun M w u p)) w)) i (begins u p b)) k,
+            back (open_at_begin M w u p) _
+                (subst (λ (z : Step M). Next M w z Begun (put_active M u (Some (open_at_begin M w u p)) w)) i
+                (begins u p b)) k,
           )
       go _ _ _ n i a = cc

@@ -12,7 +12,7 @@ use Rattle.oe_requests.specs.declared.steps.Step.TheVariants as step
 use Rattle.oe_lines.specs.declared.commands.Command.{Command}
 use Rattle.oe_lines.specs.declared.commands.Command.TheVariants as command
 use Rattle.oe_script.specs.Script as script
-use Rattle.oe_script.specs.Script.{State, told, RunsIn, Answers, Asks, LineAnswer, RunOfLines}
+use Rattle.oe_script.specs.Script.{State, step_answer, RunsIn, Answers, Asks, LineAnswer, RunOfLines}
 use Rattle.oe_script_laws.specs.Deeds.{Deed, No_form, Opening, Shown, Steps, Entry, step_of, IsUpTo, Takes, Was, Passed}
 use Rattle.oe_script_laws.specs.Deeds.{text_of, lines_of, texts_of}
 use Rattle.oe_script_laws.specs.Laws.{Lines_are_deeds}
@@ -90,10 +90,10 @@ each s n (line ∷ lines) text s' (mid, first, rest, a, r, e) =
 
 alone : (w : World system) (j i : Step) (n : ℕ) (x : Answer) (w' : World system) (s : State)
     → ◌≡◌ {A = Option Step} (Some j) (Some i) → n ≡ 0 → Takes n w i x w' → s ≡ Some w'
-    → script.Stepped w j (told i x) s
+    → script.Stepped w j (step_answer i x) s
 alone w j i n x w' s e z h same =
     let here : j ≡ i = some_inj j i e in
-    subst (λ (k : Step). script.Stepped w k (told i x) s) (sym here)
+    subst (λ (k : Step). script.Stepped w k (step_answer i x) s) (sym here)
     (x, w', subst (λ (k : ℕ). Takes k w i x w') z h, refl, same)
 
 run_taken : (n : ℕ) (w : World system) (t : ℕ) (x : Answer) (w' : World system) → x ≢ answer.More
@@ -103,7 +103,7 @@ run_taken (suc n) w t x w' ne (mid, more, h) = (mid, more, run_taken n mid t x w
 
 answers_of : (w : World system) (c : Command) (i : Step) (n : ℕ) (x : Answer) (w' : World system) (s : State)
     → step_of w c ≡ Some i → IsUpTo c n x → Takes n w i x w' → s ≡ Some w'
-    → Answers (Some w) c (told i x) s
+    → Answers (Some w) c (step_answer i x) s
 answers_of w (command.Open scale ring) i n x w' s e z h same = let none : ⊥ = cc in absurd none
 answers_of w (command.Begin t q) i n x w' s e z h same = alone w _ i n x w' s e z h same
 answers_of w (command.Next t) i n x w' s e z h same = alone w _ i n x w' s e z h same
@@ -114,7 +114,7 @@ answers_of w (command.Run t) i n x w' s e ne h same =
       w',
       run_taken n w t x w' ne (subst (λ (k : Step). Takes n w k x w') (sym here) h),
       ap
-          (λ (k : Step). told k x) (sym here),
+          (λ (k : Step). step_answer k x) (sym here),
       same,
     )
 answers_of w (command.Save t) i n x w' s e z h same = alone w _ i n x w' s e z h same

@@ -6,11 +6,11 @@ use Rattle.std.proofs.lemmas.List.{length-append, length-drop, take-append-drop}
 use Rattle.oe_theory.specs.World.{World, Commit, IsCommit, IsSerial, bump, total, map_after, version, counts_after}
 use Rattle.oe_theory.specs.World.{counts_at, horizon, newest, at}
 use Rattle.oe_theory.specs.Next as theory
-use Rattle.oe_theory.specs.Next.{Next, Runs, purged, begins, goes_on, commits, saves, goes_back, rolls_back, reads}
+use Rattle.oe_theory.specs.Next.{Next, Runs, after_purge, begins, goes_on, commits, saves, goes_back, rolls_back, reads}
 use Rattle.oe_theory.specs.Next.{audits, purges, rewinds, stops, fails, is_busy, is_full, is_rejected, is_open}
 use Rattle.oe_theory.specs.Next.{number_is_rejected, query_is_rejected, misses, not_open, too_old, future, not_quiet}
 use Rattle.oe_theory.specs.Next.{lacks_memory_at_begin, lacks_memory}
-use Rattle.oe_theory.specs.Theorems.{IsReached, opened}
+use Rattle.oe_theory.specs.Theorems.{IsReached, world_at_opening}
 use Rattle.oe_theory.proofs.Theorems.{opening_is_reached, run_is_reached, history_is_serial, purge_leaves_later}
 use Rattle.oe_rows.specs.declared.layouts.Layout.{Layout}
 use Rattle.oe_model.specs.Rows.{Rows}
@@ -29,7 +29,7 @@ purged_step w _ _ _ m n i a = cc
 
 -- a step purges, or leaves the base
 purges_or_not : (w v : World system) (i : theory.Step system) (a : theory.Answer system) → Next system w i a v
-    → ((m : ℕ) × (horizon system w ≤ m) × (m ≤ newest system w) × (a ≡ theory.Purged m) × (v ≡ purged system w m))
+    → ((m : ℕ) × (horizon system w ≤ m) × (m ≤ newest system w) × (a ≡ theory.Purged m) × (v ≡ after_purge system w m))
     ⊎ ((v.base ≡ w.base) × (v.counts ≡ w.counts))
 purges_or_not w _ _ _ (begins t q m) = inr (refl, refl)
 purges_or_not w _ _ _ (goes_on t o c p e g r room) = inr (refl, refl)
@@ -101,7 +101,7 @@ record HasPast (b : Rows) (w : World system) : Type 0 where
   left : Leaves (λ _. 0) b past w.base
   counts : w.counts ≡ counts_after system (λ _. 0) past
 
-begins_so : (b : Rows) (n : ℕ) (l : Layout) → HasPast b (opened system b n l)
+begins_so : (b : Rows) (n : ℕ) (l : Layout) → HasPast b (world_at_opening system b n l)
 begins_so b n l = record { past = []; number = sym (total_none system.terminal_limit); left = refl; counts = refl }
 
 -- a moment's commits, those that were forgotten too
@@ -146,13 +146,13 @@ kept_past b w v p same = record {
 }
 
 purged_past : (b : Rows) (w : World system) (m : ℕ) → HasPast b w → IsReached system w → (l : horizon system w ≤ m)
-    → (u : m ≤ newest system w) → HasPast b (purged system w m)
+    → (u : m ≤ newest system w) → HasPast b (after_purge system w m)
 purged_past b w m p made l u =
     let kept = kept_to b w p made m l u in
     record {
       past = kept ++ p.past;
       number = number_to b w p made m l u ∙ sym
-          (purge_leaves_later system laws w (purged system w m) m made (purges m l u)).0;
+          (purge_leaves_later system laws w (after_purge system w m) m made (purges m l u)).0;
       left = left_to b w p made m l u;
       counts = ap (λ f. counts_after system f kept) p.counts ∙ sym (counts_append (λ _. 0) kept p.past);
     }
@@ -178,5 +178,5 @@ pub version_at : (w : World system) (m : ℕ) (made : IsReached system w) → ho
 version_at w m made l u =
     let first = opening_is_reached system laws made.base made.extents made.layout made.good in
     is_version made.base w
-    (run_past made.base (opened system made.base made.extents made.layout) w made.steps made.answers
+    (run_past made.base (world_at_opening system made.base made.extents made.layout) w made.steps made.answers
     (begins_so made.base made.extents made.layout) first made.run) made m l u

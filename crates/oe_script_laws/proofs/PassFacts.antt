@@ -2,7 +2,7 @@
 use Rattle.std.proofs.Common.{◌≡◌, ℕ, zero, suc, ◌+◌, None, Some, List, [], ◌∷◌, ◌++◌, length, refl, sym, ap, ◌∙◌}
 use Rattle.std.proofs.Common.{subst, inl, inr, append_assoc, arith}
 use Rattle.oe_theory.specs.World.{World}
-use Rattle.oe_theory.specs.Theorems.{IsReached, opened}
+use Rattle.oe_theory.specs.Theorems.{IsReached, world_at_opening}
 use Rattle.oe_theory.proofs.Sets.{some_inj}
 use Rattle.oe_theory.proofs.Theorems.{opening_is_reached}
 use Rattle.oe_rows.specs.declared.scales.Scale.{Scale}
@@ -22,7 +22,7 @@ use Rattle.oe_core.specs.Steps.{step_in, answer_in}
 use Rattle.oe_runs.specs.Run.{Served, Ran}
 use Rattle.oe_runs.proofs.RunFacts.{ran_so, still_reached}
 use Rattle.oe_script.specs.Script.{State, RunOfLines}
-use Rattle.oe_script_laws.specs.Deeds.{Deed, No_form, Opening, Shown, Steps, Entry, Takes, Was, Passed, repeated}
+use Rattle.oe_script_laws.specs.Deeds.{Deed, No_form, Opening, Shown, Steps, Entry, Takes, Was, Passed, repeats_then}
 use Rattle.oe_script_laws.specs.Deeds.{steps_in_deed, answers_in_deed, steps_of, answers_of}
 use Rattle.oe_script_laws.specs.Laws.{IsReachedState, Worlds_are_reached, IsOneRun, Scripts_are_runs}
 use Rattle.oe_script_laws.proofs.DeedFacts.{lines_are_deeds}
@@ -48,7 +48,7 @@ takes_reached (suc n) w i x w' r (mid, more, h) = takes_reached n mid i x w'
     (still_reached w mid (step_in i) (answer_in i answer.More) r more) h
 
 pub opened_reached : (scale : Scale) (ring : RingChoice) (r : Rows) → IsScale scale → IsPopulated scale r
-    → IsReached system (opened system r ring.extents (layout_of ring))
+    → IsReached system (world_at_opening system r ring.extents (layout_of ring))
 opened_reached scale ring r h p = opening_is_reached system laws r ring.extents (layout_of ring)
     (population_is_good r (population_is_one.is_population scale r h p))
 
@@ -124,7 +124,7 @@ served_append w v w' (i ∷ is) js [] zs e h = absurd e
 served_append w v w' (i ∷ is) js (a ∷ ys) zs (next, n, r) h = (next, n, served_append next v w' is js ys zs r h)
 
 served_taken : (n : ℕ) (w : World system) (i : Step) (x : Answer) (w' : World system) → Takes n w i x w'
-    → Served w (repeated n i i) (repeated n answer.More x) w'
+    → Served w (repeats_then n i i) (repeats_then n answer.More x) w'
 served_taken zero w i x w' h = (w', h, refl)
 served_taken (suc n) w i x w' (mid, more, h) = (mid, more, served_taken n mid i x w' h)
 
@@ -153,7 +153,7 @@ served w (Some u) (e ∷ es) s z (mid, was, rest) = go e.deed was (λ v same. se
     go (Steps n i x) (c, w', asks, e, k, h, same) more =
         let here : u ≡ w = some_inj u w z in
         served_from w w' _ _ mid es s same
-        (subst (λ (v : World system). Served v (repeated n i i) (repeated n answer.More x) w') here
+        (subst (λ (v : World system). Served v (repeats_then n i i) (repeats_then n answer.More x) w') here
         (served_taken n u i x w' h)) more
 
 from_world : (w : World system) (es : List Entry) (s : State) → IsReached system w → Passed (Some w) es s
@@ -183,11 +183,12 @@ earlier e es mid w was closed r =
 opened_here : (e : Entry) (es : List Entry) (mid : State) (w : World system) (scale : Scale) (ring : RingChoice)
     (rows : Rows)
     → Says e.line (command.Open scale ring)
-    → IsPopulated scale rows → mid ≡ Some (opened system rows ring.extents (layout_of ring)) → Passed mid es (Some w)
+    → IsPopulated scale rows → mid ≡ Some (world_at_opening system rows ring.extents (layout_of ring))
+    → Passed mid es (Some w)
     → IsOneRun (e ∷ es) w
 opened_here e es mid w scale ring rows says populated same p =
     let r = opened_reached scale ring rows says.form.0 populated in
-    let (v, is, ran) = from_world (opened system rows ring.extents (layout_of ring)) es (Some w) r
+    let (v, is, ran) = from_world (world_at_opening system rows ring.extents (layout_of ring)) es (Some w) r
     (subst (λ (z : State). Passed z es (Some w)) same p) in
     record {
       before = [];
@@ -201,7 +202,8 @@ opened_here e es mid w scale ring rows says populated same p =
       populated = populated;
       closed = refl;
       ran = subst
-          (λ (z : World system). Ran (opened system rows ring.extents (layout_of ring)) (steps_of es) (answers_of es) z)
+          (λ (z : World system). Ran (world_at_opening system rows ring.extents (layout_of ring)) (steps_of es)
+          (answers_of es) z)
           (sym (some_inj w v is)) ran;
     }
 

@@ -7,7 +7,7 @@ use Rattle.oe_theory.specs.Next.{Next, IsQuiet, IsPast, count_open, begins, goes
 use Rattle.oe_theory.specs.Next.{rolls_back, reads, audits, purges, rewinds, stops, fails, is_busy, is_full}
 use Rattle.oe_theory.specs.Next.{is_rejected, is_open, number_is_rejected, query_is_rejected, misses, not_open, too_old}
 use Rattle.oe_theory.specs.Next.{future, not_quiet, lacks_memory_at_begin, lacks_memory}
-use Rattle.oe_theory.specs.Theorems.{IsReached, opened}
+use Rattle.oe_theory.specs.Theorems.{IsReached, world_at_opening}
 use Rattle.oe_theory.proofs.Sets.{some_inj, some_none}
 use Rattle.oe_theory.proofs.Theorems.{rewind_restores}
 use Rattle.oe_requests.specs.declared.refusals.Refusal.TheVariants as refusal
@@ -53,7 +53,7 @@ unpurged b w v (i ∷ is) (x ∷ ys) (good, (mid, next, ends, past, rest)) h =
 of_population : (es : List Entry) (w : World system) (r : IsOneRun es w) → AreUnpurged (answers_of r.after)
     → (w.base ≡ r.rows) × (horizon system w ≡ 0)
 of_population es w r h =
-    let same = unpurged r.rows (opened system r.rows r.ring.extents (layout_of r.ring)) w (steps_of r.after)
+    let same = unpurged r.rows (world_at_opening system r.rows r.ring.extents (layout_of r.ring)) w (steps_of r.after)
     (answers_of r.after) r.ran.whole h
     in
     (same.0, ap (total system.terminal_limit) same.1 ∙ total_none system.terminal_limit)

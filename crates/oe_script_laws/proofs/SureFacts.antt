@@ -6,7 +6,7 @@ use Rattle.std.specs.List.{All, flat_map}
 use Rattle.std.proofs.lemmas.List.Elements.{All-head, All-tail}
 use Rattle.oe_theory.specs.Next as theory
 use Rattle.oe_theory.specs.Next.{Next}
-use Rattle.oe_theory.specs.Theorems.{opened}
+use Rattle.oe_theory.specs.Theorems.{world_at_opening}
 use Rattle.oe_theory.specs.World.{World}
 use Rattle.oe_theory.proofs.Determined.{determined}
 use Rattle.oe_theory.proofs.Sets.{some_inj}
@@ -24,7 +24,7 @@ use Rattle.oe_lines.specs.declared.commands.Command.{Command}
 use Rattle.oe_lines.specs.declared.commands.Command.TheVariants as command
 use Rattle.oe_lines.specs.declared.commands.Display.{Display}
 use Rattle.oe_core.specs.Steps.{step_in, answer_in}
-use Rattle.oe_script.specs.Script.{State, shown_text, Opens, Answers, IsInLine, ended, last_text, Output}
+use Rattle.oe_script.specs.Script.{State, shown_text, Opens, Answers, IsInLine, with_line_end, last_text, Output}
 use Rattle.oe_script.proofs.LineFacts.{one_command}
 use Rattle.oe_script_laws.specs.Deeds.{Deed, No_form, Opening, Shown, Steps, Entry, step_of, IsUpTo, Takes, Was, Passed}
 use Rattle.oe_script_laws.specs.Deeds.{lines_of, texts_of}
@@ -103,8 +103,11 @@ opens_once : (scale : Scale) (ring : RingChoice) (t t' : List ℕ) (s₁ s₂ : 
     → t ≢ answer_line (answer.Refused refusal.NoMemory) → t' ≢ answer_line (answer.Refused refusal.NoMemory)
     → AreOne (Opening t) s₁ (Opening t') s₂
 opens_once scale ring t t' s₁ s₂ (inl (r, p, e, same)) (inl (r', p', e', same')) a b =
-    let one : r ≡ r' = same_rows r r' (λ k. p k ∙ sym (p' k)) in
-    (ap Opening (e ∙ sym e'), same ∙ (ap (λ z. Some (opened system z ring.extents (layout_of ring))) one ∙ sym same'))
+    let one : r ≡ r' = same_rows r r' (λ k. p k ∙ sym (p' k)) in (
+      ap Opening (e ∙ sym e'),
+      same ∙ (ap (λ z. Some (world_at_opening system z ring.extents (layout_of ring))) one
+          ∙ sym same'),
+    )
 opens_once scale ring t t' s₁ s₂ (inl h) (inr (e, same)) a b = absurd (b e)
 opens_once scale ring t t' s₁ s₂ (inr (e, same)) h a b = absurd (a e)
 
@@ -184,21 +187,22 @@ no_end : (xs more : List ℕ) → IsInLine (xs ++ 10 ∷ more) → ⊥
 no_end [] more h = All-head (λ b. b ≢ 10) 10 more h refl
 no_end (x ∷ xs) more h = no_end xs more (All-tail (λ b. b ≢ 10) x (xs ++ 10 ∷ more) h)
 
-spread : (l : List ℕ) (ls : List (List ℕ)) (last : List ℕ) → flat_map ended (l ∷ ls) ++ last ≡ l
-    ++ 10 ∷ (flat_map ended ls ++ last)
-spread l ls last = append_assoc (l ++ 10 ∷ []) (flat_map ended ls) last
-    ∙ append_assoc l (10 ∷ []) (flat_map ended ls ++ last)
+spread : (l : List ℕ) (ls : List (List ℕ)) (last : List ℕ) → flat_map with_line_end (l ∷ ls) ++ last ≡ l
+    ++ 10 ∷ (flat_map with_line_end ls ++ last)
+spread l ls last = append_assoc (l ++ 10 ∷ []) (flat_map with_line_end ls) last
+    ∙ append_assoc l (10 ∷ []) (flat_map with_line_end ls ++ last)
 
 input_once : (ls ms : List (List ℕ)) (last end : List ℕ) → All IsInLine ls → All IsInLine ms → IsInLine last
     → IsInLine end
-    → flat_map ended ls ++ last ≡ flat_map ended ms ++ end → (ls ≡ ms) × (last ≡ end)
+    → flat_map with_line_end ls ++ last ≡ flat_map with_line_end ms ++ end → (ls ≡ ms) × (last ≡ end)
 input_once [] [] last end p q a b e = (refl, e)
 input_once [] (m ∷ ms) last end p q a b e =
-    absurd (no_end m (flat_map ended ms ++ end) (subst IsInLine (e ∙ spread m ms end) a))
+    absurd (no_end m (flat_map with_line_end ms ++ end) (subst IsInLine (e ∙ spread m ms end) a))
 input_once (l ∷ ls) [] last end p q a b e =
-    absurd (no_end l (flat_map ended ls ++ last) (subst IsInLine (sym e ∙ spread l ls last) b))
+    absurd (no_end l (flat_map with_line_end ls ++ last) (subst IsInLine (sym e ∙ spread l ls last) b))
 input_once (l ∷ ls) (m ∷ ms) last end p q a b e =
-    let first = ended_once l m (flat_map ended ls ++ last) (flat_map ended ms ++ end) (All-head IsInLine l ls p)
+    let first = ended_once l m (flat_map with_line_end ls ++ last) (flat_map with_line_end ms ++ end)
+    (All-head IsInLine l ls p)
     (All-head IsInLine m ms q) (sym (spread l ls last) ∙ (e ∙ spread m ms end)) in
     let rest = input_once ls ms last end (All-tail IsInLine l ls p) (All-tail IsInLine m ms q) a b first.1 in
     (ap (λ z. z ∷ ls) first.0 ∙ ap (λ z. m ∷ z) rest.0, rest.1)

@@ -14,7 +14,7 @@ use Rattle.oe_lines.specs.declared.commands.Command.TheVariants as command
 use Rattle.oe_lines.specs.declared.commands.Display.{Display}
 use Rattle.oe_core.specs.Steps.{step_in, answer_in}
 use Rattle.oe_io.specs.Lines.{bad_line}
-use Rattle.oe_script.specs.Script.{State, moment_in, told, Answers, Asks}
+use Rattle.oe_script.specs.Script.{State, moment_in, step_answer, Answers, Asks}
 
 -- what a line was: none of the forms; an opening, or what it showed, with its text; or n times a step that was answered
 -- `more`, as a `run` has it, and then that step with this answer
@@ -80,7 +80,7 @@ abbrev pub text_of : ℕ → Deed → List ℕ
 text_of n No_form = bad_line n
 text_of n (Opening text) = text
 text_of n (Shown text) = text
-text_of n (Steps k i x) = told i x
+text_of n (Steps k i x) = step_answer i x
 
 -- the lines, and their answers where n lines came before
 abbrev pub lines_of : List Entry → List (List ℕ)
@@ -92,21 +92,21 @@ texts_of n [] = []
 texts_of n (e ∷ es) = text_of (n + 1) e.deed ++ texts_of (n + 1) es
 
 -- the steps of the machine that they were, and their answers
-abbrev pub repeated : {A : Type 0} → ℕ → A → A → List A
-repeated zero x last = last ∷ []
-repeated (suc n) x last = x ∷ repeated n x last
+abbrev pub repeats_then : {A : Type 0} → ℕ → A → A → List A
+repeats_then zero x last = last ∷ []
+repeats_then (suc n) x last = x ∷ repeats_then n x last
 
 abbrev pub steps_in_deed : Deed → List Step
 steps_in_deed No_form = []
 steps_in_deed (Opening text) = []
 steps_in_deed (Shown text) = []
-steps_in_deed (Steps n i x) = repeated n i i
+steps_in_deed (Steps n i x) = repeats_then n i i
 
 abbrev pub answers_in_deed : Deed → List Answer
 answers_in_deed No_form = []
 answers_in_deed (Opening text) = []
 answers_in_deed (Shown text) = []
-answers_in_deed (Steps n i x) = repeated n answer.More x
+answers_in_deed (Steps n i x) = repeats_then n answer.More x
 
 abbrev pub steps_of : List Entry → List Step
 steps_of [] = []

@@ -5,7 +5,7 @@ use Rattle.oe_theory.specs.Machine.{Outcome, Here, Missing}
 use Rattle.oe_theory.specs.World.{World, counts_at, horizon, newest, at, tables}
 use Rattle.oe_theory.specs.Next as theory
 use Rattle.oe_theory.specs.Next.{Next, IsQuiet}
-use Rattle.oe_theory.specs.Theorems.{IsReached, opened}
+use Rattle.oe_theory.specs.Theorems.{IsReached, world_at_opening}
 use Rattle.oe_rows.specs.declared.scales.Scale.{Scale}
 use Rattle.oe_requests.specs.declared.refusals.Refusal.{Refusal}
 use Rattle.oe_requests.specs.declared.refusals.Refusal.TheVariants as refusal
@@ -39,7 +39,7 @@ use Rattle.oe_texts.specs.Answer.{answer_line, audit_line}
 use Rattle.oe_script.specs.declared.session.ScriptFault.TheVariants as fault
 use Rattle.oe_io.specs.Ports.{Source, Sink}
 use Rattle.oe_script.specs.Session.{ScriptRan}
-use Rattle.oe_script.specs.Script.{State, moment_in, Asks, LineAnswer, RunOfLines, ended, last_text, Output}
+use Rattle.oe_script.specs.Script.{State, moment_in, Asks, LineAnswer, RunOfLines, with_line_end, last_text, Output}
 use Rattle.oe_script_laws.specs.Deeds.{Deed, No_form, Opening, Shown, Steps, Entry, Passed, lines_of, texts_of}
 use Rattle.oe_script_laws.specs.Deeds.{steps_of}
 use Rattle.oe_script_laws.specs.Deeds.{answers_of}
@@ -170,7 +170,7 @@ pub record IsOneRun (es : List Entry) (w : World system) : Type 0 where
   pub says : Says opening.line (command.Open scale ring)
   pub populated : IsPopulated scale rows
   pub closed : Passed None before None
-  pub ran : Ran (opened system rows ring.extents (layout_of ring)) (steps_of after) (answers_of after) w
+  pub ran : Ran (world_at_opening system rows ring.extents (layout_of ring)) (steps_of after) (answers_of after) w
 
 pub record Scripts_are_runs : Type 0 where
   -- of a whole script
@@ -236,7 +236,7 @@ Lines_without_rollback =
 abbrev pub IsBegun : State → Type 0
 IsBegun None = Unit {0}
 IsBegun (Some w) =
-    (r : Rows) × (extents : ℕ) × (layout : Layout) × IsPopulation r × (w ≡ opened system r extents layout)
+    (r : Rows) × (extents : ℕ) × (layout : Layout) × IsPopulation r × (w ≡ world_at_opening system r extents layout)
 
 -- these are the lines of an output, and its answers
 pub record IsOutputOf (begun : State) (input out : List ℕ) (o : Output begun input out) (es : List Entry) : Type
@@ -257,7 +257,7 @@ Outputs_without_rollback =
     → IsOutputOf begun input out o (before ++ first ∷ after) → first.deed ≡ Steps 0 (step.Begin t q) answer.Begun
     → is_rolled_back t after ≡ true
     → (left : List Entry) × Without t after left
-    × OutputTo begun (flat_map ended (lines_of (before ++ left)) ++ o.last)
+    × OutputTo begun (flat_map with_line_end (lines_of (before ++ left)) ++ o.last)
     (texts_of 0 (before ++ left) ++ last_text (length (lines_of (before ++ left)) + 1) o.last) o.state
 
 -- the line was not refused memory

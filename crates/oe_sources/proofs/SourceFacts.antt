@@ -13,18 +13,18 @@ use Rattle.oe_sources.specs.declared.ledgers.Taken as taken
 use Rattle.oe_sources.specs.declared.readings.Reading.{Reading}
 use Rattle.oe_sources.specs.declared.lines.SoFar as lines
 use Rattle.oe_sources.specs.Dump as dump
-use Rattle.oe_sources.specs.Fault.{Told, capped, pushed, each_pushed}
+use Rattle.oe_sources.specs.Fault.{Told, in_64_bits, with_fault, with_each_fault}
 use Rattle.oe_sources.specs.Reading.{Says, Nothing, Row, Fault, step, long_says}
-use Rattle.oe_sources.specs.Taken.{Got, Spelled, spelled, rows_said, faults_said}
+use Rattle.oe_sources.specs.Taken.{Got, Spelled, spelling, rows_said, faults_said}
 use Rattle.oe_sources.specs.Tables.{Read, begun_read, next, all_next, Stands, StandsBehind, file_step}
 use Rattle.oe_sources.specs.Text.{text_of}
 
 -- ---- what was taken
 
 each_push : (fs : List SourceFault) (f : SourceFault) (t : Told)
-    → each_pushed (fs ++ f ∷ []) t ≡ pushed f (each_pushed fs t)
+    → with_each_fault (fs ++ f ∷ []) t ≡ with_fault f (with_each_fault fs t)
 each_push [] f t = refl
-each_push (g ∷ fs) f t = each_push fs f (pushed g t)
+each_push (g ∷ fs) f t = each_push fs f (with_fault g t)
 
 module _ {L B : Type 0} (holds : B → L → List RowFact → Type 0) (start : taken.Taken L) where
   pub got_as : (rows rows' : List Spelled) (faults faults' : List SourceFault) (now : taken.Taken L)
@@ -33,7 +33,7 @@ module _ {L B : Type 0} (holds : B → L → List RowFact → Type 0) (start : t
     facts = g.facts;
     are = g.are ∙ e;
     held = g.held;
-    told = g.told ∙ ap (λ fs. each_pushed fs start.faults) f;
+    told = g.told ∙ ap (λ fs. with_each_fault fs start.faults) f;
   }
 
   pub got_none : Got holds start [] [] start
@@ -60,19 +60,19 @@ module _ {L B : Type 0} (holds : B → L → List RowFact → Type 0) (start : t
       → Got holds start (rows ++ rows_said s) (faults ++ faults_said t n s) now
   got_row rows faults old now t n s f e same takes g = record {
     facts = g.facts ++ f ∷ [];
-    are = map-append spelled g.facts (f ∷ []) ∙ ap (λ rs. rs ++ spelled f ∷ []) g.are
+    are = map-append spelling g.facts (f ∷ []) ∙ ap (λ rs. rs ++ spelling f ∷ []) g.are
         ∙ sym (ap (λ s. rows ++ rows_said s) e);
     held = λ begun before h.
         subst (λ fs. holds begun now.ledger fs) (append_assoc before g.facts (f ∷ []))
         (takes begun (before ++ g.facts) (g.held begun before h));
     told = same ∙ g.told
-        ∙ sym (ap (λ fs. each_pushed fs start.faults)
+        ∙ sym (ap (λ fs. with_each_fault fs start.faults)
         (ap (λ s. faults ++ faults_said t n s) e ∙ append-nil faults));
   }
 
   pub got_fault : (rows : List Spelled) (faults : List SourceFault) (old now : taken.Taken L) (t : Table)
       (n : ℕ) (s : Says) (w : Wrong) (text : List ℕ) → s ≡ Fault w text → now.ledger ≡ old.ledger
-      → now.faults ≡ pushed (record { table = t; line = n; wrong = w; text = text }) old.faults
+      → now.faults ≡ with_fault (record { table = t; line = n; wrong = w; text = text }) old.faults
       → Got holds start rows faults old
       → Got holds start (rows ++ rows_said s) (faults ++ faults_said t n s) now
   got_fault rows faults old now t n s w text e same push g =
@@ -81,8 +81,8 @@ module _ {L B : Type 0} (holds : B → L → List RowFact → Type 0) (start : t
         facts = g.facts;
         are = g.are ∙ sym (ap (λ s. rows ++ rows_said s) e ∙ append-nil rows);
         held = λ begun before h. subst (λ l. holds begun l (before ++ g.facts)) (sym same) (g.held begun before h);
-        told = push ∙ ap (pushed f) g.told ∙ sym (each_push faults f start.faults)
-            ∙ sym (ap (λ s. each_pushed (faults ++ faults_said t n s) start.faults) e);
+        told = push ∙ ap (with_fault f) g.told ∙ sym (each_push faults f start.faults)
+            ∙ sym (ap (λ s. with_each_fault (faults ++ faults_said t n s) start.faults) e);
       }
 
 -- ---- the next line
@@ -123,7 +123,7 @@ module _ (line_step : ℕ → Reading → List ℕ → Reading × Says) where
 
   module _ {L B : Type 0} (holds : B → L → List RowFact → Type 0) (start : lines.SoFar L) where
     next_stands : (r : Read) (line : List ℕ) (old now : lines.SoFar L) (t : Table) (n : ℕ) (s : Says)
-        → t ≡ now.reading.table → n ≡ capped (old.count + 1) → now.reading ≡ (line_step n old.reading line).0
+        → t ≡ now.reading.table → n ≡ in_64_bits (old.count + 1) → now.reading ≡ (line_step n old.reading line).0
         → now.count ≡ n
         → s ≡ (line_step n old.reading line).1
         → ((start : taken.Taken L) (rows : List Spelled) (faults : List SourceFault)
@@ -131,8 +131,8 @@ module _ (line_step : ℕ → Reading → List ℕ → Reading × Says) where
         → Got holds start (rows ++ rows_said s) (faults ++ faults_said t n s) now.taken)
         → Stands line_step holds start r old → Stands line_step holds start (next line_step r line) now
     next_stands r line old now t n s of_table h reading count said takes stands =
-        let m = capped (r.count + 1) in
-        let en : n ≡ m = h ∙ ap (λ k. capped (k + 1)) stands.count in
+        let m = in_64_bits (r.count + 1) in
+        let en : n ≡ m = h ∙ ap (λ k. in_64_bits (k + 1)) stands.count in
         let es : line_step n old.reading line ≡ line_step m r.reading line =
         ap (λ k. line_step k old.reading line) en ∙ ap (λ rd. line_step m rd line) stands.reading in
         let same : s ≡ (line_step m r.reading line).1 = said ∙ ap (λ (p : Reading × Says). p.1) es in
@@ -151,7 +151,7 @@ module _ (line_step : ℕ → Reading → List ℕ → Reading × Says) where
         }
 
     pub line_stands : (ls : List (List ℕ)) (line : List ℕ) (old now : lines.SoFar L) (t : Table) (n : ℕ) (s : Says)
-        → t ≡ now.reading.table → n ≡ capped (old.count + 1) → now.reading ≡ (line_step n old.reading line).0
+        → t ≡ now.reading.table → n ≡ in_64_bits (old.count + 1) → now.reading ≡ (line_step n old.reading line).0
         → now.count ≡ n
         → s ≡ (line_step n old.reading line).1
         → ((start : taken.Taken L) (rows : List Spelled) (faults : List SourceFault)

@@ -36,12 +36,12 @@ opened_by wanted t text (Err e) = (begun_at t wanted Tabs Lost, fault_says (wron
 
 -- a section of the table is open, whose columns the statement names; where they can't be told, its lines are passed
 -- over
-abbrev pub opened : Wanted → Table → List ℕ → List ℕ → Reading × Says
-opened wanted t columns text = opened_by wanted t text (stated_layout wanted t (fields_of Commas columns))
+abbrev pub section_of : Wanted → Table → List ℕ → List ℕ → Reading × Says
+section_of wanted t columns text = opened_by wanted t text (stated_layout wanted t (fields_of Commas columns))
 
 abbrev pub statement_by : Reading → List ℕ → Option (Table × List ℕ) → Reading × Says
 statement_by r text None = (r, Nothing)
-statement_by r text (Some s) = opened r.wanted s.0 s.1 text
+statement_by r text (Some s) = section_of r.wanted s.0 s.1 text
 
 -- a line that stands in no section
 unfoldable pub statement_step : Reading → List ℕ → Reading × Says

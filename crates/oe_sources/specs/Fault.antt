@@ -26,20 +26,20 @@ abbrev pub no_faults : Told
 no_faults = record { kept = []; counts = replicate 9 0 }
 
 -- a count, as 64 bits hold it
-abbrev pub capped : ℕ → ℕ
-capped n = min n (2 ^ 64 - 1)
+abbrev pub in_64_bits : ℕ → ℕ
+in_64_bits n = min n (2 ^ 64 - 1)
 
 -- one fault more: it is kept where fewer than three of its table stand before it
-abbrev pub pushed : SourceFault → Told → Told
-pushed f t =
+abbrev pub with_fault : SourceFault → Told → Told
+with_fault f t =
     let at = place_of f.table in
     let count = slice_index t.counts at in
     record {
       kept = if nat_lt count KEPT then t.kept ++ f ∷ [] else t.kept;
-      counts = slice_set t.counts at (capped (count + 1));
+      counts = slice_set t.counts at (in_64_bits (count + 1));
     }
 
 -- these faults more, one after another
-abbrev pub each_pushed : List SourceFault → Told → Told
-each_pushed [] t = t
-each_pushed (f ∷ fs) t = each_pushed fs (pushed f t)
+abbrev pub with_each_fault : List SourceFault → Told → Told
+with_each_fault [] t = t
+with_each_fault (f ∷ fs) t = with_each_fault fs (with_fault f t)

@@ -42,30 +42,30 @@ abbrev pub behind_point : List ℕ → List ℕ
 behind_point name = second_or (parted_at 46 name) name
 
 -- without `bmsql_` before it
-unfoldable pub unprefixed : List ℕ → List ℕ
-unprefixed name =
+unfoldable pub without_prefix : List ℕ → List ℕ
+without_prefix name =
     if nat_lt (length name) 6 then name
     else if is_same (take 6 name) (codes "bmsql_") then drop 6 name
     else name
 
 -- the table of a name in a statement
 unfoldable pub table_named : List ℕ → Option Table
-table_named name = lookup names (unprefixed (bare (behind_point name)))
+table_named name = lookup names (without_prefix (bare (behind_point name)))
 
 unfoldable pub is_ending : List ℕ → Bool
 is_ending s =
     is_same s (codes ".txt") || (is_same s (codes ".tbl") || (is_same s (codes ".tsv") || is_same s (codes ".csv")))
 
 -- a file's name without its ending
-unfoldable pub unended : List ℕ → List ℕ
-unended name =
+unfoldable pub without_ending : List ℕ → List ℕ
+without_ending name =
     if nat_lt (length name) 4 then name
     else if is_ending (drop (length name - 4) name) then take (length name - 4) name
     else name
 
 -- the table of a file's name
 unfoldable pub table_of_file : List ℕ → Option Table
-table_of_file name = table_named (unended name)
+table_of_file name = table_named (without_ending name)
 
 -- the table and the columns of `COPY table (columns) FROM stdin;`
 unfoldable pub statement_of : List ℕ → Option (Table × List ℕ)

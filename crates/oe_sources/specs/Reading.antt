@@ -22,7 +22,7 @@ use Rattle.oe_sources.specs.declared.readings.Layout.TheVariants.{Unknown, Known
 use Rattle.oe_sources.specs.declared.readings.Reading.{Reading}
 use Rattle.oe_sources.specs.declared.readings.Said.{Said}
 use Rattle.oe_sources.specs.declared.readings.Said.TheVariants as said
-use Rattle.oe_sources.specs.Fault.{capped}
+use Rattle.oe_sources.specs.Fault.{in_64_bits}
 use Rattle.oe_sources.specs.Text.{is_end, count_of}
 
 -- what a line says: nothing that is kept, a row of the table with these values and this print, or a fault with a text
@@ -53,23 +53,23 @@ abbrev pub row_says : Table → Placed → Option ℕ → Result (List Value) Mi
 row_says t row print (Ok vs) = Row t vs print
 row_says t row print (Err m) = misfit_says row m
 
-abbrev pub placed : List ℕ → List (List ℕ) → Placed
-placed places fields = record { places = places; fields = fields }
+abbrev pub fields_at : List ℕ → List (List ℕ) → Placed
+fields_at places fields = record { places = places; fields = fields }
 
 -- the values of the columns at these places and the print of those that no transaction changes, or the first column
 -- that has no value
 unfoldable pub read_row : Table → Format → (places constants : List ℕ) → List ℕ → Says
 read_row t format places constants text =
-    row_says t (placed places (fields_of format text)) (print_of t (placed constants (fields_of format text)))
-    (values_in t (placed places (fields_of format text)))
+    row_says t (fields_at places (fields_of format text)) (print_of t (fields_at constants (fields_of format text)))
+    (values_in t (fields_at places (fields_of format text)))
 
 abbrev pub begun_at : Table → Wanted → Format → Layout → Reading
 begun_at t wanted format layout =
     record { table = t; wanted = wanted; format = format; layout = layout; rows = 0; is_ended = false }
 
 -- nothing is read yet
-abbrev pub begun : Table → Wanted → Format → Reading
-begun t wanted format = begun_at t wanted format Unknown
+abbrev pub first_reading : Table → Wanted → Format → Reading
+first_reading t wanted format = begun_at t wanted format Unknown
 
 -- no rows are read
 abbrev pub between : Wanted → Reading
@@ -78,7 +78,7 @@ between wanted =
 
 abbrev pub row_by : Reading → List ℕ → Layout → Reading × Says
 row_by r text (Known places constants) =
-    (record r { rows = capped (r.rows + 1) }, read_row r.table r.format places constants text)
+    (record r { rows = in_64_bits (r.rows + 1) }, read_row r.table r.format places constants text)
 row_by r text layout = (r, Nothing)
 
 -- a row, where the places of the columns are known

@@ -10,8 +10,8 @@ use Rattle.oe_sources.specs.declared.ledgers.Taken as taken
 use Rattle.oe_sources.specs.declared.readings.Reading.{Reading}
 use Rattle.oe_sources.specs.declared.lines.SoFar as lines
 use Rattle.oe_sources.specs.declared.tables.TableLines as table
-use Rattle.oe_sources.specs.Fault.{capped, no_faults}
-use Rattle.oe_sources.specs.Reading.{Says, step, long_says, begun}
+use Rattle.oe_sources.specs.Fault.{in_64_bits, no_faults}
+use Rattle.oe_sources.specs.Reading.{Says, step, long_says, first_reading}
 use Rattle.oe_sources.specs.Taken.{Got, Spelled, rows_said, faults_said}
 use Rattle.oe_sources.specs.Text.{text_of}
 
@@ -39,7 +39,7 @@ with_said r n s = record {
 module _ (line_step : ℕ → Reading → List ℕ → Reading × Says) where
   -- the next line
   abbrev pub next : Read → List ℕ → Read
-  next r line = with_said r (capped (r.count + 1)) (line_step (capped (r.count + 1)) r.reading line)
+  next r line = with_said r (in_64_bits (r.count + 1)) (line_step (in_64_bits (r.count + 1)) r.reading line)
 
   -- these lines, one after another
   abbrev pub all_next : Read → List (List ℕ) → Read
@@ -66,7 +66,7 @@ file_step n reading line =
 
 -- what the lines of a table's file say
 abbrev pub table_says : Table → Wanted → Format → List (List ℕ) → Read
-table_says t wanted format lines = all_next file_step (begun_read (begun t wanted format) 0) lines
+table_says t wanted format lines = all_next file_step (begun_read (first_reading t wanted format) 0) lines
 
 abbrev pub TableTaken : {L B : Type 0} → (B → L → List RowFact → Type 0) → table.TableLines L → List (List ℕ)
     → table.TableLines L → Type 0

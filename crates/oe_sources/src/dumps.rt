@@ -3,7 +3,7 @@
 //! fields. All other lines are passed over, and so are sections of other tables. A table may have
 //! more sections than one. A section that is not ended is a fault.
 ghost use Rattle.std.specs.Prelude.{◌≡◌, IfOk};
-ghost use Rattle.oe_sources.specs.Dump.{statement_step, opened, stated_layout, dump_step, dump_long, end_says, DumpTaken, DumpRead};
+ghost use Rattle.oe_sources.specs.Dump.{statement_step, section_of, stated_layout, dump_step, dump_long, end_says, DumpTaken, DumpRead};
 ghost use Rattle.oe_fields.specs.Parting.{fields_of};
 ghost use Rattle.oe_fields.specs.declared.fields.Format.TheVariants.{Commas};
 ghost use Rattle.oe_sources.specs.Reading.{says};
@@ -42,8 +42,8 @@ fn stated_layout(wanted: Wanted, table: Table, columns: &[u8]) -> Result<Layout,
 
 /// Opens a section of the table, whose columns the statement names.
 fn open(reading: &mut Reading, table: Table, columns: &[u8], text: &[u8]) -> Said
-    ensures now { reading.new ≡ (opened reading.old.wanted table columns.now text.now).0 }
-    ensures said { says result ≡ (opened reading.old.wanted table columns.now text.now).1 }
+    ensures now { reading.new ≡ (section_of reading.old.wanted table columns.now text.now).0 }
+    ensures said { says result ≡ (section_of reading.old.wanted table columns.now text.now).1 }
 {
     let wanted = reading.wanted();
     match stated_layout(wanted, table, columns) {

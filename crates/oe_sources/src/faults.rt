@@ -1,6 +1,6 @@
 //! What is wrong with lines. Of each table the first three faults are kept, and all are counted.
 ghost use Rattle.std.specs.Prelude.{◌≡◌, ◌<◌, ◌≤◌, take, length, slice_index, OnOk, IfOk};
-ghost use Rattle.oe_sources.specs.Fault.{place_of, no_faults, pushed};
+ghost use Rattle.oe_sources.specs.Fault.{place_of, no_faults, with_fault};
 
 use arrayvec::ArrayVec;
 use oe_columns::{LayoutFault, Misfit};
@@ -134,7 +134,7 @@ impl Faults {
 
     /// Adds a fault. It is kept where fewer than three of its table stand before it.
     pub(crate) fn push(&mut self, fault: SourceFault) -> Result<(), AllocError>
-        ensures { OnOk result (self.new ≡ pushed fault self.old) }
+        ensures { OnOk result (self.new ≡ with_fault fault self.old) }
     {
         let at = place_of(fault.table);
         let count = self.counts[at];

@@ -3,7 +3,7 @@
 ghost use Rattle.std.specs.Prelude.{◌≡◌, map};
 ghost use Rattle.std.specs.Option.{option_map};
 ghost use Rattle.oe_facts.specs.declared.tables.Table.{Table};
-ghost use Rattle.oe_sources.specs.Name.{is_same, names, lookup, parted_at, behind_point, unprefixed, table_named, is_ending, unended, table_of_file, statement_of};
+ghost use Rattle.oe_sources.specs.Name.{is_same, names, lookup, parted_at, behind_point, without_prefix, table_named, is_ending, without_ending, table_of_file, statement_of};
 
 use crate::texts::{after, before};
 use oe_columns::bare;
@@ -119,9 +119,9 @@ fn behind_point(name: &[u8]) -> &[u8]
 }
 
 /// Gives a name without `bmsql_` before it.
-#[tactic(auto, unfolding(crate::specs::Name::unprefixed))]
+#[tactic(auto, unfolding(crate::specs::Name::without_prefix))]
 fn unprefixed(name: &[u8]) -> &[u8]
-    ensures { result.now ≡ unprefixed name.now }
+    ensures { result.now ≡ without_prefix name.now }
 {
     if name.len() < 6 {
         return name;
@@ -154,9 +154,9 @@ fn is_ending(text: &[u8]) -> bool
 }
 
 /// Gives a file's name without its ending.
-#[tactic(auto, unfolding(crate::specs::Name::unended))]
+#[tactic(auto, unfolding(crate::specs::Name::without_ending))]
 fn unended(name: &[u8]) -> &[u8]
-    ensures { result.now ≡ unended name.now }
+    ensures { result.now ≡ without_ending name.now }
 {
     if name.len() < 4 {
         return name;

@@ -5,7 +5,7 @@
 //! a fault, and the lines behind it are passed over.
 ghost use Rattle.std.specs.Prelude.{◌≡◌};
 ghost use Rattle.oe_fields.specs.Parting.{fields_of};
-ghost use Rattle.oe_sources.specs.Reading.{says, fault_says, misfit_says, read_row, row_step, first_layout, begin_step, count_step, data_step, step, long_says, begun, begun_at, between};
+ghost use Rattle.oe_sources.specs.Reading.{says, fault_says, misfit_says, read_row, row_step, first_layout, begin_step, count_step, data_step, step, long_says, first_reading, begun_at, between};
 
 use crate::faults::{Shown, Wrong};
 use crate::texts::{is_end, said_count};
@@ -93,7 +93,7 @@ fn read_row(
 impl Reading {
     /// Begins to read the rows of a file.
     pub(crate) fn new(table: Table, wanted: Wanted, format: Format) -> Reading
-        ensures { result ≡ begun table wanted format }
+        ensures { result ≡ first_reading table wanted format }
     {
         Reading {
             table,

@@ -18,7 +18,7 @@ use Rattle.oe_rows.specs.declared.keys.CustomerKey.{CustomerKey}
 use Rattle.oe_rows.specs.declared.customers.Customer.{Customer}
 use Rattle.oe_rows.proofs.KeyFacts.{district_total, exact_district, customer_total, exact_customer}
 use Rattle.oe_model.specs.Keys.{district_of_customer}
-use Rattle.oe_model.specs.Choice.{named, namesakes, comes_before, middle}
+use Rattle.oe_model.specs.Choice.{first_name_of, namesakes, comes_before, middle}
 use Rattle.oe_model.proofs.MapFacts.{is_same}
 use Rattle.oe_model.proofs.EntryFacts.{EachOf, each_of, kept_at}
 use Rattle.oe_store.specs.Places.{entries_of, IsSound, rows, Places}
@@ -55,12 +55,13 @@ module _ {X Y : Type 0} (f : X → Option Y) where
       by (Some y) h = omega arith
 
 pub of_district : (h : DistrictKey) (last : List ℕ) (m : FinMap customer_cmp Customer)
-    → filter_map (λ e. named h last e.0 e.1) (entries_of district_cmp district_of_customer h m) ≡ namesakes h last m
+    → filter_map (λ e. first_name_of h last e.0 e.1) (entries_of district_cmp district_of_customer h m)
+    ≡ namesakes h last m
 of_district h last m =
-    ap (filter_map (λ e. named h last e.0 e.1))
+    ap (filter_map (λ e. first_name_of h last e.0 e.1))
     (sym (kept_alike customer_total exact_customer m (λ k. eq_by_cmp district_cmp (district_of_customer k) h)
     (λ k. eq_by_cmp district_cmp (district_of_customer k) h) (λ k x e. refl)))
-    ∙ kept_only (λ e. named h last e.0 e.1) (λ e. eq_by_cmp district_cmp (district_of_customer e.0) h)
+    ∙ kept_only (λ e. first_name_of h last e.0 e.1) (λ e. eq_by_cmp district_cmp (district_of_customer e.0) h)
     (λ e t. ap (λ b. cond {A = Option (List ℕ × ℕ)} (b && eq_by_cmp (slice_cmp nat_cmp) e.1.name.last last)
     (Some (e.1.name.first, e.0.customer)) None) t) (entries m)
 
@@ -128,33 +129,36 @@ module _ (h : DistrictKey) where
       → ((k : CustomerKey) → IsSome (get m k) → IsInRange 1 3_000 k.customer) → length (namesakes h last m) ≤ 3_000
   few last m numbered =
       let rows : length (entries_of district_cmp district_of_customer h m) ≤ 3_000 = few_rows m numbered in
-      let names : length (filter_map (λ e. named h last e.0 e.1) (entries_of district_cmp district_of_customer h m))
+      let names : length (filter_map (λ e. first_name_of h last e.0 e.1)
+      (entries_of district_cmp district_of_customer h m))
       ≤ length (entries_of district_cmp district_of_customer h m) =
-      no_more (λ e. named h last e.0 e.1) (entries_of district_cmp district_of_customer h m) in
-      let less : length (filter_map (λ e. named h last e.0 e.1) (entries_of district_cmp district_of_customer h m))
+      no_more (λ e. first_name_of h last e.0 e.1) (entries_of district_cmp district_of_customer h m) in
+      let less : length (filter_map (λ e. first_name_of h last e.0 e.1)
+      (entries_of district_cmp district_of_customer h m))
       ≤ 3_000 = omega arith in
       subst (λ (ps : List (List ℕ × ℕ)). length ps ≤ 3_000) (of_district h last m) less
 
 -- a loop's walk meets what the walk that it is made of meets
 pub met : (h : DistrictKey) (last : List ℕ) {es walk : List (CustomerKey × Customer)} {xs : List (List ℕ × ℕ)}
-    → es ≡ walk → filter_map (λ e. named h last e.0 e.1) walk ≡ xs
-    → filter_map (λ e. named h last e.0 e.1) es ≡ xs
-met h last is all = ap (filter_map (λ e. named h last e.0 e.1)) is ∙ all
+    → es ≡ walk → filter_map (λ e. first_name_of h last e.0 e.1) walk ≡ xs
+    → filter_map (λ e. first_name_of h last e.0 e.1) es ≡ xs
+met h last is all = ap (filter_map (λ e. first_name_of h last e.0 e.1)) is ∙ all
 
 -- walks begin with all namesakes
 module _ (h : DistrictKey) (last : List ℕ) (m : FinMap customer_cmp Customer) (es : List (CustomerKey × Customer))
-    (all_taken : filter_map (λ e. named h last e.0 e.1) es ≡ namesakes h last m) where
-  pub count_starts : 0 + length (filter_map (λ e. named h last e.0 e.1) es) ≡ length (namesakes h last m)
-  count_starts = zero-add (length (filter_map (λ e. named h last e.0 e.1) es)) ∙ ap length all_taken
+    (all_taken : filter_map (λ e. first_name_of h last e.0 e.1) es ≡ namesakes h last m) where
+  pub count_starts : 0 + length (filter_map (λ e. first_name_of h last e.0 e.1) es) ≡ length (namesakes h last m)
+  count_starts = zero-add (length (filter_map (λ e. first_name_of h last e.0 e.1) es)) ∙ ap length all_taken
 
-  pub rank_starts : (p : List ℕ × ℕ → Bool) → 0 + count_by p (filter_map (λ e. named h last e.0 e.1) es) ≡ count_by p
+  pub rank_starts : (p : List ℕ × ℕ → Bool) → 0 + count_by p (filter_map (λ e. first_name_of h last e.0 e.1) es)
+      ≡ count_by p
       (namesakes h last m)
-  rank_starts p = zero-add (count_by p (filter_map (λ e. named h last e.0 e.1) es)) ∙ ap (count_by p) all_taken
+  rank_starts p = zero-add (count_by p (filter_map (λ e. first_name_of h last e.0 e.1) es)) ∙ ap (count_by p) all_taken
 
   pub middle_starts : middle (namesakes h last m)
       ≡ option_map (λ x. x.1)
       (find (λ x. count_by (λ y. comes_before y x) (namesakes h last m) + 1 == (length (namesakes h last m) + 1) / 2)
-      (filter_map (λ e. named h last e.0 e.1) es))
+      (filter_map (λ e. first_name_of h last e.0 e.1) es))
   middle_starts = sym (ap
       (λ qs. option_map (λ x. x.1)
       (find (λ x. count_by (λ y. comes_before y x) (namesakes h last m) + 1 == (length (namesakes h last m) + 1) / 2)

@@ -23,7 +23,7 @@ use Rattle.oe_rows.proofs.KeyFacts.{stock_total, exact_stock}
 use Rattle.oe_table.specs.Table.{RewritesRow}
 use Rattle.oe_theory.proofs.Sets.{some_inj}
 use Rattle.oe_model.specs.Keys.{supply_of_line}
-use Rattle.oe_model.specs.Changes.{Change, changed, UpdateWarehouse, UpdateDistrict, UpdateCustomer, UpdateOrder}
+use Rattle.oe_model.specs.Changes.{Change, rows_after, UpdateWarehouse, UpdateDistrict, UpdateCustomer, UpdateOrder}
 use Rattle.oe_model.specs.Changes.{UpdateOrderLine, UpdateStock}
 use Rattle.oe_store.specs.Places.{Places, rows, SamePlaces, IsSound}
 use Rattle.oe_store.proofs.PlaceFacts.{place_of_row, same_warehouses, same_districts, same_customers, same_orders}
@@ -51,14 +51,14 @@ some_row (Some x) h = (x, refl)
 -- what is left of the tables after a change of one row in its place
 pub record IsLeft (c : Change) (old new : Places) : Type 0 where
   pub sound : IsSound (rows new)
-  pub rows : rows new ≡ changed c (rows old)
+  pub rows : rows new ≡ rows_after c (rows old)
   pub places : SamePlaces old new
 
 pub warehouse_left : (s : Places) (new : List (WarehouseKey × Option Warehouse)) (k : WarehouseKey) (x y : Warehouse)
     → RewritesRow warehouse_cmp s.warehouses new k x → get (rows s).warehouses k ≡ Some y
     → IsSound (rows s) → IsLeft (UpdateWarehouse k x) s (record s { warehouses = new })
 warehouse_left s new k x y h was sound =
-    let e : rows (record s { warehouses = new }) ≡ changed (UpdateWarehouse k x) (rows s) =
+    let e : rows (record s { warehouses = new }) ≡ rows_after (UpdateWarehouse k x) (rows s) =
     ap (λ t. record (rows s) { warehouses = t }) h.rows in
     record {
       sound = subst IsSound (sym e) (sound_changed (UpdateWarehouse k x) (rows s) (ap is_some was) (tt) sound);
@@ -71,7 +71,7 @@ pub district_left : (s : Places) (new : List (DistrictKey × Option District)) (
     → RewritesRow district_cmp s.districts new k x → get (rows s).districts k ≡ Some y
     → IsSound (rows s) → IsLeft (UpdateDistrict k x) s (record s { districts = new })
 district_left s new k x y h was sound =
-    let e : rows (record s { districts = new }) ≡ changed (UpdateDistrict k x) (rows s) =
+    let e : rows (record s { districts = new }) ≡ rows_after (UpdateDistrict k x) (rows s) =
     ap (λ t. record (rows s) { districts = t }) h.rows in
     record {
       sound = subst IsSound (sym e)
@@ -86,7 +86,7 @@ pub customer_left : (s : Places) (new : List (CustomerKey × Option Customer)) (
     → RewritesRow customer_cmp s.customers new k x → get (rows s).customers k ≡ Some y
     → IsSound (rows s) → IsLeft (UpdateCustomer k x) s (record s { customers = new })
 customer_left s new k x y h was sound =
-    let e : rows (record s { customers = new }) ≡ changed (UpdateCustomer k x) (rows s) =
+    let e : rows (record s { customers = new }) ≡ rows_after (UpdateCustomer k x) (rows s) =
     ap (λ t. record (rows s) { customers = t }) h.rows in
     record {
       sound = subst IsSound (sym e)
@@ -101,7 +101,7 @@ pub order_left : (s : Places) (new : List (OrderKey × Option Order)) (k : Order
     → RewritesRow order_cmp s.orders new k x → get (rows s).orders k ≡ Some y → x.customer ≡ y.customer
     → IsSound (rows s) → IsLeft (UpdateOrder k x) s (record s { orders = new })
 order_left s new k x y h was same sound =
-    let e : rows (record s { orders = new }) ≡ changed (UpdateOrder k x) (rows s) =
+    let e : rows (record s { orders = new }) ≡ rows_after (UpdateOrder k x) (rows s) =
     ap (λ t. record (rows s) { orders = t }) h.rows in
     record {
       sound = subst IsSound (sym e)
@@ -116,7 +116,7 @@ pub order_line_left : (s : Places) (new : List (OrderLineKey × Option OrderLine
     → supply_of_line x ≡ supply_of_line y
     → IsSound (rows s) → IsLeft (UpdateOrderLine k x) s (record s { order_lines = new })
 order_line_left s new k x y h was same sound =
-    let e : rows (record s { order_lines = new }) ≡ changed (UpdateOrderLine k x) (rows s) =
+    let e : rows (record s { order_lines = new }) ≡ rows_after (UpdateOrderLine k x) (rows s) =
     ap (λ t. record (rows s) { order_lines = t }) h.rows in
     record {
       sound = subst IsSound (sym e)
@@ -135,7 +135,7 @@ pub stock_left : (s : Places) (new : List (StockKey × Option Stock)) (k : Stock
     → RewritesRow stock_cmp s.stocks new k x → get (rows s).stocks k ≡ Some y
     → IsSound (rows s) → IsLeft (UpdateStock k x) s (record s { stocks = new })
 stock_left s new k x y h was sound =
-    let e : rows (record s { stocks = new }) ≡ changed (UpdateStock k x) (rows s) =
+    let e : rows (record s { stocks = new }) ≡ rows_after (UpdateStock k x) (rows s) =
     ap (λ t. record (rows s) { stocks = t }) h.rows in
     record {
       sound = subst IsSound (sym e) (sound_changed (UpdateStock k x) (rows s) (ap is_some was) (tt) sound);

@@ -26,7 +26,7 @@ use Rattle.oe_rows.specs.declared.orders.OrderLine.{OrderLine}
 use Rattle.oe_rows.specs.declared.items.Stock.{Stock}
 use Rattle.oe_model.specs.Keys.{order_of_new_order}
 use Rattle.oe_model.specs.Rows.{Rows, is_key, row_at}
-use Rattle.oe_model.specs.Changes.{Change, key_of, row_of, changed, Record, record_key, restore, put_back}
+use Rattle.oe_model.specs.Changes.{Change, key_of, row_of, rows_after, Record, record_key, restore, put_back}
 use Rattle.oe_model.specs.Changes.{DeletedNewOrder}
 use Rattle.oe_model.specs.Meets.{Meets, Accepts}
 use Rattle.oe_rows.proofs.KeyFacts.{new_order_total, exact_new_order}
@@ -45,7 +45,7 @@ own_or_other r own k new true e mine all h = subst IsNumbered (sym (key_true k o
 own_or_other r own k new false e mine all h = all k h
 
 -- after a change that the tables accept
-pub sound_changed : (c : Change) (r : Rows) → Accepts c r → IsNumbered (key_of c) → IsSound r → IsSound (changed c r)
+pub sound_changed : (c : Change) (r : Rows) → Accepts c r → IsNumbered (key_of c) → IsSound r → IsSound (rows_after c r)
 sound_changed c r accepts mine s = record {
   schema = accepted_meets c r accepts s.schema;
   numbered = λ k h. own_or_other r (key_of c) k (row_of c) (is_key k (key_of c)) refl mine s.numbered

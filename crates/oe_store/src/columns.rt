@@ -13,7 +13,7 @@ ghost use Rattle.oe_rows.specs.declared.orders.OrderLine.{OrderLine};
 ghost use Rattle.oe_rows.specs.declared.items.Stock.{Stock};
 ghost use Rattle.oe_index.specs.Listed.{HasOtherName};
 ghost use Rattle.oe_model.specs.Rename.{with_names};
-ghost use Rattle.oe_model.specs.Changes.{changed, UpdateWarehouse, UpdateDistrict, UpdateCustomer, UpdateOrder, UpdateOrderLine, UpdateStock};
+ghost use Rattle.oe_model.specs.Changes.{rows_after, UpdateWarehouse, UpdateDistrict, UpdateCustomer, UpdateOrder, UpdateOrderLine, UpdateStock};
 ghost use Rattle.oe_store.specs.Places.{rows, SamePlaces};
 
 use crate::tables::Tables;
@@ -28,7 +28,7 @@ impl Tables {
     pub fn set_warehouse_ytd(&mut self, key: &WarehouseKey, ytd: YearToDate)
         requires { IsSome (get (rows self.old).warehouses key.now) }
         ensures rows { (w : Warehouse) → get (rows self.old).warehouses key.now ≡ Some w
-            → rows self.new ≡ changed (UpdateWarehouse key.now (record w { ytd = ytd }))
+            → rows self.new ≡ rows_after (UpdateWarehouse key.now (record w { ytd = ytd }))
             (rows self.old) }
         ensures places { SamePlaces self.old self.new }
     {
@@ -40,7 +40,7 @@ impl Tables {
     pub fn set_district_ytd(&mut self, key: &DistrictKey, ytd: YearToDate)
         requires { IsSome (get (rows self.old).districts key.now) }
         ensures rows { (d : District) → get (rows self.old).districts key.now ≡ Some d
-            → rows self.new ≡ changed (UpdateDistrict key.now (record d { ytd = ytd }))
+            → rows self.new ≡ rows_after (UpdateDistrict key.now (record d { ytd = ytd }))
             (rows self.old) }
         ensures places { SamePlaces self.old self.new }
     {
@@ -52,7 +52,7 @@ impl Tables {
     pub fn set_next_order(&mut self, key: &DistrictKey, order: OrderNumber)
         requires { IsSome (get (rows self.old).districts key.now) }
         ensures rows { (d : District) → get (rows self.old).districts key.now ≡ Some d
-            → rows self.new ≡ changed (UpdateDistrict key.now (record d { next_order = order }))
+            → rows self.new ≡ rows_after (UpdateDistrict key.now (record d { next_order = order }))
             (rows self.old) }
         ensures places { SamePlaces self.old self.new }
     {
@@ -64,7 +64,7 @@ impl Tables {
     pub fn set_account(&mut self, key: &CustomerKey, account: &Account)
         requires { IsSome (get (rows self.old).customers key.now) }
         ensures rows { (c : Customer) → get (rows self.old).customers key.now ≡ Some c
-            → rows self.new ≡ changed (UpdateCustomer key.now (record c { account = account.now }))
+            → rows self.new ≡ rows_after (UpdateCustomer key.now (record c { account = account.now }))
             (rows self.old) }
         ensures places { SamePlaces self.old self.new }
     {
@@ -76,7 +76,7 @@ impl Tables {
     pub fn set_bad_credit(&mut self, key: &CustomerKey, account: &Account, entry: &Text<0, 90>)
         requires { IsSome (get (rows self.old).customers key.now) }
         ensures rows { (c : Customer) → get (rows self.old).customers key.now ≡ Some c
-            → rows self.new ≡ changed (UpdateCustomer key.now (with_entry account.now entry.now c))
+            → rows self.new ≡ rows_after (UpdateCustomer key.now (with_entry account.now entry.now c))
             (rows self.old) }
         ensures places { SamePlaces self.old self.new }
     {
@@ -94,7 +94,7 @@ impl Tables {
         requires { IsSome (get (rows self.old).customers key.now) }
         ensures rows { OnOk result
             ((c : Customer) → get (rows self.old).customers key.now ≡ Some c → rows self.new
-            ≡ changed (UpdateCustomer key.now (with_names last.now first.now c)) (rows self.old)) }
+            ≡ rows_after (UpdateCustomer key.now (with_names last.now first.now c)) (rows self.old)) }
         ensures places { SamePlaces self.old self.new }
         ensures renamed { OnErr result
             (HasOtherName last.now (get (rows self.old).customers key.now)) }
@@ -107,7 +107,7 @@ impl Tables {
     pub fn set_carrier(&mut self, key: &OrderKey, carrier: Carrier)
         requires { IsSome (get (rows self.old).orders key.now) }
         ensures rows { (o : Order) → get (rows self.old).orders key.now ≡ Some o → rows self.new
-            ≡ changed (UpdateOrder key.now (record o { carrier = Some carrier })) (rows self.old) }
+            ≡ rows_after (UpdateOrder key.now (record o { carrier = Some carrier })) (rows self.old) }
         ensures places { SamePlaces self.old self.new }
     {
         self.orders.set_carrier(key, carrier);
@@ -117,7 +117,7 @@ impl Tables {
     pub fn set_delivery(&mut self, key: &OrderLineKey, stamp: Stamp)
         requires { IsSome (get (rows self.old).order_lines key.now) }
         ensures rows { (l : OrderLine) → get (rows self.old).order_lines key.now ≡ Some l
-            → rows self.new ≡ changed (UpdateOrderLine key.now (record l { delivery = Some stamp }))
+            → rows self.new ≡ rows_after (UpdateOrderLine key.now (record l { delivery = Some stamp }))
             (rows self.old) }
         ensures places { SamePlaces self.old self.new }
     {
@@ -129,7 +129,7 @@ impl Tables {
     pub fn set_counters(&mut self, key: &StockKey, counters: &StockCounters)
         requires { IsSome (get (rows self.old).stocks key.now) }
         ensures rows { (s : Stock) → get (rows self.old).stocks key.now ≡ Some s → rows self.new
-            ≡ changed (UpdateStock key.now (with_counters counters.now s)) (rows self.old) }
+            ≡ rows_after (UpdateStock key.now (with_counters counters.now s)) (rows self.old) }
         ensures places { SamePlaces self.old self.new }
     {
         let stock = self.stocks.row_mut(key).unwrap();

@@ -2,7 +2,7 @@
 //! since customers are found by it; where that is refused the tables are as before.
 ghost use Rattle.std.specs.Prelude.{◌≡◌, Some, IfOk, OnOk, OnErr};
 ghost use Rattle.std.specs.FinMap.{get};
-ghost use Rattle.oe_model.specs.Changes.{changed, UpdateWarehouse, UpdateDistrict, UpdateCustomer, UpdateOrder, UpdateOrderLine, UpdateStock, DeleteNewOrder};
+ghost use Rattle.oe_model.specs.Changes.{rows_after, UpdateWarehouse, UpdateDistrict, UpdateCustomer, UpdateOrder, UpdateOrderLine, UpdateStock, DeleteNewOrder};
 ghost use Rattle.oe_model.specs.Meets.{Accepts};
 ghost use Rattle.oe_index.specs.Listed.{HasOtherName};
 ghost use Rattle.oe_store.specs.Places.{rows, SamePlaces};
@@ -19,7 +19,7 @@ impl Tables {
     pub fn update_warehouse(&mut self, key: WarehouseKey, row: Warehouse) -> Warehouse
         requires { Accepts (UpdateWarehouse key row) (rows self.old) }
         ensures before { get (rows self.old).warehouses key ≡ Some result }
-        ensures rows { rows self.new ≡ changed (UpdateWarehouse key row) (rows self.old) }
+        ensures rows { rows self.new ≡ rows_after (UpdateWarehouse key row) (rows self.old) }
         ensures places { SamePlaces self.old self.new }
     {
         self.warehouses.swap(&key, row)
@@ -29,7 +29,7 @@ impl Tables {
     pub fn update_district(&mut self, key: DistrictKey, row: District) -> District
         requires { Accepts (UpdateDistrict key row) (rows self.old) }
         ensures before { get (rows self.old).districts key ≡ Some result }
-        ensures rows { rows self.new ≡ changed (UpdateDistrict key row) (rows self.old) }
+        ensures rows { rows self.new ≡ rows_after (UpdateDistrict key row) (rows self.old) }
         ensures places { SamePlaces self.old self.new }
     {
         self.districts.swap(&key, row)
@@ -41,7 +41,7 @@ impl Tables {
         requires { Accepts (UpdateCustomer key row) (rows self.old) }
         ensures before { IfOk result (λ c. get (rows self.old).customers key ≡ Some c) }
         ensures rows { OnOk result
-            (rows self.new ≡ changed (UpdateCustomer key row) (rows self.old)) }
+            (rows self.new ≡ rows_after (UpdateCustomer key row) (rows self.old)) }
         ensures places { SamePlaces self.old self.new }
         ensures renamed { OnErr result
             (HasOtherName row.name.last (get (rows self.old).customers key)) }
@@ -54,7 +54,7 @@ impl Tables {
     pub fn update_order(&mut self, key: OrderKey, row: Order) -> Order
         requires { Accepts (UpdateOrder key row) (rows self.old) }
         ensures before { get (rows self.old).orders key ≡ Some result }
-        ensures rows { rows self.new ≡ changed (UpdateOrder key row) (rows self.old) }
+        ensures rows { rows self.new ≡ rows_after (UpdateOrder key row) (rows self.old) }
         ensures places { SamePlaces self.old self.new }
     {
         let _customer = row.customer.get();
@@ -66,7 +66,7 @@ impl Tables {
     pub fn update_order_line(&mut self, key: OrderLineKey, row: OrderLine) -> OrderLine
         requires { Accepts (UpdateOrderLine key row) (rows self.old) }
         ensures before { get (rows self.old).order_lines key ≡ Some result }
-        ensures rows { rows self.new ≡ changed (UpdateOrderLine key row) (rows self.old) }
+        ensures rows { rows self.new ≡ rows_after (UpdateOrderLine key row) (rows self.old) }
         ensures places { SamePlaces self.old self.new }
     {
         self.order_lines.swap(&key, row)
@@ -76,7 +76,7 @@ impl Tables {
     pub fn update_stock(&mut self, key: StockKey, row: Stock) -> Stock
         requires { Accepts (UpdateStock key row) (rows self.old) }
         ensures before { get (rows self.old).stocks key ≡ Some result }
-        ensures rows { rows self.new ≡ changed (UpdateStock key row) (rows self.old) }
+        ensures rows { rows self.new ≡ rows_after (UpdateStock key row) (rows self.old) }
         ensures places { SamePlaces self.old self.new }
     {
         self.stocks.swap(&key, row)
@@ -86,7 +86,7 @@ impl Tables {
     pub fn delete_new_order(&mut self, key: NewOrderKey) -> NewOrder
         requires { Accepts (DeleteNewOrder key) (rows self.old) }
         ensures before { get (rows self.old).new_orders key ≡ Some result }
-        ensures rows { rows self.new ≡ changed (DeleteNewOrder key) (rows self.old) }
+        ensures rows { rows self.new ≡ rows_after (DeleteNewOrder key) (rows self.old) }
         ensures places { SamePlaces self.old self.new }
     {
         self.new_orders.blank(&key)

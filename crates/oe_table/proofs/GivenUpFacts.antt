@@ -13,7 +13,7 @@ use Rattle.std.proofs.lemmas.List.{get_or-set_same, get_or-set_other}
 use borrow.Author.Tests.{ltb-true, ltb-false}
 use lib.Dec.{ltb}
 use Rattle.oe_table.specs.Table.{place, live, left_of, rows_of, GivesUpPlace}
-use Rattle.oe_table.specs.Shelf.{joined, IsAscending, StandsAt, AreShelves, without_blanked}
+use Rattle.oe_table.specs.Shelf.{whole_list, IsAscending, StandsAt, AreShelves, without_blanked}
 use Rattle.oe_table.proofs.TableFacts.{row_in, tied, same_rows}
 use Rattle.oe_table.proofs.ShelfFacts.{greater, earlier, found-later}
 use Rattle.oe_table.proofs.ShelvesFacts.{shelves-set, shelf-ascends, shelf-keys, slot-on_shelf, changes-on_shelf}
@@ -210,10 +210,10 @@ module _ {K R : Type 0} {cmp : K → K → Ordering} (total : IsTotalOrder cmp) 
   pub places-left : (ss : List (List (K × Option R))) (s new : List (K × Option R)) (key : K)
       → AreShelves cmp shelf_of 0 ss → shelf_of key < length ss
       → ((d : List (K × Option R)) → s ≡ get_or ss (shelf_of key) d)
-      → new ≡ without_blanked cmp s key → GivesUpPlace cmp (joined ss) (joined (set ss (shelf_of key) new)) key
+      → new ≡ without_blanked cmp s key → GivesUpPlace cmp (whole_list ss) (whole_list (set ss (shelf_of key) new)) key
   places-left ss s new key h within there is =
       let up : IsAscending cmp s = rw (there []) (shelf-ascends cmp shelf_of 0 ss (shelf_of key) h) in
-      changes-on_shelf cmp shelf_of exact ss (set ss (shelf_of key) new) key (left_of (place cmp (joined ss) key)) h
+      changes-on_shelf cmp shelf_of exact ss (set ss (shelf_of key) new) key (left_of (place cmp (whole_list ss) key)) h
       (shelves-left ss s new key h there is)
       (λ i other. get_or-set_other ss (shelf_of key) i new [] other)
       (λ q. rw (

@@ -7,7 +7,7 @@ use Rattle.std.proofs.lemmas.List.{take-set-le}
 use borrow.Author.Tests.{eqb-true, ltb-true, ltb-false}
 use lib.Dec.{ltb}
 use Rattle.oe_table.specs.Table.{live}
-use Rattle.oe_table.specs.Shelf.{joined, cut_between}
+use Rattle.oe_table.specs.Shelf.{whole_list, cut_between}
 
 take-insert : {A : Type 0} (n : ℕ) (s : List A) (i : ℕ) (x : A) → n ≤ i → i ≤ length s
     → take n (insert s i x) ≡ take n s
@@ -109,13 +109,14 @@ module _ {K R : Type 0} where
     where
       by : (same : Bool) → (a == b) ≡ same
           → live (cond same (drop n (take j (get_or ss a [])))
-          (drop n (get_or ss a []) ++ (joined (drop (a + 1) (take b ss)) ++ take j (get_or ss b []))))
+          (drop n (get_or ss a []) ++ (whole_list (drop (a + 1) (take b ss)) ++ take j (get_or ss b []))))
           ≡ live (cond same (drop i (take j (get_or ss a [])))
-          (drop i (get_or ss a []) ++ (joined (drop (a + 1) (take b ss)) ++ take j (get_or ss b []))))
+          (drop i (get_or ss a []) ++ (whole_list (drop (a + 1) (take b ss)) ++ take j (get_or ss b []))))
       by true e = passed (take j (get_or ss a [])) i n le
           (ap (λ t. live (drop i t)) (take-within (get_or ss a []) n j (before (eqb-true a b e))) ∙ none)
       by false e =
-          live-append (drop n (get_or ss a [])) (joined (drop (a + 1) (take b ss)) ++ take j (get_or ss b []))
-          ∙ ap (λ t. t ++ live (joined (drop (a + 1) (take b ss)) ++ take j (get_or ss b [])))
+          live-append (drop n (get_or ss a [])) (whole_list (drop (a + 1) (take b ss)) ++ take j (get_or ss b []))
+          ∙ ap (λ t. t ++ live (whole_list (drop (a + 1) (take b ss)) ++ take j (get_or ss b [])))
           (passed (get_or ss a []) i n le none)
-          ∙ sym (live-append (drop i (get_or ss a [])) (joined (drop (a + 1) (take b ss)) ++ take j (get_or ss b [])))
+          ∙ sym (live-append (drop i (get_or ss a []))
+          (whole_list (drop (a + 1) (take b ss)) ++ take j (get_or ss b [])))

@@ -14,7 +14,7 @@ use Rattle.std.proofs.lemmas.List.{append-nil, append_assoc, take_all, length-ta
 use Rattle.std.proofs.lemmas.List.Elements.{filter-append, filter_agree}
 use borrow.Author.Tests.{eqb-true, eqb-false, eq-eqb, ltb-true, ltb-false}
 use lib.Dec.{ltb}
-use Rattle.oe_table.specs.Shelf.{joined, cut_between, front, lower, upper, IsAscending, AreShelves}
+use Rattle.oe_table.specs.Shelf.{whole_list, cut_between, front, lower, upper, IsAscending, AreShelves}
 use Rattle.oe_table.proofs.ShelvesFacts.{all-weaker, keys-append, keys-from, shelf-ascends, shelf-keys}
 
 take-nil : {A : Type 0} (n : ℕ) → take {A = A} n [] ≡ []
@@ -100,61 +100,61 @@ module _ {K X : Type 0} (cmp : K → K → Ordering) (shelf_of : K → ℕ) (tes
     (inner : (k : K) → a < shelf_of k → shelf_of k < b → test k ≡ true)
     (over : (k : K) → b < shelf_of k → test k ≡ false) where
   after : (m : ℕ) (ss : List (List (K × X))) → AreShelves cmp shelf_of m ss → b < m
-      → filter (λ e. test e.0) (joined ss) ≡ []
+      → filter (λ e. test e.0) (whole_list ss) ≡ []
   unfolding AreShelves
   after m [] h late = refl
   after m (s ∷ ss) h late =
-      filter-append (λ e. test e.0) s (joined ss)
-      ∙ ap (λ t. t ++ filter (λ e. test e.0) (joined ss))
+      filter-append (λ e. test e.0) s (whole_list ss)
+      ∙ ap (λ t. t ++ filter (λ e. test e.0) (whole_list ss))
       (filter-none test s (all-weaker (λ k. shelf_of k ≡ m) (λ k. test k ≡ false) (λ k e. over k (omega arith))
       (keys_of s) h.1))
       ∙ after (suc m) ss h.2 (omega arith)
 
   up_to : (m : ℕ) (ss : List (List (K × X))) (i j : ℕ) → AreShelves cmp shelf_of m ss → a < m → b ≡ m + i
       → filter (λ e. test e.0) (get_or ss i []) ≡ take j (get_or ss i [])
-      → filter (λ e. test e.0) (joined ss) ≡ joined (take i ss) ++ take j (get_or ss i [])
+      → filter (λ e. test e.0) (whole_list ss) ≡ whole_list (take i ss) ++ take j (get_or ss i [])
   unfolding AreShelves
-  up_to m [] i j h late is last = sym (ap (λ t. joined t ++ take j []) (take-nil i) ∙ take-nil j)
+  up_to m [] i j h late is last = sym (ap (λ t. whole_list t ++ take j []) (take-nil i) ∙ take-nil j)
   up_to m (s ∷ ss) zero j h late is last =
-      filter-append (λ e. test e.0) s (joined ss) ∙ ap (λ t. filter (λ e. test e.0) s ++ t)
+      filter-append (λ e. test e.0) s (whole_list ss) ∙ ap (λ t. filter (λ e. test e.0) s ++ t)
       (after (suc m) ss h.2 (omega arith)) ∙ append-nil (filter (λ e. test e.0) s) ∙ last
   up_to m (s ∷ ss) (suc i) j h late is last =
-      filter-append (λ e. test e.0) s (joined ss)
-      ∙ ap (λ t. t ++ filter (λ e. test e.0) (joined ss))
+      filter-append (λ e. test e.0) s (whole_list ss)
+      ∙ ap (λ t. t ++ filter (λ e. test e.0) (whole_list ss))
       (filter-each test s (all-weaker (λ k. shelf_of k ≡ m) (λ k. test k ≡ true)
       (λ k e. inner k (omega arith) (omega arith)) (keys_of s) h.1))
       ∙ ap (λ t. s ++ t) (up_to (suc m) ss i j h.2 (omega arith) (omega arith) last)
-      ∙ sym (append_assoc s (joined (take i ss)) (take j (get_or ss i [])))
+      ∙ sym (append_assoc s (whole_list (take i ss)) (take j (get_or ss i [])))
 
   from : (m : ℕ) (ss : List (List (K × X))) (u w i j : ℕ) → AreShelves cmp shelf_of m ss → a ≡ m + u → b ≡ m + w → u < w
       → filter (λ e. test e.0) (get_or ss u []) ≡ drop i (get_or ss u [])
       → filter (λ e. test e.0) (get_or ss w []) ≡ take j (get_or ss w [])
-      → filter (λ e. test e.0) (joined ss) ≡ drop i (get_or ss u [])
-      ++ (joined (drop (suc u) (take w ss)) ++ take j (get_or ss w []))
+      → filter (λ e. test e.0) (whole_list ss) ≡ drop i (get_or ss u [])
+      ++ (whole_list (drop (suc u) (take w ss)) ++ take j (get_or ss w []))
   unfolding AreShelves
   from m ss u zero i j h isa isb less first last = absurd (omega arith)
   from m [] u (suc w) i j h isa isb less first last = sym (ap (λ t. t ++ take j []) (drop-nil i) ∙ take-nil j)
   from m (s ∷ ss) zero (suc w) i j h isa isb less first last =
-      filter-append (λ e. test e.0) s (joined ss) ∙ ap (λ t. t ++ filter (λ e. test e.0) (joined ss)) first
+      filter-append (λ e. test e.0) s (whole_list ss) ∙ ap (λ t. t ++ filter (λ e. test e.0) (whole_list ss)) first
       ∙ ap (λ t. drop i s ++ t) (up_to (suc m) ss w j h.2 (omega arith) (omega arith) last)
   from m (s ∷ ss) (suc u) (suc w) i j h isa isb less first last =
-      filter-append (λ e. test e.0) s (joined ss)
-      ∙ ap (λ t. t ++ filter (λ e. test e.0) (joined ss))
+      filter-append (λ e. test e.0) s (whole_list ss)
+      ∙ ap (λ t. t ++ filter (λ e. test e.0) (whole_list ss))
       (filter-none test s (all-weaker (λ k. shelf_of k ≡ m) (λ k. test k ≡ false) (λ k e. under k (omega arith))
       (keys_of s) h.1))
       ∙ from (suc m) ss u w i j h.2 (omega arith) (omega arith) (omega arith) first last
 
   within : (m : ℕ) (ss : List (List (K × X))) (u i j : ℕ) → AreShelves cmp shelf_of m ss → a ≡ m + u → b ≡ a
       → filter (λ e. test e.0) (get_or ss u []) ≡ drop i (take j (get_or ss u []))
-      → filter (λ e. test e.0) (joined ss) ≡ drop i (take j (get_or ss u []))
+      → filter (λ e. test e.0) (whole_list ss) ≡ drop i (take j (get_or ss u []))
   unfolding AreShelves
   within m [] u i j h isa isb one = one
   within m (s ∷ ss) zero i j h isa isb one =
-      filter-append (λ e. test e.0) s (joined ss) ∙ ap (λ t. filter (λ e. test e.0) s ++ t)
+      filter-append (λ e. test e.0) s (whole_list ss) ∙ ap (λ t. filter (λ e. test e.0) s ++ t)
       (after (suc m) ss h.2 (omega arith)) ∙ append-nil (filter (λ e. test e.0) s) ∙ one
   within m (s ∷ ss) (suc u) i j h isa isb one =
-      filter-append (λ e. test e.0) s (joined ss)
-      ∙ ap (λ t. t ++ filter (λ e. test e.0) (joined ss))
+      filter-append (λ e. test e.0) s (whole_list ss)
+      ∙ ap (λ t. t ++ filter (λ e. test e.0) (whole_list ss))
       (filter-none test s (all-weaker (λ k. shelf_of k ≡ m) (λ k. test k ≡ false) (λ k e. under k (omega arith))
       (keys_of s) h.1))
       ∙ within (suc m) ss u i j h.2 (omega arith) isb one
@@ -265,11 +265,11 @@ module _ {K X : Type 0} (cmp : K → K → Ordering) (shelf_of : K → ℕ)
 
   cut-step : (ss : List (List (K × X))) → AreShelves cmp shelf_of 0 ss → shelf_of start ≤ shelf_of end → (same : Bool)
       → (shelf_of start == shelf_of end) ≡ same
-      → filter (λ e. not (low e.0) && high e.0) (joined ss)
+      → filter (λ e. not (low e.0) && high e.0) (whole_list ss)
       ≡ cond same (drop (front (λ e. low e.0) (get_or ss (shelf_of start) []))
       (take (front (λ e. high e.0) (get_or ss (shelf_of end) [])) (get_or ss (shelf_of start) [])))
       (drop (front (λ e. low e.0) (get_or ss (shelf_of start) [])) (get_or ss (shelf_of start) [])
-      ++ (joined (drop (shelf_of start + 1) (take (shelf_of end) ss))
+      ++ (whole_list (drop (shelf_of start + 1) (take (shelf_of end) ss))
       ++ take (front (λ e. high e.0) (get_or ss (shelf_of end) [])) (get_or ss (shelf_of end) [])))
   cut-step ss h le true same =
       let e : shelf_of start ≡ shelf_of end = eqb-true _ _ same in
@@ -292,7 +292,7 @@ module _ {K X : Type 0} (cmp : K → K → Ordering) (shelf_of : K → ℕ)
 
   pub cut-is : (ss : List (List (K × X))) → AreShelves cmp shelf_of 0 ss → shelf_of start ≤ shelf_of end
       → cut_between ss (shelf_of start) (front (λ e. low e.0) (get_or ss (shelf_of start) [])) (shelf_of end)
-      (front (λ e. high e.0) (get_or ss (shelf_of end) [])) ≡ filter (λ e. not (low e.0) && high e.0) (joined ss)
+      (front (λ e. high e.0) (get_or ss (shelf_of end) [])) ≡ filter (λ e. not (low e.0) && high e.0) (whole_list ss)
   cut-is ss h le = sym (cut-step ss h le (shelf_of start == shelf_of end) refl)
 
 gt-le : (r : Ordering) → is_gt r ≡ false → is_le r ≡ true
@@ -319,14 +319,14 @@ ascending-append cmp (e ∷ s) t up next h =
 -- all keys ascend
 pub joined-ascends : {K X : Type 0} (cmp : K → K → Ordering) (shelf_of : K → ℕ)
     → ((j k : K) → shelf_of j < shelf_of k → cmp j k ≡ Less) → (m : ℕ) (ss : List (List (K × X)))
-    → AreShelves cmp shelf_of m ss → IsAscending cmp (joined ss)
+    → AreShelves cmp shelf_of m ss → IsAscending cmp (whole_list ss)
 unfolding AreShelves IsStrictlySortedBy
 joined-ascends cmp shelf_of ascends m [] h = tt
 joined-ascends cmp shelf_of ascends m (s ∷ ss) h =
-    ascending-append cmp s (joined ss) h.0 (joined-ascends cmp shelf_of ascends (suc m) ss h.2)
-    (all-weaker (λ k. shelf_of k ≡ m) (λ k. AllByRecursion (λ y. cmp k y ≡ Less) (keys_of (joined ss)))
+    ascending-append cmp s (whole_list ss) h.0 (joined-ascends cmp shelf_of ascends (suc m) ss h.2)
+    (all-weaker (λ k. shelf_of k ≡ m) (λ k. AllByRecursion (λ y. cmp k y ≡ Less) (keys_of (whole_list ss)))
     (λ k e. all-weaker (λ y. suc m ≤ shelf_of y) (λ y. cmp k y ≡ Less) (λ y l. ascends k y (omega arith))
-    (keys_of (joined ss)) (keys-from cmp shelf_of (suc m) ss h.2)) (keys_of s) h.1)
+    (keys_of (whole_list ss)) (keys-from cmp shelf_of (suc m) ss h.2)) (keys_of s) h.1)
 
 module _ {K : Type 0} (cmp : K → K → Ordering) (total : IsTotalOrder cmp) (shelf_of : K → ℕ)
     (ascends : (j k : K) → shelf_of j < shelf_of k → cmp j k ≡ Less) (from to : K) (forward : IsLeBy cmp from to) where
@@ -358,7 +358,7 @@ module _ {K X : Type 0} (cmp : K → K → Ordering) (total : IsTotalOrder cmp) 
 
   pub places-before : AreShelves cmp shelf_of 0 ss
       → cut_between ss (shelf_of from) (lower cmp (get_or ss (shelf_of from) []) from) (shelf_of to)
-      (lower cmp (get_or ss (shelf_of to) []) to) ≡ entries_between cmp (Included from) (Excluded to) (joined ss)
+      (lower cmp (get_or ss (shelf_of to) []) to) ≡ entries_between cmp (Included from) (Excluded to) (whole_list ss)
   places-before h =
       cut-is cmp shelf_of ascends (λ k. is_lt (cmp k from)) (λ k. is_lt (cmp k to)) from to (lower-end cmp total from)
       (lower-end cmp total to) (goes-before cmp total shelf_of ascends from to forward) ss h
@@ -368,11 +368,11 @@ module _ {K X : Type 0} (cmp : K → K → Ordering) (total : IsTotalOrder cmp) 
       (λ e. ap (λ b. b && is_lt (cmp e.0 to)) (sym (is_from (cmp e.0 from))
       ∙ ap is_le (sym (reversed cmp total from e.0)))
       ∙ ap (λ b. is_le (cmp from e.0) && b) (sym (is_under (cmp e.0 to))
-      ∙ ap (λ r. not (is_le r)) (sym (reversed cmp total to e.0)))) (joined ss)
+      ∙ ap (λ r. not (is_le r)) (sym (reversed cmp total to e.0)))) (whole_list ss)
 
   pub places-up_to : AreShelves cmp shelf_of 0 ss
       → cut_between ss (shelf_of from) (lower cmp (get_or ss (shelf_of from) []) from) (shelf_of to)
-      (upper cmp (get_or ss (shelf_of to) []) to) ≡ entries_between cmp (Included from) (Included to) (joined ss)
+      (upper cmp (get_or ss (shelf_of to) []) to) ≡ entries_between cmp (Included from) (Included to) (whole_list ss)
   places-up_to h =
       cut-is cmp shelf_of ascends (λ k. is_lt (cmp k from)) (λ k. is_le (cmp k to)) from to (lower-end cmp total from)
       (upper-end cmp total to) (goes-up_to cmp total shelf_of ascends from to forward) ss h
@@ -382,7 +382,7 @@ module _ {K X : Type 0} (cmp : K → K → Ordering) (total : IsTotalOrder cmp) 
       (λ e. ap (λ b. b && is_le (cmp e.0 to)) (sym (is_from (cmp e.0 from))
       ∙ ap is_le (sym (reversed cmp total from e.0)))
       ∙ ap (λ b. is_le (cmp from e.0) && b) (sym (is_up_to (cmp e.0 to))
-      ∙ ap (λ r. not (is_lt r)) (sym (reversed cmp total to e.0)))) (joined ss)
+      ∙ ap (λ r. not (is_lt r)) (sym (reversed cmp total to e.0)))) (whole_list ss)
 
 -- what the cuts of the code are
 pub lower-within : {K X : Type 0} (cmp : K → K → Ordering) (s : List (K × X)) (key : K) → lower cmp s key ≤ length s
@@ -400,10 +400,11 @@ between-is xs a b e s is_e is_s =
     ∙ ap (λ n. drop n (take b xs)) (is_s ∙ ap (min a) (sym long)) ∙ drop_min a (take b xs)
 
 pub shelf-within : {A : Type 0} (s : List A) (i j : ℕ) (f : List A) (g : List (List A)) (h : List A) → i ≤ j
-    → f ≡ take (j - i) (drop i s) → g ≡ [] → h ≡ [] → f ++ (joined g ++ h) ≡ drop i (take j s)
+    → f ≡ take (j - i) (drop i s) → g ≡ [] → h ≡ [] → f ++ (whole_list g ++ h) ≡ drop i (take j s)
 shelf-within s i j f g h le first none after =
     let fits : i + (j - i) ≡ j = omega arith in
-    ap (λ t. f ++ (joined t ++ h)) none ∙ ap (λ t. f ++ t) after ∙ append-nil f ∙ first ∙ sym (drop-take i (j - i) s)
+    ap (λ t. f ++ (whole_list t ++ h)) none ∙ ap (λ t. f ++ t) after ∙ append-nil f ∙ first
+    ∙ sym (drop-take i (j - i) s)
     ∙ ap (λ n. drop i (take n s)) fits
 
 pub cut-same : {A : Type 0} (ss : List (List A)) (a i b j : ℕ) (w : List A) → a ≡ b
@@ -416,8 +417,8 @@ apart-test a b false e h = refl
 
 pub cut-apart : {A : Type 0} (ss : List (List A)) (a i b j : ℕ) (f : List A) (g : List (List A)) (h : List A)
     → (a ≡ b → ⊥) → f ≡ drop i (get_or ss a []) → g ≡ drop (a + 1) (take b ss) → h ≡ take j (get_or ss b [])
-    → f ++ (joined g ++ h) ≡ cut_between ss a i b j
+    → f ++ (whole_list g ++ h) ≡ cut_between ss a i b j
 cut-apart ss a i b j f g h other first between last =
-    rw (apart-test a b (a == b) refl other) (ap (λ t. t ++ (joined g ++ h)) first
-    ∙ ap (λ t. drop i (get_or ss a []) ++ (joined t ++ h)) between
-    ∙ ap (λ t. drop i (get_or ss a []) ++ (joined (drop (a + 1) (take b ss)) ++ t)) last)
+    rw (apart-test a b (a == b) refl other) (ap (λ t. t ++ (whole_list g ++ h)) first
+    ∙ ap (λ t. drop i (get_or ss a []) ++ (whole_list t ++ h)) between
+    ∙ ap (λ t. drop i (get_or ss a []) ++ (whole_list (drop (a + 1) (take b ss)) ++ t)) last)

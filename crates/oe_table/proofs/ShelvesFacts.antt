@@ -18,7 +18,7 @@ use borrow.Author.Tests.{eqb-true, eqb-false}
 use lib.Dec.{eqb}
 use Rattle.std.specs.Cmp.{IsTotalOrder}
 use Rattle.oe_table.specs.Table.{place, SetsPlace, rows_of}
-use Rattle.oe_table.specs.Shelf.{joined, IsAscending, AreShelves, put_at}
+use Rattle.oe_table.specs.Shelf.{whole_list, IsAscending, AreShelves, put_at}
 use Rattle.oe_table.proofs.TableFacts.{tied, row_in, rows_of-set_place}
 use Rattle.oe_table.proofs.ShelfFacts.{set-none, lookup-set, lookup-put, ascending-put, all-put}
 
@@ -76,7 +76,7 @@ differs cmp exact q k false e apart = refl
 
 -- empty shelves at the end
 module _ {A : Type 0} where
-  pub joined-padded : (ss : List (List A)) (n : ℕ) → joined (ss ++ replicate n []) ≡ joined ss
+  pub joined-padded : (ss : List (List A)) (n : ℕ) → whole_list (ss ++ replicate n []) ≡ whole_list ss
   joined-padded [] zero = refl
   joined-padded [] (suc n) = joined-padded [] n
   joined-padded (s ∷ ss) n = ap (λ t. s ++ t) (joined-padded ss n)
@@ -143,50 +143,51 @@ module _ {K X : Type 0} (cmp : K → K → Ordering) (shelf_of : K → ℕ) wher
 
   -- the keys of shelves from the m-th on
   pub keys-from : (m : ℕ) (ss : List (List (K × X))) → AreShelves cmp shelf_of m ss
-      → AllByRecursion (λ k. m ≤ shelf_of k) (keys_of (joined ss))
+      → AllByRecursion (λ k. m ≤ shelf_of k) (keys_of (whole_list ss))
   unfolding AreShelves
   keys-from m [] h = tt
-  keys-from m (s ∷ ss) h = keys-append (λ k. m ≤ shelf_of k) s (joined ss)
+  keys-from m (s ∷ ss) h = keys-append (λ k. m ≤ shelf_of k) s (whole_list ss)
       (all-weaker (λ k. shelf_of k ≡ m) (λ k. m ≤ shelf_of k) (λ k e. omega arith) (keys_of s) h.1)
-      (all-weaker (λ k. suc m ≤ shelf_of k) (λ k. m ≤ shelf_of k) (λ k e. omega arith) (keys_of (joined ss))
+      (all-weaker (λ k. suc m ≤ shelf_of k) (λ k. m ≤ shelf_of k) (λ k e. omega arith) (keys_of (whole_list ss))
       (keys-from (suc m) ss h.2))
 
   module _ (exact : IsAntisymmetric cmp) where
     place-joined : (m : ℕ) (ss : List (List (K × X))) (key : K) (i : ℕ) → shelf_of key ≡ m + i
-        → AreShelves cmp shelf_of m ss → lookup (is_at (cmp key)) (joined ss) ≡ lookup (is_at (cmp key))
+        → AreShelves cmp shelf_of m ss → lookup (is_at (cmp key)) (whole_list ss) ≡ lookup (is_at (cmp key))
         (get_or ss i [])
     unfolding AreShelves
     place-joined m [] key i is h = refl
     place-joined m (s ∷ ss) key zero is h =
-        lookup-left (is_at (cmp key)) s (joined ss)
-        (lookup-absent (is_at (cmp key)) (joined ss)
-        (above cmp shelf_of exact key (suc m) (keys_of (joined ss)) (omega arith) (keys-from (suc m) ss h.2)))
+        lookup-left (is_at (cmp key)) s (whole_list ss)
+        (lookup-absent (is_at (cmp key)) (whole_list ss)
+        (above cmp shelf_of exact key (suc m) (keys_of (whole_list ss)) (omega arith) (keys-from (suc m) ss h.2)))
     place-joined m (s ∷ ss) key (suc i) is h =
-        lookup-right (is_at (cmp key)) s (joined ss)
+        lookup-right (is_at (cmp key)) s (whole_list ss)
         (beside cmp shelf_of exact key m (keys_of s) (λ same. omega arith) h.1)
         ∙ place-joined (suc m) ss key i (omega arith) h.2
 
     pub place-on_shelf : (ss : List (List (K × X))) (key : K) → AreShelves cmp shelf_of 0 ss
-        → lookup (is_at (cmp key)) (joined ss) ≡ lookup (is_at (cmp key)) (get_or ss (shelf_of key) [])
+        → lookup (is_at (cmp key)) (whole_list ss) ≡ lookup (is_at (cmp key)) (get_or ss (shelf_of key) [])
     place-on_shelf ss key h = place-joined 0 ss key (shelf_of key) (omega arith) h
 
     -- to write on the key's shelf is to write among all
     set_value-joined : (m : ℕ) (ss : List (List (K × X))) (key : K) (i : ℕ) (w : X) → shelf_of key ≡ m + i
         → AreShelves cmp shelf_of m ss
-        → joined (set ss i (set_value (is_at (cmp key)) (get_or ss i []) w)) ≡ set_value (is_at (cmp key)) (joined ss) w
+        → whole_list (set ss i (set_value (is_at (cmp key)) (get_or ss i []) w))
+        ≡ set_value (is_at (cmp key)) (whole_list ss) w
     unfolding AreShelves
     set_value-joined m [] key i w is h = refl
     set_value-joined m (s ∷ ss) key zero w is h =
-        sym (set-left (is_at (cmp key)) s (joined ss) w
-        (above cmp shelf_of exact key (suc m) (keys_of (joined ss)) (omega arith) (keys-from (suc m) ss h.2)))
+        sym (set-left (is_at (cmp key)) s (whole_list ss) w
+        (above cmp shelf_of exact key (suc m) (keys_of (whole_list ss)) (omega arith) (keys-from (suc m) ss h.2)))
     set_value-joined m (s ∷ ss) key (suc i) w is h =
         ap (λ t. s ++ t) (set_value-joined (suc m) ss key i w (omega arith) h.2)
-        ∙ sym (set-right (is_at (cmp key)) s (joined ss) w
+        ∙ sym (set-right (is_at (cmp key)) s (whole_list ss) w
         (beside cmp shelf_of exact key m (keys_of s) (λ same. omega arith) h.1))
 
     pub set_value-on_shelf : (ss : List (List (K × X))) (key : K) (w : X) → AreShelves cmp shelf_of 0 ss
-        → joined (set ss (shelf_of key) (set_value (is_at (cmp key)) (get_or ss (shelf_of key) []) w)) ≡ set_value
-        (is_at (cmp key)) (joined ss) w
+        → whole_list (set ss (shelf_of key) (set_value (is_at (cmp key)) (get_or ss (shelf_of key) []) w)) ≡ set_value
+        (is_at (cmp key)) (whole_list ss) w
     set_value-on_shelf ss key w h = set_value-joined 0 ss key (shelf_of key) w (omega arith) h
 
     pub shelves-set_value : (ss : List (List (K × X))) (key : K) (i : ℕ) (w : X) → AreShelves cmp shelf_of 0 ss
@@ -205,13 +206,13 @@ module _ {K X : Type 0} (cmp : K → K → Ordering) (shelf_of : K → ℕ) wher
         → ((x : K) → lookup (is_at (cmp x)) (get_or new (shelf_of key) []) ≡ cond (is_eq (cmp key x)) o
         (lookup (is_at (cmp x)) (get_or old (shelf_of key) [])))
         → (same : Bool) → eqb (shelf_of q) (shelf_of key) ≡ same
-        → lookup (is_at (cmp q)) (joined new) ≡ cond b o (lookup (is_at (cmp q)) (joined old))
+        → lookup (is_at (cmp q)) (whole_list new) ≡ cond b o (lookup (is_at (cmp q)) (whole_list old))
     at-key old new key q o b at before after rest here true same =
         let e : shelf_of q ≡ shelf_of key = eqb-true _ _ same in
         place-on_shelf new q after ∙ ap (λ i. lookup (is_at (cmp q)) (get_or new i [])) e ∙ here q
         ∙ ap (λ t. cond (is_eq (cmp key q)) o t)
         (ap (λ i. lookup (is_at (cmp q)) (get_or old i [])) (sym e) ∙ sym (place-on_shelf old q before))
-        ∙ ap (λ c. cond c o (lookup (is_at (cmp q)) (joined old))) at
+        ∙ ap (λ c. cond c o (lookup (is_at (cmp q)) (whole_list old))) at
     at-key old new key q o b at before after rest here false same =
         let other : shelf_of key ≡ shelf_of q → ⊥ = λ e. eqb-false _ _ same (sym e) in
         let e : b ≡ false = sym at ∙ apart cmp shelf_of exact key q other in
@@ -223,27 +224,27 @@ module _ {K X : Type 0} (cmp : K → K → Ordering) (shelf_of : K → ℕ) wher
         → ((i : ℕ) → (i ≡ shelf_of key → ⊥) → get_or new i [] ≡ get_or old i [])
         → ((x : K) → lookup (is_at (cmp x)) (get_or new (shelf_of key) []) ≡ cond (is_eq (cmp key x)) o
         (lookup (is_at (cmp x)) (get_or old (shelf_of key) [])))
-        → (q : K) → lookup (is_at (cmp q)) (joined new) ≡ cond (is_eq (cmp key q)) o
-        (lookup (is_at (cmp q)) (joined old))
+        → (q : K) → lookup (is_at (cmp q)) (whole_list new) ≡ cond (is_eq (cmp key q)) o
+        (lookup (is_at (cmp q)) (whole_list old))
     changes-on_shelf old new key o before after rest here q = at-key old new key q o (is_eq (cmp key q)) refl before
         after rest here (eqb (shelf_of q) (shelf_of key)) refl
 
     pub past-shelves : (ss : List (List (K × X))) (key : K) → AreShelves cmp shelf_of 0 ss → length ss ≤ shelf_of key
-        → lookup (is_at (cmp key)) (joined ss) ≡ None
+        → lookup (is_at (cmp key)) (whole_list ss) ≡ None
     past-shelves ss key h under = place-on_shelf ss key h ∙ ap (lookup (is_at (cmp key)))
         (get_or_past ss (shelf_of key) [] under)
 
     -- what the functions of a table answer, where s is the shelf that they read
     pub slot-on_shelf : (ss : List (List (K × X))) (s : List (K × X)) (key : K) → AreShelves cmp shelf_of 0 ss
         → ((d : List (K × X)) → s ≡ get_or ss (shelf_of key) d)
-        → lookup (is_at (cmp key)) s ≡ lookup (is_at (cmp key)) (joined ss)
+        → lookup (is_at (cmp key)) s ≡ lookup (is_at (cmp key)) (whole_list ss)
     slot-on_shelf ss s key h there = ap (lookup (is_at (cmp key))) (there []) ∙ sym (place-on_shelf ss key h)
 
     pub written-on_shelf : (ss : List (List (K × X))) (s new : List (K × X)) (key : K) (w : X)
         → AreShelves cmp shelf_of 0 ss → ((d : List (K × X)) → s ≡ get_or ss (shelf_of key) d)
         → new ≡ set_value (is_at (cmp key)) s w
-        → joined (set ss (shelf_of key) new) ≡ set_value (is_at (cmp key)) (joined ss) w
-    written-on_shelf ss s new key w h there is = ap (λ t. joined (set ss (shelf_of key) t))
+        → whole_list (set ss (shelf_of key) new) ≡ set_value (is_at (cmp key)) (whole_list ss) w
+    written-on_shelf ss s new key w h there is = ap (λ t. whole_list (set ss (shelf_of key) t))
         (is ∙ ap (λ t. set_value (is_at (cmp key)) t w) (there [])) ∙ set_value-on_shelf ss key w h
 
     pub lent-on_shelf : (ss : List (List (K × X))) (s new : List (K × X)) (key : K) (i : ℕ) (w : X)
@@ -296,8 +297,8 @@ module _ {K X : Type 0} {cmp : K → K → Ordering} (total : IsTotalOrder cmp) 
   pub put-places : {A E : Type 0} (r : Result A E) (ss : List (List (K × X))) (s new : List (K × X)) (key : K) (w : X)
       → AreShelves cmp shelf_of 0 ss → shelf_of key < length ss → ((d : List (K × X)) → s ≡ get_or ss (shelf_of key) d)
       → OnOk r (new ≡ put_at cmp s key w)
-      → OnOk r ((q : K) → lookup (is_at (cmp q)) (joined (set ss (shelf_of key) new)) ≡ cond (is_eq (cmp key q))
-      (Some w) (lookup (is_at (cmp q)) (joined ss)))
+      → OnOk r ((q : K) → lookup (is_at (cmp q)) (whole_list (set ss (shelf_of key) new)) ≡ cond (is_eq (cmp key q))
+      (Some w) (lookup (is_at (cmp q)) (whole_list ss)))
   put-places (Ok x) ss s new key w h within there ok =
       changes-on_shelf cmp shelf_of exact ss (set ss (shelf_of key) new) key (Some w) h
       (shelves-put ss s new key w h there ok)
@@ -307,13 +308,14 @@ module _ {K X : Type 0} {cmp : K → K → Ordering} (total : IsTotalOrder cmp) 
 
   pub put-same : {A E : Type 0} (r : Result A E) (ss : List (List (K × X))) (s new : List (K × X)) (key : K)
       → ((d : List (K × X)) → s ≡ get_or ss (shelf_of key) d) → OnErr r (new ≡ s)
-      → OnErr r (joined (set ss (shelf_of key) new) ≡ joined ss)
+      → OnErr r (whole_list (set ss (shelf_of key) new) ≡ whole_list ss)
   put-same (Ok x) ss s new key there err = err
-  put-same (Err e) ss s new key there err = ap joined (same-shelf cmp shelf_of exact ss s new (shelf_of key) there err)
+  put-same (Err e) ss s new key there err = ap whole_list
+      (same-shelf cmp shelf_of exact ss s new (shelf_of key) there err)
 
   pub put-no_place : {A E : Type 0} (r : Result A E) (ss : List (List (K × X))) (s : List (K × X)) (key : K)
       → AreShelves cmp shelf_of 0 ss → ((d : List (K × X)) → s ≡ get_or ss (shelf_of key) d)
-      → OnErr r (lookup (is_at (cmp key)) s ≡ None) → OnErr r (lookup (is_at (cmp key)) (joined ss) ≡ None)
+      → OnErr r (lookup (is_at (cmp key)) s ≡ None) → OnErr r (lookup (is_at (cmp key)) (whole_list ss) ≡ None)
   put-no_place (Ok x) ss s key h there none = none
   put-no_place (Err e) ss s key h there none = sym (slot-on_shelf cmp shelf_of exact ss s key h there) ∙ none
 
@@ -339,5 +341,5 @@ pub shelves-after : {K X : Type 0} (cmp : K → K → Ordering) (shelf_of : K �
 shelves-after cmp shelf_of old new n h is = rw is (shelves-padded cmp shelf_of 0 old n h)
 
 pub joined-after : {A : Type 0} (old new : List (List A)) (n : ℕ) → new ≡ old ++ replicate n []
-    → joined new ≡ joined old
-joined-after old new n is = ap joined is ∙ joined-padded old n
+    → whole_list new ≡ whole_list old
+joined-after old new n is = ap whole_list is ∙ joined-padded old n

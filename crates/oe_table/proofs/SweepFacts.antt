@@ -11,7 +11,7 @@ use Rattle.std.specs.declared.cmp.Ordering.{Ordering}
 use Rattle.std.specs.declared.cmp.Ordering.TheVariants.{Less}
 use Rattle.std.proofs.lemmas.List.Elements.{filter-append}
 use Rattle.oe_table.specs.Table.{place, left_of, with_rows}
-use Rattle.oe_table.specs.Shelf.{joined, IsAscending, AreShelves}
+use Rattle.oe_table.specs.Shelf.{whole_list, IsAscending, AreShelves}
 use Rattle.oe_table.proofs.TableFacts.{tied}
 use Rattle.oe_table.proofs.WalkFacts.{place-below}
 
@@ -53,10 +53,10 @@ module _ {K R : Type 0} where
       (ascending-swept cmp s h.0, all-swept (λ k. shelf_of k ≡ m) s h.1, shelves-swept cmp shelf_of (suc m) ss h.2)
 
   -- all shelves as one
-  pub joined-swept : (ss : List (List (K × Option R))) → joined (map with_rows ss) ≡ with_rows (joined ss)
+  pub joined-swept : (ss : List (List (K × Option R))) → whole_list (map with_rows ss) ≡ with_rows (whole_list ss)
   joined-swept [] = refl
   joined-swept (s ∷ ss) = ap (λ t. with_rows s ++ t) (joined-swept ss)
-      ∙ sym (filter-append (λ e. is_some e.1) s (joined ss))
+      ∙ sym (filter-append (λ e. is_some e.1) s (whole_list ss))
 
   -- what is left at each key
   pub place-swept : (cmp : K → K → Ordering) → IsAntisymmetric cmp → (s : List (K × Option R)) → IsAscending cmp s

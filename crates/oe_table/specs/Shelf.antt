@@ -10,15 +10,15 @@ use Rattle.std.specs.declared.cmp.Ordering.{Ordering}
 use Rattle.std.specs.declared.cmp.Ordering.TheVariants.{Equal}
 
 -- the lists, one after another
-abbrev pub joined : {A : Type 0} → List (List A) → List A
-joined [] = []
-joined (s ∷ ss) = s ++ joined ss
+abbrev pub whole_list : {A : Type 0} → List (List A) → List A
+whole_list [] = []
+whole_list (s ∷ ss) = s ++ whole_list ss
 
 -- what stands from the i-th element of the a-th list on and before the j-th of the b-th
 abbrev pub cut_between : {A : Type 0} → List (List A) → ℕ → ℕ → ℕ → ℕ → List A
 cut_between ss a i b j =
     cond (a == b) (drop i (take j (slice_index_or ss a [])))
-    (drop i (slice_index_or ss a []) ++ (joined (drop (a + 1) (take b ss)) ++ take j (slice_index_or ss b [])))
+    (drop i (slice_index_or ss a []) ++ (whole_list (drop (a + 1) (take b ss)) ++ take j (slice_index_or ss b [])))
 
 -- how many elements stand before the first that fails
 abbrev pub front : {A : Type 0} → (A → Bool) → List A → ℕ

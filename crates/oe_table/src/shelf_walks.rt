@@ -7,7 +7,7 @@ ghost use Rattle.std.specs.Iterator.{YieldsFirstBy, item_count};
 ghost use Rattle.std.specs.Slice.Iter.{iter_rest};
 ghost use Rattle.std.specs.Option.{option_copied};
 ghost use Rattle.oe_table.specs.Table.{live};
-ghost use Rattle.oe_table.specs.Shelf.{joined};
+ghost use Rattle.oe_table.specs.Shelf.{whole_list};
 
 use crate::shelf::{Shelf, Slot};
 use std::marker::Model;
@@ -26,7 +26,7 @@ impl<'a, K, R> Model for Slots<'a, K, R> {
     ghost Value = { List (K × Option R) };
 
     ghost view = { λ it. iter_rest it.front
-        ++ (joined (iter_rest it.shelves) ++ iter_rest it.back) };
+        ++ (whole_list (iter_rest it.shelves) ++ iter_rest it.back) };
 }
 
 impl<'a, K, R> Iterator for Slots<'a, K, R> {

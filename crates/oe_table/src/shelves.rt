@@ -17,7 +17,7 @@ ghost use Rattle.std.specs.Option.{option_copied, option_copied_mut};
 ghost use Rattle.std.specs.Borrow.{sem};
 ghost use Rattle.std.specs.FinMap as map;
 ghost use Rattle.oe_table.specs.Table.{place, live, rows_of, with_rows, IsBlanked, SetsPlace, GivesUpPlace, GivesUpBlanked, LosesPlace};
-ghost use Rattle.oe_table.specs.Shelf.{joined, AreShelves, lower, upper, cut_between};
+ghost use Rattle.oe_table.specs.Shelf.{whole_list, AreShelves, lower, upper, cut_between};
 
 use crate::shelf::{Shelf, Slot};
 use crate::shelf_walks::{Candidates, Rows, Slots};
@@ -40,7 +40,7 @@ pub struct Shelves<K: ShelvedKey, R> {
 impl<K: ShelvedKey, R> Model for Shelves<K, R> {
     ghost Value = { List (K × Option R) };
 
-    ghost view = { λ t. joined t.shelves.items };
+    ghost view = { λ t. whole_list t.shelves.items };
 
     ghost invariant = { λ t. AreShelves K.cmp K.shelf_of 0 t.shelves.items };
 }

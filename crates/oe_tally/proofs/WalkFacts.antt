@@ -10,7 +10,7 @@ use Rattle.std.specs.declared.cmp.Ordering.{Ordering}
 use Rattle.std.specs.declared.cmp.Ordering.TheVariants.{Less, Equal, Greater}
 use Rattle.oe_tally.specs.declared.pairs.Pair.{Pair}
 use Rattle.oe_tally.specs.Tallies.{total, IsSettled}
-use Rattle.oe_tally.specs.Walks.{of_left, of_right, of_both, placed, merged, findings_of, wrong_at, AreAll}
+use Rattle.oe_tally.specs.Walks.{of_left, of_right, of_both, entry_among, pairs_of_both, findings_of, wrong_at, AreAll}
 use Rattle.oe_tally.proofs.OrderFacts.{behind, less}
 
 equal-from : (r : Ordering) → is_eq r ≡ true → r ≡ Equal
@@ -49,16 +49,16 @@ module _ {K A B F : Type 0} (cmp : K → K → Ordering) (order : IsTotalOrder c
   above-cons key k (Some f) found e h = (e, h)
 
   above-map : (key : K) (fs : List (K × B)) → AllByRecursion (λ y. cmp key y ≡ Less) (keys_of fs)
-      → Above key (judged (merged cmp [] fs))
+      → Above key (judged (pairs_of_both cmp [] fs))
   above-map key [] h = tt
   above-map key (f ∷ fs) h = above-cons key f.0 (judge None (Some f.1)) _ h.0 (above-map key fs h.1)
 
   above-order : (r : Ordering) (key : K) (e : K × A) (rest : List (K × B) → List (Pair K A B)) (f : K × B)
       (fs : List (K × B))
       → cmp key e.0 ≡ Less → cmp key f.0 ≡ Less → Above key (judged (rest (f ∷ fs))) → Above key (judged (rest fs))
-      → Above key (judged (placed cmp e rest fs))
+      → Above key (judged (entry_among cmp e rest fs))
       → Above key (judged (match_ordering r (of_left e ∷ rest (f ∷ fs)) (of_both e f ∷ rest fs)
-      (of_right f ∷ placed cmp e rest fs)))
+      (of_right f ∷ entry_among cmp e rest fs)))
   above-order Less key e rest f fs p q x y z = above-cons key e.0 (judge (Some e.1) None) _ p x
   above-order Equal key e rest f fs p q x y z = above-cons key e.0 (judge (Some e.1) (Some f.1)) _ p y
   above-order Greater key e rest f fs p q x y z = above-cons key f.0 (judge None (Some f.1)) _ q z
@@ -67,17 +67,17 @@ module _ {K A B F : Type 0} (cmp : K → K → Ordering) (order : IsTotalOrder c
       ≡ Less
       → AllByRecursion (λ y. cmp key y ≡ Less) (keys_of fs)
       → ((gs : List (K × B)) → AllByRecursion (λ y. cmp key y ≡ Less) (keys_of gs) → Above key (judged (rest gs)))
-      → Above key (judged (placed cmp e rest fs))
+      → Above key (judged (entry_among cmp e rest fs))
   above-placed key e rest [] p h more = above-cons key e.0 (judge (Some e.1) None) _ p (more [] tt)
   above-placed key e rest (f ∷ fs) p h more =
       above-order (cmp e.0 f.0) key e rest f fs p h.0 (more (f ∷ fs) h) (more fs h.1)
       (above-placed key e rest fs p h.1 more)
 
   above-merged : (key : K) (es : List (K × A)) (fs : List (K × B)) → AllByRecursion (λ y. cmp key y ≡ Less) (keys_of es)
-      → AllByRecursion (λ y. cmp key y ≡ Less) (keys_of fs) → Above key (judged (merged cmp es fs))
+      → AllByRecursion (λ y. cmp key y ≡ Less) (keys_of fs) → Above key (judged (pairs_of_both cmp es fs))
   above-merged key [] fs p h = above-map key fs h
   above-merged key (e ∷ es) fs p h =
-      above-placed key e (merged cmp es) fs p.0 h (λ gs g. above-merged key es gs p.1 g)
+      above-placed key e (pairs_of_both cmp es) fs p.0 h (λ gs g. above-merged key es gs p.1 g)
 
   ordered-cons : (k : K) (r : Option F) (found : List (K × F)) → Above k found → IsSettled cmp found
       → IsSettled cmp (cons_option (option_map (λ f. (k, f)) r) found)
@@ -85,18 +85,18 @@ module _ {K A B F : Type 0} (cmp : K → K → Ordering) (order : IsTotalOrder c
   ordered-cons k None found h up = up
   ordered-cons k (Some f) found h up = (h, up)
 
-  ordered-map : (fs : List (K × B)) → IsSettled cmp fs → IsSettled cmp (judged (merged cmp [] fs))
+  ordered-map : (fs : List (K × B)) → IsSettled cmp fs → IsSettled cmp (judged (pairs_of_both cmp [] fs))
   unfolding IsStrictlySortedBy
   ordered-map [] up = tt
   ordered-map (f ∷ fs) up = ordered-cons f.0 (judge None (Some f.1)) _ (above-map f.0 fs up.0) (ordered-map fs up.1)
 
   ordered-order : (r : Ordering) (e : K × A) (es : List (K × A)) (f : K × B) (fs : List (K × B)) → cmp e.0 f.0 ≡ r
       → IsSettled cmp (e ∷ es) → IsSettled cmp (f ∷ fs)
-      → ((gs : List (K × B)) → IsSettled cmp gs → IsSettled cmp (judged (merged cmp es gs)))
-      → IsSettled cmp (judged (placed cmp e (merged cmp es) fs))
+      → ((gs : List (K × B)) → IsSettled cmp gs → IsSettled cmp (judged (pairs_of_both cmp es gs)))
+      → IsSettled cmp (judged (entry_among cmp e (pairs_of_both cmp es) fs))
       → IsSettled cmp (judged
-      (match_ordering r (of_left e ∷ merged cmp es (f ∷ fs)) (of_both e f ∷ merged cmp es fs)
-      (of_right f ∷ placed cmp e (merged cmp es) fs)))
+      (match_ordering r (of_left e ∷ pairs_of_both cmp es (f ∷ fs)) (of_both e f ∷ pairs_of_both cmp es fs)
+      (of_right f ∷ entry_among cmp e (pairs_of_both cmp es) fs)))
   unfolding IsStrictlySortedBy
   ordered-order Less e es f fs is up ups more rest =
       ordered-cons e.0 (judge (Some e.1) None) _
@@ -107,12 +107,12 @@ module _ {K A B F : Type 0} (cmp : K → K → Ordering) (order : IsTotalOrder c
   ordered-order Greater e es f fs is up ups more rest =
       let first : cmp f.0 e.0 ≡ Less = less order e.0 f.0 is in
       ordered-cons f.0 (judge None (Some f.1)) _
-      (above-placed f.0 e (merged cmp es) fs first ups.0
+      (above-placed f.0 e (pairs_of_both cmp es) fs first ups.0
       (λ gs g. above-merged f.0 es gs (all-less order f.0 e.0 (keys_of es) first up.0) g)) rest
 
   ordered-placed : (e : K × A) (es : List (K × A)) (fs : List (K × B)) → IsSettled cmp (e ∷ es) → IsSettled cmp fs
-      → ((gs : List (K × B)) → IsSettled cmp gs → IsSettled cmp (judged (merged cmp es gs)))
-      → IsSettled cmp (judged (placed cmp e (merged cmp es) fs))
+      → ((gs : List (K × B)) → IsSettled cmp gs → IsSettled cmp (judged (pairs_of_both cmp es gs)))
+      → IsSettled cmp (judged (entry_among cmp e (pairs_of_both cmp es) fs))
   unfolding IsStrictlySortedBy
   ordered-placed e es [] up ups more =
       ordered-cons e.0 (judge (Some e.1) None) _ (above-merged e.0 es [] up.0 tt) (more [] tt)
@@ -121,7 +121,7 @@ module _ {K A B F : Type 0} (cmp : K → K → Ordering) (order : IsTotalOrder c
 
   -- what is found comes in the order of keys
   pub ordered-merged : (es : List (K × A)) (fs : List (K × B)) → IsSettled cmp es → IsSettled cmp fs
-      → IsSettled cmp (judged (merged cmp es fs))
+      → IsSettled cmp (judged (pairs_of_both cmp es fs))
   unfolding IsStrictlySortedBy
   ordered-merged [] fs up ups = ordered-map fs ups
   ordered-merged (e ∷ es) fs up ups = ordered-placed e es fs up ups (λ gs g. ordered-merged es gs up.1 g)
@@ -203,18 +203,18 @@ module _ {K A B F : Type 0} (cmp : K → K → Ordering) (order : IsTotalOrder c
       at-other e.0 (judge (Some e.1) (Some f.1)) found tie ∙ rest
       ∙ ap (judge (total same add es k)) (sym right) ∙ ap (λ x. judge x (total same join (f ∷ fs) k)) (sym left)
 
-  at-map : (fs : List (K × B)) → IsSettled cmp fs → at (findings_of judge (merged cmp [] fs)) ≡ of [] fs
+  at-map : (fs : List (K × B)) → IsSettled cmp fs → at (findings_of judge (pairs_of_both cmp [] fs)) ≡ of [] fs
   unfolding IsStrictlySortedBy
   at-map [] up = sym nothing
   at-map (f ∷ fs) up = right-step (same f.0 k) f [] fs _ refl tt up.0 (at-map fs up.1)
 
   at-order : (r : Ordering) (e : K × A) (es : List (K × A)) (f : K × B) (fs : List (K × B)) → cmp e.0 f.0 ≡ r
       → IsSettled cmp (e ∷ es) → IsSettled cmp (f ∷ fs)
-      → ((gs : List (K × B)) → IsSettled cmp gs → at (findings_of judge (merged cmp es gs)) ≡ of es gs)
-      → at (findings_of judge (placed cmp e (merged cmp es) fs)) ≡ of (e ∷ es) fs
+      → ((gs : List (K × B)) → IsSettled cmp gs → at (findings_of judge (pairs_of_both cmp es gs)) ≡ of es gs)
+      → at (findings_of judge (entry_among cmp e (pairs_of_both cmp es) fs)) ≡ of (e ∷ es) fs
       → at (findings_of judge
-      (match_ordering r (of_left e ∷ merged cmp es (f ∷ fs)) (of_both e f ∷ merged cmp es fs)
-      (of_right f ∷ placed cmp e (merged cmp es) fs))) ≡ of (e ∷ es) (f ∷ fs)
+      (match_ordering r (of_left e ∷ pairs_of_both cmp es (f ∷ fs)) (of_both e f ∷ pairs_of_both cmp es fs)
+      (of_right f ∷ entry_among cmp e (pairs_of_both cmp es) fs))) ≡ of (e ∷ es) (f ∷ fs)
   unfolding IsStrictlySortedBy
   at-order Less e es f fs is up ups more rest =
       left-step (same e.0 k) e es (f ∷ fs) _ refl up.0 (is, all-less order e.0 f.0 (keys_of fs) is ups.0)
@@ -227,8 +227,8 @@ module _ {K A B F : Type 0} (cmp : K → K → Ordering) (order : IsTotalOrder c
       right-step (same f.0 k) f (e ∷ es) fs _ refl (first, all-less order f.0 e.0 (keys_of es) first up.0) ups.0 rest
 
   at-placed : (e : K × A) (es : List (K × A)) (fs : List (K × B)) → IsSettled cmp (e ∷ es) → IsSettled cmp fs
-      → ((gs : List (K × B)) → IsSettled cmp gs → at (findings_of judge (merged cmp es gs)) ≡ of es gs)
-      → at (findings_of judge (placed cmp e (merged cmp es) fs)) ≡ of (e ∷ es) fs
+      → ((gs : List (K × B)) → IsSettled cmp gs → at (findings_of judge (pairs_of_both cmp es gs)) ≡ of es gs)
+      → at (findings_of judge (entry_among cmp e (pairs_of_both cmp es) fs)) ≡ of (e ∷ es) fs
   unfolding IsStrictlySortedBy
   at-placed e es [] up ups more = left-step (same e.0 k) e es [] _ refl up.0 tt (more [] tt)
   at-placed e es (f ∷ fs) up ups more =
@@ -236,7 +236,7 @@ module _ {K A B F : Type 0} (cmp : K → K → Ordering) (order : IsTotalOrder c
 
   -- what is found at the key is what the test finds of its sums
   pub at-merged : (es : List (K × A)) (fs : List (K × B)) → IsSettled cmp es → IsSettled cmp fs
-      → at (findings_of judge (merged cmp es fs)) ≡ of es fs
+      → at (findings_of judge (pairs_of_both cmp es fs)) ≡ of es fs
   unfolding IsStrictlySortedBy
   at-merged [] fs up ups = at-map fs ups
   at-merged (e ∷ es) fs up ups = at-placed e es fs up ups (λ gs g. at-merged es gs up.1 g)
@@ -246,7 +246,7 @@ pub are_all : {K A B F : Type 0} (cmp : K → K → Ordering) (order : IsTotalOr
     (ties : (x y : K) → same x y ≡ eq_by_cmp cmp x y) (add : A → A → A) (join : B → B → B)
     (judge : Option A → Option B → Option F) (nothing : judge None None ≡ None)
     (es : List (K × A)) (fs : List (K × B)) → IsSettled cmp es → IsSettled cmp fs
-    → AreAll cmp same (wrong_at same add join judge es fs) (findings_of judge (merged cmp es fs))
+    → AreAll cmp same (wrong_at same add join judge es fs) (findings_of judge (pairs_of_both cmp es fs))
 are_all cmp order ties add join judge nothing es fs up ups = record {
   ordered = ordered-merged cmp order judge es fs up ups;
   exact = λ k. at-merged cmp order ties add join judge nothing k es fs up ups;

@@ -3,9 +3,9 @@ use Rattle.std.specs.Prelude.{ℕ, ◌+◌, ◌-◌, ◌^◌, min}
 use Rattle.oe_tally.specs.declared.count.Count.{Count}
 
 -- the sum, or 2^32 - 1 where it is greater
-abbrev pub capped : ℕ → ℕ → ℕ
-capped a b = min (a + b) (2 ^ 32 - 1)
+abbrev pub sum_in_32_bits : ℕ → ℕ → ℕ
+sum_in_32_bits a b = min (a + b) (2 ^ 32 - 1)
 
 -- the rows of both
 abbrev pub counts_joined : Count → Count → Count
-counts_joined a b = record { rows = capped a.rows b.rows }
+counts_joined a b = record { rows = sum_in_32_bits a.rows b.rows }

@@ -21,22 +21,24 @@ module _ {K A B : Type 0} where
 
 module _ {K A B : Type 0} (cmp : K → K → Ordering) where
   -- an entry of the left goes before the first of the right that is not less; `rest` merges what is behind it
-  abbrev pub placed : K × A → (List (K × B) → List (Pair K A B)) → List (K × B) → List (Pair K A B)
-  placed e rest [] = of_left e ∷ rest []
-  placed e rest (f ∷ fs) =
-      match_ordering (cmp e.0 f.0) (of_left e ∷ rest (f ∷ fs)) (of_both e f ∷ rest fs) (of_right f ∷ placed e rest fs)
+  abbrev pub entry_among : K × A → (List (K × B) → List (Pair K A B)) → List (K × B) → List (Pair K A B)
+  entry_among e rest [] = of_left e ∷ rest []
+  entry_among e rest (f ∷ fs) =
+      match_ordering (cmp e.0 f.0) (of_left e ∷ rest (f ∷ fs)) (of_both e f ∷ rest fs)
+      (of_right f ∷ entry_among e rest fs)
 
   -- the entries of both sides in the order of keys, those of one key as one
-  abbrev pub merged : List (K × A) → List (K × B) → List (Pair K A B)
-  merged [] fs = map of_right fs
-  merged (e ∷ es) fs = placed e (merged es) fs
+  abbrev pub pairs_of_both : List (K × A) → List (K × B) → List (Pair K A B)
+  pairs_of_both [] fs = map of_right fs
+  pairs_of_both (e ∷ es) fs = entry_among e (pairs_of_both es) fs
 
 -- a walk gives the first of what it has left, or has nothing left
 abbrev pub GivesFirst : {K A B : Type 0} → (K → K → Ordering) → List (K × A) × List (K × B) → List (K × A)
     × List (K × B)
     → Option (Pair K A B) → Type 0
 GivesFirst cmp old new given =
-    MatchOption given (merged cmp old.0 old.1 ≡ []) (λ p. merged cmp old.0 old.1 ≡ p ∷ merged cmp new.0 new.1)
+    MatchOption given (pairs_of_both cmp old.0 old.1 ≡ [])
+    (λ p. pairs_of_both cmp old.0 old.1 ≡ p ∷ pairs_of_both cmp new.0 new.1)
 
 -- how many entries a walk has left
 abbrev pub left_of : {K A B : Type 0} → List (K × A) × List (K × B) → ℕ

@@ -13,7 +13,7 @@ ghost use Rattle.std.specs.List.Sorted.{IsPermutation, IsSortedByKey};
 ghost use Rattle.std.specs.Option.{option_copied};
 ghost use Rattle.std.specs.Bool.{OnTrue};
 ghost use Rattle.oe_tally.specs.Tallies.{total, Adds, SameTotals, EntriesAreTotals};
-ghost use Rattle.oe_tally.specs.Tallies.{IsAt, IsSettled, settled, unsettled};
+ghost use Rattle.oe_tally.specs.Tallies.{IsAt, IsSettled, one_per_key, one_per_key_up_to};
 
 use crate::join::Join;
 use std::alloc::{AllocError, Global};
@@ -249,8 +249,8 @@ fn join_next<K: Ord + Copy, V: Join>(entries: &mut Vec<(K, V)>, last: usize, at:
     requires within { at < length entries.old.items }
     ensures before { result ≤ at }
     ensures length { length entries.new.items ≡ length entries.old.items }
-    ensures joins { unsettled K.eq V.joined entries.new.items result (at + 1)
-        ≡ unsettled K.eq V.joined entries.old.items last at }
+    ensures joins { one_per_key_up_to K.eq V.joined entries.new.items result (at + 1)
+        ≡ one_per_key_up_to K.eq V.joined entries.old.items last at }
 {
     let entry = entries[at];
     if entry.0 == entries[last].0 {
@@ -263,7 +263,7 @@ fn join_next<K: Ord + Copy, V: Join>(entries: &mut Vec<(K, V)>, last: usize, at:
 
 // Joins neighbours of one key.
 fn join_runs<K: Ord + Copy, V: Join>(entries: &mut Vec<(K, V)>)
-    ensures { entries.new.items ≡ settled K.eq V.joined entries.old.items }
+    ensures { entries.new.items ≡ one_per_key K.eq V.joined entries.old.items }
 {
     if entries.len() < 2 {
         return;

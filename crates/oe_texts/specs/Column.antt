@@ -37,6 +37,6 @@ line_of (c ∷ []) = c ++ 10 ∷ []
 line_of (c ∷ d ∷ cs) = c ++ 9 ∷ line_of (d ∷ cs)
 
 -- columns with a tab byte after each: the beginning of a row
-abbrev pub tabbed : List (List ℕ) → List ℕ
-tabbed [] = []
-tabbed (c ∷ cs) = c ++ 9 ∷ tabbed cs
+abbrev pub with_tabs : List (List ℕ) → List ℕ
+with_tabs [] = []
+with_tabs (c ∷ cs) = c ++ 9 ∷ with_tabs cs

@@ -2,7 +2,7 @@
 //! key's columns first.
 ghost use Rattle.std.specs.Prelude.{◌≡◌, ◌≤◌, ◌+◌, ◌++◌, length};
 ghost use Rattle.arrayvec.specs.ArrayVec.{array_vec_len};
-ghost use Rattle.oe_texts.specs.Column.{line_of, tabbed};
+ghost use Rattle.oe_texts.specs.Column.{line_of, with_tabs};
 ghost use Rattle.oe_texts.specs.Dump.{address_columns, name_columns, account_columns, standing_columns, supply_columns, count_columns, warehouse_columns, district_columns, customer_columns, reference_columns, history_columns, new_order_columns, order_columns, order_line_columns, item_columns, stock_columns, count_line};
 
 use crate::columns::{
@@ -21,7 +21,7 @@ use oe_values::Text;
 /// Appends the five columns of an address.
 fn address(out: &mut Pending, address: &Address)
     requires { array_vec_len out.old + 76 ≤ SIZE }
-    ensures items { out.new.items ≡ out.old.items ++ tabbed (address_columns address.now) }
+    ensures items { out.new.items ≡ out.old.items ++ with_tabs (address_columns address.now) }
     ensures len { array_vec_len out.new ≤ array_vec_len out.old + 76 }
 {
     text_then(out, address.street_1.as_str(), b'\t');
@@ -61,7 +61,7 @@ pub fn district_row(out: &mut Pending, key: DistrictKey, row: &District)
 /// Appends C_FIRST, C_MIDDLE and C_LAST.
 fn customer_name(out: &mut Pending, name: &CustomerName)
     requires { array_vec_len out.old + 37 ≤ SIZE }
-    ensures items { out.new.items ≡ out.old.items ++ tabbed (name_columns name.now) }
+    ensures items { out.new.items ≡ out.old.items ++ with_tabs (name_columns name.now) }
     ensures len { array_vec_len out.new ≤ array_vec_len out.old + 37 }
 {
     text_then(out, name.first.as_str(), b'\t');
@@ -72,7 +72,7 @@ fn customer_name(out: &mut Pending, name: &CustomerName)
 /// Appends the money and the counts of a customer.
 fn account(out: &mut Pending, account: Account)
     requires { array_vec_len out.old + 102 ≤ SIZE }
-    ensures items { out.new.items ≡ out.old.items ++ tabbed (account_columns account) }
+    ensures items { out.new.items ≡ out.old.items ++ with_tabs (account_columns account) }
     ensures len { array_vec_len out.new ≤ array_vec_len out.old + 102 }
 {
     money_then(out, account.credit_limit.cents(), b'\t');
@@ -86,7 +86,7 @@ fn account(out: &mut Pending, account: Account)
 /// Appends C_PHONE, C_SINCE and C_CREDIT.
 fn standing(out: &mut Pending, row: &Customer)
     requires { array_vec_len out.old + 40 ≤ SIZE }
-    ensures items { out.new.items ≡ out.old.items ++ tabbed (standing_columns row.now) }
+    ensures items { out.new.items ≡ out.old.items ++ with_tabs (standing_columns row.now) }
     ensures len { array_vec_len out.new ≤ array_vec_len out.old + 40 }
 {
     text_then(out, row.phone.as_str(), b'\t');
@@ -112,7 +112,7 @@ pub fn customer_row(out: &mut Pending, key: CustomerKey, row: &Customer)
 fn references(out: &mut Pending, customer: CustomerKey, district: DistrictKey)
     requires { array_vec_len out.old + 55 ≤ SIZE }
     ensures items { out.new.items
-        ≡ out.old.items ++ tabbed (reference_columns customer district) }
+        ≡ out.old.items ++ with_tabs (reference_columns customer district) }
     ensures len { array_vec_len out.new ≤ array_vec_len out.old + 55 }
 {
     small_then(out, customer.customer.get(), b'\t');
@@ -162,7 +162,7 @@ pub fn order_row(out: &mut Pending, key: OrderKey, row: &Order)
 /// Appends OL_I_ID, OL_SUPPLY_W_ID and OL_DELIVERY_D.
 fn supply(out: &mut Pending, row: &OrderLine)
     requires { array_vec_len out.old + 42 ≤ SIZE }
-    ensures items { out.new.items ≡ out.old.items ++ tabbed (supply_columns row.now) }
+    ensures items { out.new.items ≡ out.old.items ++ with_tabs (supply_columns row.now) }
     ensures len { array_vec_len out.new ≤ array_vec_len out.old + 42 }
 {
     small_then(out, row.item.get(), b'\t');
@@ -200,7 +200,7 @@ pub fn item_row(out: &mut Pending, key: ItemKey, row: &Item)
 fn dist_infos(out: &mut Pending, infos: &[Text<24, 24>])
     requires ten { length infos.now ≤ 10 }
     requires room { array_vec_len out.old + 250 ≤ SIZE }
-    ensures items { out.new.items ≡ out.old.items ++ tabbed infos.now }
+    ensures items { out.new.items ≡ out.old.items ++ with_tabs infos.now }
     ensures len { array_vec_len out.new ≤ array_vec_len out.old + 250 }
 {
     for info in infos {
@@ -211,7 +211,7 @@ fn dist_infos(out: &mut Pending, infos: &[Text<24, 24>])
 /// Appends S_YTD, S_ORDER_CNT and S_REMOTE_CNT.
 fn counts(out: &mut Pending, row: &Stock)
     requires { array_vec_len out.old + 33 ≤ SIZE }
-    ensures items { out.new.items ≡ out.old.items ++ tabbed (count_columns row.now) }
+    ensures items { out.new.items ≡ out.old.items ++ with_tabs (count_columns row.now) }
     ensures len { array_vec_len out.new ≤ array_vec_len out.old + 33 }
 {
     small_then(out, row.ytd.get(), b'\t');

@@ -3,7 +3,7 @@ ghost use Rattle.std.specs.Prelude.{◌≡◌, ◌≤◌, ◌+◌, ◌∷◌, �
 ghost use Rattle.std.specs.List.{join_with_byte};
 ghost use Rattle.arrayvec.specs.ArrayVec.{array_vec_len};
 ghost use Rattle.oe_rows.specs.Key.{table_of, table_name};
-ghost use Rattle.oe_texts.specs.Column.{tabbed};
+ghost use Rattle.oe_texts.specs.Column.{with_tabs};
 ghost use Rattle.oe_texts.specs.Key.{key_texts, key_text, name_text};
 
 use crate::columns::{small, small_then};
@@ -117,7 +117,7 @@ pub fn columns(out: &mut Pending, key: &Key, between: u8)
 /// Appends a key's columns, with a tab byte after each.
 pub(crate) fn tabbed(out: &mut Pending, key: &Key)
     requires { array_vec_len out.old + 44 ≤ SIZE }
-    ensures items { out.new.items ≡ out.old.items ++ tabbed (key_texts key.now) }
+    ensures items { out.new.items ≡ out.old.items ++ with_tabs (key_texts key.now) }
     ensures len { array_vec_len out.new ≤ array_vec_len out.old + 44 }
 {
     columns(out, key, b'\t');

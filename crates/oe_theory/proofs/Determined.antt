@@ -8,8 +8,10 @@ use Rattle.oe_theory.specs.World.{Open, World, tx_of, tables, horizon, newest, a
 use Rattle.oe_theory.specs.Next.{HasRoom, IsFull, Step, Begin, Advance, Save, Back, Rollback, Read, Audit, Purge}
 use Rattle.oe_theory.specs.Next.{Rewind, Answer, Begun, More, Committed, Saved, Gone_back, Rolled_back, Replied}
 use Rattle.oe_theory.specs.Next.{Audited, Purged, Rewound, Aborted, Rejected, Busy, Undo_full, Not_open, Already_open}
-use Rattle.oe_theory.specs.Next.{Too_old, Future, Not_quiet, No_memory, works_on, moment, count_open, put_active, begun}
-use Rattle.oe_theory.specs.Next.{moved, IsGranted, IsInTheWay, committed, purged, rewound, IsQuiet, IsPast, Next}
+use Rattle.oe_theory.specs.Next.{Too_old, Future, Not_quiet, No_memory, works_on, moment, count_open, put_active}
+use Rattle.oe_theory.specs.Next.{open_at_begin}
+use Rattle.oe_theory.specs.Next.{open_after, IsGranted, IsInTheWay, after_commit, after_purge, after_rewind, IsQuiet}
+use Rattle.oe_theory.specs.Next.{IsPast, Next}
 use Rattle.oe_theory.specs.Next.{begins, goes_on, commits, saves, goes_back, rolls_back, reads, audits, purges, rewinds}
 use Rattle.oe_theory.specs.Next.{stops, fails, is_busy, is_full, is_rejected, is_open, number_is_rejected}
 use Rattle.oe_theory.specs.Next.{query_is_rejected, misses, not_open, too_old, future, not_quiet, lacks_memory_at_begin}
@@ -40,12 +42,12 @@ module _ (M : Machine) where
     went : (c : Option Change) (p : Position) → act (tx_of M t o) o.now.position (tables M w) ≡ Go c p → HasRoom M w o c
         → a ≡ More
         → v ≡ put_active M t
-        (Some (moved M w.layout o (ask (tx_of M t o) o.now.position (tables M w)) c p (tables M w))) w
+        (Some (open_after M w.layout o (ask (tx_of M t o) o.now.position (tables M w)) c p (tables M w))) w
         → Done w t o a v
     was_full : (c : Change) (p : Position) → act (tx_of M t o) o.now.position (tables M w) ≡ Go (Some c) p
         → IsFull M w o c → a ≡ Undo_full → v ≡ w → Done w t o a v
     was_ready : (y : Reply) → act (tx_of M t o) o.now.position (tables M w) ≡ Ready y
-        → a ≡ Committed (suc (newest M w)) y → v ≡ committed M w t o y → Done w t o a v
+        → a ≡ Committed (suc (newest M w)) y → v ≡ after_commit M w t o y → Done w t o a v
     failed : (e : Refusal) → act (tx_of M t o) o.now.position (tables M w) ≡ Fail e → a ≡ Aborted e
         → v ≡ put_active M t None w → Done w t o a v
 
@@ -74,7 +76,7 @@ module _ (M : Machine) where
   begin_said w t q (Some e) l n = (Rejected e, w)
   begin_said w t q None (Some o) n = (Already_open, w)
   begin_said w t q None None (Some e) = (Rejected e, w)
-  begin_said w t q None None None = (Begun, put_active M t (Some (begun M w t q)) w)
+  begin_said w t q None None None = (Begun, put_active M t (Some (open_at_begin M w t q)) w)
 
   abbrev outcome_said : Outcome Found Refusal → Answer M
   outcome_said (Here f) = Replied f
@@ -93,8 +95,8 @@ module _ (M : Machine) where
   Said w (Read m q) a v = ((e : Refusal) × (query_rejection q (tables M w) ≡ Some e) × (a ≡ Rejected e) × (v ≡ w))
       ⊎ ((query_rejection q (tables M w) ≡ None) × Looked w m a v (outcome_said (find q (at M w m))) w)
   Said w (Audit m c) a v = Looked w m a v (Audited (verdict c (at M w m))) w
-  Said w (Purge m) a v = Looked w m a v (Purged m) (purged M w m)
-  Said w (Rewind m) a v = (IsQuiet M w × Looked w m a v (Rewound m) (rewound M w m))
+  Said w (Purge m) a v = Looked w m a v (Purged m) (after_purge M w m)
+  Said w (Rewind m) a v = (IsQuiet M w × Looked w m a v (Rewound m) (after_rewind M w m))
       ⊎ ((n : ℕ) × (count_open M w.active terminal_limit ≡ suc n) × (a ≡ Not_quiet (suc n)) × (v ≡ w))
 
   not_open_said : (w : World M) (t : ℕ) → w.active t ≡ None → (i : Step M) → works_on M i ≡ Some t → Said w i Not_open w
@@ -195,8 +197,8 @@ module _ (M : Machine) where
       let j : p ≡ p' = cc in
       let x = ask (tx_of M t o) o.now.position (tables M w) in
       same_by a a' More v v' _ e f e'
-      (f' ∙ (ap (λ z. put_active M t (Some (moved M w.layout o x z p' (tables M w))) w) (sym i)
-      ∙ ap (λ z. put_active M t (Some (moved M w.layout o x c z (tables M w))) w) (sym j)))
+      (f' ∙ (ap (λ z. put_active M t (Some (open_after M w.layout o x z p' (tables M w))) w) (sym i)
+      ∙ ap (λ z. put_active M t (Some (open_after M w.layout o x c z (tables M w))) w) (sym j)))
   same_done w t o a a' v v' (went c p r h e f) (was_full c' p' r' h' e' f') =
       let same : ◌≡◌ {A = Act Change Position Reply Refusal} (Go c p) (Go (Some c') p') = sym r ∙ r' in
       let i : c ≡ Some c' = cc in
@@ -222,7 +224,7 @@ module _ (M : Machine) where
   same_done w t o a a' v v' (was_ready y r e f) (was_ready y' r' e' f') =
       let same : ◌≡◌ {A = Act Change Position Reply Refusal} (Ready y) (Ready y') = sym r ∙ r' in
       let i : y' ≡ y = cc in
-      same_by a a' _ v v' _ e f (e' ∙ ap (λ z. Committed (suc (newest M w)) z) i) (f' ∙ ap (committed M w t o) i)
+      same_by a a' _ v v' _ e f (e' ∙ ap (λ z. Committed (suc (newest M w)) z) i) (f' ∙ ap (after_commit M w t o) i)
   same_done w t o a a' v v' (was_ready y r e f) (failed y' r' e' f') =
       let same : ◌≡◌ {A = Act Change Position Reply Refusal} (Ready y) (Fail y') = sym r ∙ r' in cc
   same_done w t o a a' v v' (failed y r e f) (went c p r' h' e' f') =

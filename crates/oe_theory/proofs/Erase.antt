@@ -6,12 +6,14 @@ use Rattle.std.proofs.lemmas.Bool.{cases_eq, eqb-true, eqb-false, false≢true}
 use Rattle.oe_theory.specs.Machine.{Machine, Ask, Stop, Plain, Take, Go}
 use Rattle.oe_theory.specs.World.{set, Open, World, tx_of, tables, newest}
 use Rattle.oe_theory.specs.Next.{Step, Begin, Advance, Save, Back, Rollback, Answer, Begun, More, Committed, Saved}
-use Rattle.oe_theory.specs.Next.{Gone_back, Rolled_back, Aborted, works_on, put_active, begun, moved, add_length}
-use Rattle.oe_theory.specs.Next.{filled, used_by, used_active, HasRoom, IsGranted, committed, Next, begins, goes_on}
+use Rattle.oe_theory.specs.Next.{Gone_back, Rolled_back, Aborted, works_on, put_active, open_at_begin, open_after}
+use Rattle.oe_theory.specs.Next.{add_length}
+use Rattle.oe_theory.specs.Next.{fill_of, used_by, used_active, HasRoom, IsGranted, after_commit, Next, begins, goes_on}
 use Rattle.oe_theory.specs.Next.{commits, saves, goes_back, rolls_back, reads, audits, purges, rewinds, stops, fails}
 use Rattle.oe_theory.specs.Next.{Event, Run}
 use Rattle.oe_theory.specs.Laws.{IsSameEver, Sound, Laws}
-use Rattle.oe_theory.specs.Erase.{is_idle, is_rollback, is_commit, names, is_of, tidy, is_rolled_back, erased, without}
+use Rattle.oe_theory.specs.Erase.{is_idle, is_rollback, is_commit, names, is_of, tidy, is_rolled_back, events_without}
+use Rattle.oe_theory.specs.Erase.{without}
 use Rattle.oe_theory.proofs.Sets.{set_same, set_other, set_swap, set_twice, set_idle, set_cases, some_inj, some_none}
 use Rattle.oe_theory.proofs.Tables.{same_ever}
 use Rattle.oe_theory.proofs.Steps.{row_alone, reads_alone, acts_alone, sound_drop, next_sound}
@@ -66,7 +68,7 @@ module _ (M : Machine) (L : Laws M) where
       → works_on M i ≡ Some t → Next M w i a v → Own_step w t a v
   own_step w t o l _ _ _ h (begins u q b) = absurd (some_none t (sym h))
   own_step w t o l _ _ _ h (goes_on u p c q e g r room) =
-      let p' = moved M w.layout p (ask (tx_of M u p) p.now.position (tables M w)) c q (tables M w) in
+      let p' = open_after M w.layout p (ask (tx_of M u p) p.now.position (tables M w)) c q (tables M w) in
       went_on refl p' (set_same u (Some p') w.active t (sym (some_inj u t h))) (put_own w t u p' (some_inj u t h))
   own_step w t o l _ _ _ h (commits u p reply e g r) = was_committed refl refl
   own_step w t o l _ _ _ h (saves u p e) =
@@ -170,7 +172,7 @@ module _ (M : Machine) (L : Laws M) where
       → HasRoom M w o c → HasRoom M (forget t w) o c
   same_room w s t u o None p ne e g r room = room
   same_room w s t u o (Some c) p ne e g r (inl fits) =
-      inl (subst (λ v. size_of (record_of w.layout c v) ≤ (filled M o.lengths).1)
+      inl (subst (λ v. size_of (record_of w.layout c v) ≤ (fill_of M o.lengths).1)
       (same_row w s t u o c p ne e g r) fits)
   same_room w s t u o (Some c) p ne e g r (inr free) = inr (omega (arith, free, fewer_used t M.terminal_limit w.active))
 
@@ -186,7 +188,7 @@ module _ (M : Machine) (L : Laws M) where
       → (i : Step M) (a : Answer M) (v : World M) → works_on M i ≢ Some t → Next M w i a v → Other_step w t i a v
   other_step w s t o l _ _ _ h (begins u q b) =
       let ne : u ≢ t = λ z. some_none o (sym l ∙ (ap w.active (sym z) ∙ b.closed)) in
-      let p = begun M w u q in
+      let p = open_at_begin M w u q in
       stands refl o (still_open w t u o (Some p) ne l)
       (subst (Next M (forget t w) (Begin u q) Begun) (put_other w t u (Some p) ne)
       (begins u q (record {
@@ -199,13 +201,13 @@ module _ (M : Machine) (L : Laws M) where
   other_step w s t o l _ _ _ h (goes_on u p c q e g r room) =
       let ne : u ≢ t = λ z. h (ap Some z) in
       let a = ask (tx_of M u p) p.now.position (tables M w) in
-      let p' = moved M w.layout p a c q (tables M w) in
+      let p' = open_after M w.layout p a c q (tables M w) in
       stands refl o (still_open w t u o (Some p') ne l)
       (subst (Next M (forget t w) (Advance u) More) (put_other w t u (Some p') ne)
       (subst (λ (z : List ℕ). Next M (forget t w) (Advance u) More
       (put_active M u (Some (record p' { lengths = z })) (forget t w))) (sym (same_lengths w s t u p c q ne e g r))
       (subst (λ (z : Ask Name Refusal). Next M (forget t w) (Advance u) More
-      (put_active M u (Some (moved M w.layout p z c q (tables M (forget t w)))) (forget t w))) (sym
+      (put_active M u (Some (open_after M w.layout p z c q (tables M (forget t w)))) (forget t w))) (sym
       (same_ask w s t u p ne e))
       (goes_on u p c q (live_without w t u (Some p) ne e) (granted w s t u p ne e g)
       (sym (same_act w s t u p ne e g) ∙ r) (same_room w s t u p c q ne e g r room)))))
@@ -213,7 +215,7 @@ module _ (M : Machine) (L : Laws M) where
       let ne : u ≢ t = λ z. h (ap Some z) in
       stands refl o (still_open w t u o None ne l)
       (subst (Next M (forget t w) (Advance u) (Committed (suc (newest M w)) reply))
-      (ap (with_active (committed M w u p reply)) (set_swap u t None None w.active (λ z. ne (sym z))))
+      (ap (with_active (after_commit M w u p reply)) (set_swap u t None None w.active (λ z. ne (sym z))))
       (commits u p reply (live_without w t u (Some p) ne e) (granted w s t u p ne e g)
       (sym (same_act w s t u p ne e g) ∙ r)))
   other_step w s t o l _ _ _ h (saves u p e) =
@@ -284,7 +286,7 @@ module _ (M : Machine) (L : Laws M) where
   -- while the transaction is open
   pub run_erased : (w : World M) → Sound M w → (t : ℕ) (o : Open M) → w.active t ≡ Some o
       → (es : List (Event M)) (w' : World M)
-      → Run M w es w' → is_rolled_back M t es ≡ true → Run M (forget t w) (erased M t es) w'
+      → Run M w es w' → is_rolled_back M t es ≡ true → Run M (forget t w) (events_without M t es) w'
   run_erased w s t o l [] w' r h = absurd (false≢true h)
   run_erased w s t o l (e ∷ es) w' r h =
       go (is_of M t e.step) refl h (λ p k. run_erased r.0 (next_sound M L w s e.step e.answer r.0 r.1) t p k es w' r.2)
@@ -292,18 +294,18 @@ module _ (M : Machine) (L : Laws M) where
       own : Own_step w t e.answer r.0 → cond (is_rollback M e.answer) true
           (cond (is_commit M e.answer) false (is_rolled_back M t es)) ≡ true
           → ((p : Open M) → r.0.active t ≡ Some p → is_rolled_back M t es ≡ true
-          → Run M (forget t r.0) (erased M t es) w')
-          → Run M (forget t w) (cond (is_rollback M e.answer) (tidy M es) (erased M t es)) w'
+          → Run M (forget t r.0) (events_without M t es) w')
+          → Run M (forget t w) (cond (is_rollback M e.answer) (tidy M es) (events_without M t es)) w'
       own (ended a b) h f =
-          subst (λ (z : Bool). Run M (forget t w) (cond z (tidy M es) (erased M t es)) w') (sym a)
+          subst (λ (z : Bool). Run M (forget t w) (cond z (tidy M es) (events_without M t es)) w') (sym a)
           (subst (λ (z : World M). Run M z (tidy M es) w') b (run_tidy r.0 es w' r.2))
       own (was_committed a b) h f =
           absurd (false≢true (subst (λ (z : Bool). cond z false (is_rolled_back M t es) ≡ true) b
           (subst (λ (z : Bool). cond z true (cond (is_commit M e.answer) false (is_rolled_back M t es)) ≡ true) a
           h)))
       own (went_on a p k b) h f =
-          subst (λ (z : Bool). Run M (forget t w) (cond z (tidy M es) (erased M t es)) w') (sym a)
-          (subst (λ (z : World M). Run M z (erased M t es) w') b
+          subst (λ (z : Bool). Run M (forget t w) (cond z (tidy M es) (events_without M t es)) w') (sym a)
+          (subst (λ (z : World M). Run M z (events_without M t es) w') b
           (f p k (later (is_commit M e.answer)
           (subst (λ (z : Bool). cond z true (cond (is_commit M e.answer) false (is_rolled_back M t es)) ≡ true) a
           h))))
@@ -314,23 +316,25 @@ module _ (M : Machine) (L : Laws M) where
 
       other : Other_step w t e.step e.answer r.0 → is_rolled_back M t es ≡ true
           → ((p : Open M) → r.0.active t ≡ Some p → is_rolled_back M t es ≡ true
-          → Run M (forget t r.0) (erased M t es) w')
-          → Run M (forget t w) (cond (is_idle M e.answer) (erased M t es) (e ∷ erased M t es)) w'
+          → Run M (forget t r.0) (events_without M t es) w')
+          → Run M (forget t w) (cond (is_idle M e.answer) (events_without M t es) (e ∷ events_without M t es)) w'
       other (idle a b) h f =
-          subst (λ (z : Bool). Run M (forget t w) (cond z (erased M t es) (e ∷ erased M t es)) w') (sym a)
-          (subst (λ (z : World M). Run M (forget t z) (erased M t es) w') b
+          subst (λ (z : Bool). Run M (forget t w) (cond z (events_without M t es) (e ∷ events_without M t es)) w')
+          (sym a)
+          (subst (λ (z : World M). Run M (forget t z) (events_without M t es) w') b
           (f o (ap (λ (z : World M). z.active t) b ∙ l) h))
       other (stands a p k n) h f =
-          subst (λ (z : Bool). Run M (forget t w) (cond z (erased M t es) (e ∷ erased M t es)) w') (sym a)
+          subst (λ (z : Bool). Run M (forget t w) (cond z (events_without M t es) (e ∷ events_without M t es)) w')
+          (sym a)
           (forget t r.0, n, f p k h)
 
       go : (b : Bool) → is_of M t e.step ≡ b
           → cond b (cond (is_rollback M e.answer) true (cond (is_commit M e.answer) false (is_rolled_back M t es)))
           (is_rolled_back M t es) ≡ true
           → ((p : Open M) → r.0.active t ≡ Some p → is_rolled_back M t es ≡ true
-          → Run M (forget t r.0) (erased M t es) w')
-          → Run M (forget t w) (cond b (cond (is_rollback M e.answer) (tidy M es) (erased M t es))
-          (cond (is_idle M e.answer) (erased M t es) (e ∷ erased M t es))) w'
+          → Run M (forget t r.0) (events_without M t es) w')
+          → Run M (forget t w) (cond b (cond (is_rollback M e.answer) (tidy M es) (events_without M t es))
+          (cond (is_idle M e.answer) (events_without M t es) (e ∷ events_without M t es))) w'
       go true q h f = own (own_step w t o l e.step e.answer r.0 (works t (works_on M e.step) q) r.1) h f
       go false q h f = other (other_step w s t o l e.step e.answer r.0 (works_not t (works_on M e.step) q) r.1) h f
 
@@ -340,7 +344,7 @@ module _ (M : Machine) (L : Laws M) where
       → (o : Open M) × (v.active t ≡ Some o) × (forget t v ≡ w)
   begin_step w t q _ _ _ (begins u p b) i a =
       let same : u ≡ t = cc in
-      let o = begun M w u p in (
+      let o = open_at_begin M w u p in (
         o,
         set_same u (Some o) w.active t (sym same),
         put_own w t u o same
@@ -355,13 +359,13 @@ module _ (M : Machine) (L : Laws M) where
       → Run M w (without M before t after) w'
   run_without w s [] t q after w' r h =
       let b = begin_step w t q (Begin t q) Begun r.0 r.1 refl refl in
-      subst (λ (z : World M). Run M z (erased M t after) w') b.2
+      subst (λ (z : World M). Run M z (events_without M t after) w') b.2
       (run_erased r.0 (next_sound M L w s (Begin t q) Begun r.0 r.1) t b.0 b.1 after w' r.2 h)
   run_without w s (e ∷ before) t q after w' r h = go (is_idle M e.answer) refl
       (run_without r.0 (next_sound M L w s e.step e.answer r.0 r.1) before t q after w' r.2 h)
     where
       go : (b : Bool) → is_idle M e.answer ≡ b → Run M r.0 (without M before t after) w'
-          → Run M w (cond b (tidy M before) (e ∷ tidy M before) ++ erased M t after) w'
+          → Run M w (cond b (tidy M before) (e ∷ tidy M before) ++ events_without M t after) w'
       go true i x = subst (λ (z : World M). Run M z (without M before t after) w')
           (idle_stays w e.step e.answer r.0 r.1 i) x
       go false i x = (r.0, r.1, x)

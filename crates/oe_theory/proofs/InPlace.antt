@@ -2,10 +2,12 @@
 use Rattle.std.proofs.Common.{◌≡◌, ℕ, ◌-◌, Bool, true, false, cond, Option, None, Some, ◌∷◌, take, refl, sym, ap, ◌∙◌}
 use Rattle.oe_theory.specs.Machine.{Machine, Go}
 use Rattle.oe_theory.specs.World.{set, Open, World, tx_of, overlay, net, map_after, newest, latest, layers, tables}
-use Rattle.oe_theory.specs.Next.{put_active, moved, begun, Step, Advance, Answer, More, Next, begins, goes_on, commits}
+use Rattle.oe_theory.specs.Next.{put_active, open_after, open_at_begin, Step, Advance, Answer, More, Next, begins}
+use Rattle.oe_theory.specs.Next.{goes_on, commits}
 use Rattle.oe_theory.specs.Next.{saves, goes_back, rolls_back, purges, rewinds, stops, fails}
 use Rattle.oe_theory.specs.Laws.{Sound, Laws}
-use Rattle.oe_theory.specs.Undo.{Undo, unwind, unwind_commits, Keeps, with_change, changed, since_mark, tables_after}
+use Rattle.oe_theory.specs.Undo.{Undo, unwind, unwind_commits, Keeps, with_change, tables_with, since_mark}
+use Rattle.oe_theory.specs.Undo.{tables_after}
 use Rattle.oe_theory.proofs.Sets.{set_same}
 use Rattle.oe_theory.proofs.Replay.{upon, at_overlay}
 use Rattle.oe_theory.proofs.Tables.{net_of, topmost, at_layers}
@@ -87,20 +89,21 @@ module _ (M : Machine) (L : Laws M) where
 
   of_goes : (w : World M) → Sound M w → (t : ℕ) (o : Open M) (c : Option Change) (p : Position) → w.active t ≡ Some o
       → Sound M (put_active M t
-      (Some (moved M w.layout o (ask (tx_of M t o) o.now.position (tables M w)) c p (tables M w))) w)
+      (Some (open_after M w.layout o (ask (tx_of M t o) o.now.position (tables M w)) c p (tables M w))) w)
       → tables M
-      (put_active M t (Some (moved M w.layout o (ask (tx_of M t o) o.now.position (tables M w)) c p (tables M w))) w)
+      (put_active M t (Some (open_after M w.layout o (ask (tx_of M t o) o.now.position (tables M w)) c p
+      (tables M w))) w)
       ≡ with_change M (Go c p) (tables M w)
   of_goes w s t o None p e s' = same_changes w t _ (λ k. ap (λ z. net_of M L z k) e)
   of_goes w s t o (Some c) p e s' = one_change w t o _ c e refl s'
 
   pub tables_next : (w : World M) → Sound M w → (u : Undo M) → Keeps M w u → (i : Step M) (a : Answer M) (v : World M)
       → Next M w i a v → tables M v ≡ tables_after M w u a i
-  tables_next w s u k _ _ _ (begins t q b) = same_changes w t (Some (begun M w t q))
+  tables_next w s u k _ _ _ (begins t q b) = same_changes w t (Some (open_at_begin M w t q))
       (λ j. ap (λ z. net_of M L z j) b.closed)
   tables_next w s u k _ _ _ (goes_on t o c p e g r room) =
       of_goes w s t o c p e (next_sound M L w s (Advance t) More _ (goes_on t o c p e g r room))
-      ∙ (ap (λ z. with_change M z (tables M w)) (sym r) ∙ ap (changed M w t) (sym e))
+      ∙ (ap (λ z. with_change M z (tables M w)) (sym r) ∙ ap (tables_with M w t) (sym e))
   tables_next w s u k _ _ _ (commits t o y e g r) = same_committed w s t o y e (commit_whole M L w s t o y e g r)
   tables_next w s u k _ _ _ (saves t o e) = same_changes w t
       (Some (record o { mark = o.now; mark_lengths = o.lengths })) (λ j. ap (λ z. net_of M L z j) e)

@@ -8,7 +8,7 @@ use Rattle.std.proofs.lemmas.Bool.{cases_eq}
 use Rattle.oe_theory.specs.Machine.{Machine, Tx}
 use Rattle.oe_theory.specs.World.{set, bump, total, Open, Commit, World, map_after, version, counts_after, counts_at}
 use Rattle.oe_theory.specs.World.{horizon, newest, at, latest, IsSerial, layer, layers, tables}
-use Rattle.oe_theory.specs.Next.{purged, rewound, IsQuiet}
+use Rattle.oe_theory.specs.Next.{after_purge, after_rewind, IsQuiet}
 use Rattle.oe_theory.specs.Laws.{IsGood, Sound, Laws}
 use Rattle.oe_theory.proofs.Sets.{set_same, set_other}
 use Rattle.oe_theory.proofs.Steps.{good_version, version-append}
@@ -80,19 +80,19 @@ module _ (M : Machine) (L : Laws M) where
       here : 0 ≡ newest M w - newest M w
       here = omega arith
 
-  pub rewound_newest : (w : World M) (m : ℕ) → horizon M w ≤ m → m ≤ newest M w → newest M (rewound M w m) ≡ m
+  pub rewound_newest : (w : World M) (m : ℕ) → horizon M w ≤ m → m ≤ newest M w → newest M (after_rewind M w m) ≡ m
   rewound_newest w m l h = omega (arith, length-drop (newest M w - m) w.history)
 
   -- after a rewind the moments up to it are as they were, and the tables are those of its moment
   pub rewound_at : (w : World M) (m k : ℕ) → horizon M w ≤ m → m ≤ newest M w → k ≤ m
-      → at M (rewound M w m) k ≡ at M w k
+      → at M (after_rewind M w m) k ≡ at M w k
   rewound_at w m k l h b =
       ap (version M w.base)
-      (drop-drop (newest M (rewound M w m) - k) (newest M w - m) w.history
+      (drop-drop (newest M (after_rewind M w m) - k) (newest M w - m) w.history
       ∙ ap (λ (n : ℕ). drop n w.history) (omega (arith, rewound_newest w m l h)))
 
   pub purged_horizon : (w : World M) → Sound M w → (m : ℕ) → horizon M w ≤ m → m ≤ newest M w
-      → horizon M (purged M w m) ≡ m
+      → horizon M (after_purge M w m) ≡ m
   purged_horizon w s m l h =
       omega (
         arith,
@@ -102,12 +102,12 @@ module _ (M : Machine) (L : Laws M) where
       )
 
   pub purged_newest : (w : World M) → Sound M w → (m : ℕ) → horizon M w ≤ m → m ≤ newest M w
-      → newest M (purged M w m) ≡ newest M w
+      → newest M (after_purge M w m) ≡ newest M w
   purged_newest w s m l h = omega (arith, purged_horizon w s m l h, length-take (newest M w - m) w.history)
 
   -- after a purge the moments from it on are as they were
   pub purged_at : (w : World M) → Sound M w → (m k : ℕ) → horizon M w ≤ m → m ≤ k → k ≤ newest M w
-      → at M (purged M w m) k ≡ at M w k
+      → at M (after_purge M w m) k ≡ at M w k
   purged_at w s m k l b h =
       let j = newest M w - m in
       let i = newest M w - k in

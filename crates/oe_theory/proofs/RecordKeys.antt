@@ -6,7 +6,8 @@ use Rattle.std.proofs.lemmas.Bool.{cases_eq}
 use Rattle.oe_theory.specs.Machine.{Machine}
 use Rattle.oe_theory.specs.World.{set, Open, World, tx_of, overlay, net, newest, latest, tables}
 use Rattle.oe_theory.specs.Laws.{Laws}
-use Rattle.oe_theory.specs.Undo.{Undo, records_of, restored, restored_open, restored_commits, HasRecord, HasRecordIn}
+use Rattle.oe_theory.specs.Undo.{Undo, records_of, row_before, row_before_open, row_before_commits, HasRecord}
+use Rattle.oe_theory.specs.Undo.{HasRecordIn}
 use Rattle.oe_theory.specs.Undo.{Keeps}
 use Rattle.oe_theory.specs.Store.{all_below}
 use Rattle.oe_theory.specs.RecordTheorems.{Row_without_record, Records_are_apart}
@@ -36,12 +37,12 @@ module _ (M : Machine) (L : Laws M) where
   open L use {key_true, key_refl, record_key_of}
 
   -- a key that no record is of keeps its row
-  restored_idle : (k : Key) (bs : List Record) (v : Option Row) → (HasRecord M k bs → ⊥) → restored M k bs v ≡ v
+  restored_idle : (k : Key) (bs : List Record) (v : Option Row) → (HasRecord M k bs → ⊥) → row_before M k bs v ≡ v
   restored_idle k [] v lacks = refl
   restored_idle k (b ∷ bs) v lacks = go (is_key k (record_key b)) refl (restored_idle k bs v (λ h. lacks (inr h)))
     where
-      go : (c : Bool) → is_key k (record_key b) ≡ c → restored M k bs v ≡ v
-          → restored M k bs (cond c (restore b v) v) ≡ v
+      go : (c : Bool) → is_key k (record_key b) ≡ c → row_before M k bs v ≡ v
+          → row_before M k bs (cond c (restore b v) v) ≡ v
       go true e rest = absurd (lacks (inl (sym (key_true k (record_key b) e))))
       go false e rest = rest
 
@@ -54,23 +55,23 @@ module _ (M : Machine) (L : Laws M) where
       go (inr ne) = lacks (subst (λ (z : List Record). HasRecord M k z) (set_other t [] active u ne) h)
 
   open_idle : (k : Key) (active : ℕ → List Record) (ts : List ℕ) (v : Option Row)
-      → ((t : ℕ) → HasRecord M k (active t) → ⊥) → restored_open M k active ts v ≡ v
+      → ((t : ℕ) → HasRecord M k (active t) → ⊥) → row_before_open M k active ts v ≡ v
   open_idle k active [] v lacks = refl
   open_idle k active (t ∷ ts) v lacks =
-      ap (restored_open M k (set t [] active) ts) (restored_idle k (active t) v (lacks t))
+      ap (row_before_open M k (set t [] active) ts) (restored_idle k (active t) v (lacks t))
       ∙ open_idle k (set t [] active) ts v (λ u. none_set k active t u (lacks u))
 
   commits_idle : (k : Key) (ss : List (List Record)) (v : Option Row) → (HasRecordIn M k ss → ⊥)
-      → restored_commits M k ss v ≡ v
+      → row_before_commits M k ss v ≡ v
   commits_idle k [] v lacks = refl
-  commits_idle k (bs ∷ ss) v lacks = ap (restored_commits M k ss) (restored_idle k bs v (λ h. lacks (inl h)))
+  commits_idle k (bs ∷ ss) v lacks = ap (row_before_commits M k ss) (restored_idle k bs v (λ h. lacks (inl h)))
       ∙ commits_idle k ss v (λ h. lacks (inr h))
 
   pub row_without_record : Row_without_record M
   row_without_record w u m k r h no_open no_commit =
       sym (row_is_unwound M L w u (all_below M terminal_limit) m k r h
       (λ t o e. below M L terminal_limit t ((reached_sound M L w r).each t o e).terminal.1))
-      ∙ (ap (restored_commits M k (take (newest M w - m) u.history))
+      ∙ (ap (row_before_commits M k (take (newest M w - m) u.history))
       (open_idle k u.active (all_below M terminal_limit) (row_at (tables M w) k) no_open)
       ∙ commits_idle k (take (newest M w - m) u.history) (row_at (tables M w) k) no_commit)
 

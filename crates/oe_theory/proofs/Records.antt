@@ -6,14 +6,17 @@ use Rattle.std.proofs.lemmas.List.{take-append-drop}
 use Rattle.oe_theory.specs.Machine.{Machine, Mode, Exclusive, Guard, Free, Under, Own, Tx, Act, Go, Ready}
 use Rattle.oe_theory.specs.World.{set, State, Open, Commit, World, tx_of, overlay, add, net, map_after, version, newest}
 use Rattle.oe_theory.specs.World.{latest, tables}
-use Rattle.oe_theory.specs.Next.{record_on, add_length, put_active, begun, moved, IsGranted, committed, Step, Answer}
+use Rattle.oe_theory.specs.Next.{record_on, add_length, put_active, open_at_begin, open_after, IsGranted}
+use Rattle.oe_theory.specs.Next.{after_commit, Step, Answer}
 use Rattle.oe_theory.specs.Next.{Next, begins, goes_on, commits, saves, goes_back, rolls_back, purges, rewinds, stops}
 use Rattle.oe_theory.specs.Next.{fails}
 use Rattle.oe_theory.specs.Laws.{MayRead, MayWrite, Alike, held_of, Reached, at_start, one_more, Sound, Laws}
-use Rattle.oe_theory.specs.Undo.{Undo, records_of, lengths_of, unwind, unwind_open, unwind_commits, restored}
-use Rattle.oe_theory.specs.Undo.{restored_open, restored_commits, IsAmong, AreAll, IsOfCommit, AreOfCommits, IsOfOpen}
-use Rattle.oe_theory.specs.Undo.{Keeps, no_records, with_record, pushed, cut, put_records, undo_after}
-use Rattle.oe_theory.specs.Theorems.{opened}
+use Rattle.oe_theory.specs.Undo.{Undo, records_of, lengths_of, unwind, unwind_open, unwind_commits, row_before}
+use Rattle.oe_theory.specs.Undo.{row_before_open, row_before_commits, IsAmong, AreAll, IsOfCommit, AreOfCommits}
+use Rattle.oe_theory.specs.Undo.{IsOfOpen}
+use Rattle.oe_theory.specs.Undo.{Keeps, no_records, with_record, records_after, records_at_mark, put_records}
+use Rattle.oe_theory.specs.Undo.{undo_after}
+use Rattle.oe_theory.specs.Theorems.{world_at_opening}
 use Rattle.oe_theory.proofs.Sets.{set_same, set_other, set_idle, set_cases, some_none, some_inj, enough_shared}
 use Rattle.oe_theory.proofs.Replay.{alike_overlay, reached_writes}
 use Rattle.oe_theory.proofs.Tables.{alike_other}
@@ -148,7 +151,7 @@ module _ (M : Machine) (L : Laws M) where
       → IsGranted M w t (ask (tx_of M t o) o.now.position (tables M w))
       → act (tx_of M t o) o.now.position (tables M w) ≡ Go c p
       → IsOfOpen M w.layout (latest M w)
-      (moved M w.layout o (ask (tx_of M t o) o.now.position (tables M w)) c p (tables M w))
+      (open_after M w.layout o (ask (tx_of M t o) o.now.position (tables M w)) c p (tables M w))
       (with_record M w.layout (Go c p) (tables M w) (u.active t))
   keeps_goes w s u k t o c p e g r =
       record {
@@ -226,7 +229,7 @@ module _ (M : Machine) (L : Laws M) where
       omega (arith, length-append front back, a, b)
 
   cut_mark : (w : World M) → Sound M w → (u : Undo M) → Keeps M w u → (t : ℕ) (o : Open M) → w.active t ≡ Some o
-      → cut M (Some o) (u.active t) ≡ records_of M w.layout (latest M w) o.mark.changes
+      → records_at_mark M (Some o) (u.active t) ≡ records_of M w.layout (latest M w) o.mark.changes
   cut_mark w s u k t o e =
       ap (drop (length (u.active t) - length o.mark.changes)) (parted w s u k t o e)
       ∙ drop_front _ _ _ (since_mark w s u k t o e)
@@ -258,7 +261,7 @@ module _ (M : Machine) (L : Laws M) where
       → w.active t ≡ Some o
       → IsGranted M w t (ask (tx_of M t o) o.now.position (tables M w))
       → act (tx_of M t o) o.now.position (tables M w) ≡ Ready y
-      → Keeps M (committed M w t o y) (record { active = set t [] u.active; history = u.active t ∷ u.history })
+      → Keeps M (after_commit M w t o y) (record { active = set t [] u.active; history = u.active t ∷ u.history })
   keeps_commits w s u k t o y e g r =
       record {
         commits = (
@@ -286,7 +289,7 @@ module _ (M : Machine) (L : Laws M) where
   pub keeps_next : (w : World M) → Sound M w → (u : Undo M) → Keeps M w u → (i : Step M) (a : Answer M) (v : World M)
       → Next M w i a v → Keeps M v (undo_after M w u a i)
   keeps_next w s u k _ _ _ (begins t q b) =
-      keeps_same w u k t (begun M w t q)
+      keeps_same w u k t (open_at_begin M w t q)
       (record {
         records = k.others t b.closed;
         lengths = ap (lengths_of M) (sym (k.others t b.closed));
@@ -294,12 +297,14 @@ module _ (M : Machine) (L : Laws M) where
       })
   keeps_next w s u k _ _ _ (goes_on t o c p e g r room) =
       subst (λ (z : Option (Open M)). Keeps M
-      (put_active M t (Some (moved M w.layout o (ask (tx_of M t o) o.now.position (tables M w)) c p (tables M w))) w)
-      (put_records M t (pushed M w t z (u.active t)) u)) (sym e)
+      (put_active M t (Some (open_after M w.layout o (ask (tx_of M t o) o.now.position (tables M w)) c p
+      (tables M w))) w)
+      (put_records M t (records_after M w t z (u.active t)) u)) (sym e)
       (subst (λ (z : Act Change Position Reply Refusal). Keeps M
-      (put_active M t (Some (moved M w.layout o (ask (tx_of M t o) o.now.position (tables M w)) c p (tables M w))) w)
+      (put_active M t (Some (open_after M w.layout o (ask (tx_of M t o) o.now.position (tables M w)) c p
+      (tables M w))) w)
       (put_records M t (with_record M w.layout z (tables M w) (u.active t)) u)) (sym r)
-      (keeps_put w u k t (moved M w.layout o (ask (tx_of M t o) o.now.position (tables M w)) c p (tables M w))
+      (keeps_put w u k t (open_after M w.layout o (ask (tx_of M t o) o.now.position (tables M w)) c p (tables M w))
       (with_record M w.layout (Go c p) (tables M w) (u.active t)) (keeps_goes w s u k t o c p e g r)))
   keeps_next w s u k _ _ _ (commits t o y e g r) = keeps_commits w s u k t o y e g r
   keeps_next w s u k _ _ _ (saves t o e) =
@@ -309,8 +314,8 @@ module _ (M : Machine) (L : Laws M) where
   keeps_next w s u k _ _ _ (goes_back t o e) =
       subst (λ (z : Option (Open M)). Keeps M
       (put_active M t (Some (record o { now = o.mark; lengths = o.mark_lengths })) w)
-      (put_records M t (cut M z (u.active t)) u)) (sym e)
-      (keeps_put w u k t (record o { now = o.mark; lengths = o.mark_lengths }) (cut M (Some o) (u.active t))
+      (put_records M t (records_at_mark M z (u.active t)) u)) (sym e)
+      (keeps_put w u k t (record o { now = o.mark; lengths = o.mark_lengths }) (records_at_mark M (Some o) (u.active t))
       (record {
         records = cut_mark w s u k t o e;
         lengths = (k.opens t o e).mark_lengths ∙ ap (lengths_of M) (sym (cut_mark w s u k t o e));
@@ -334,7 +339,7 @@ module _ (M : Machine) (L : Laws M) where
   keeps_next w s u k _ _ _ (fails t o x e g r) = keeps_drop w u k t
   keeps_next w s u k _ _ _ n = k
 
-  pub keeps_opened : (b : Map) (n : ℕ) (l : M.Layout) → Keeps M (opened M b n l) (no_records M)
+  pub keeps_opened : (b : Map) (n : ℕ) (l : M.Layout) → Keeps M (world_at_opening M b n l) (no_records M)
   keeps_opened b n l = record { commits = tt; opens = λ t o e. absurd (some_none o (sym e)); others = λ t e. refl }
 
   -- one transaction's records put back
@@ -410,18 +415,18 @@ module _ (M : Machine) (L : Laws M) where
       ∙ all_unwound l b cs ss h.1
 
   -- one key's row
-  at_restored : (bs : List Record) (r : Map) (k : Key) → row_at (unwind M bs r) k ≡ restored M k bs (row_at r k)
+  at_restored : (bs : List Record) (r : Map) (k : Key) → row_at (unwind M bs r) k ≡ row_before M k bs (row_at r k)
   at_restored [] r k = refl
-  at_restored (b ∷ bs) r k = at_restored bs (M.put_back b r) k ∙ ap (restored M k bs) (at_put_back b r k)
+  at_restored (b ∷ bs) r k = at_restored bs (M.put_back b r) k ∙ ap (row_before M k bs) (at_put_back b r k)
 
   pub at_restored_open : (active : ℕ → List Record) (ts : List ℕ) (r : Map) (k : Key)
-      → row_at (unwind_open M active ts r) k ≡ restored_open M k active ts (row_at r k)
+      → row_at (unwind_open M active ts r) k ≡ row_before_open M k active ts (row_at r k)
   at_restored_open active [] r k = refl
   at_restored_open active (t ∷ ts) r k = at_restored_open (set t [] active) ts (unwind M (active t) r) k
-      ∙ ap (restored_open M k (set t [] active) ts) (at_restored (active t) r k)
+      ∙ ap (row_before_open M k (set t [] active) ts) (at_restored (active t) r k)
 
   pub at_restored_commits : (ss : List (List Record)) (r : Map) (k : Key)
-      → row_at (unwind_commits M ss r) k ≡ restored_commits M k ss (row_at r k)
+      → row_at (unwind_commits M ss r) k ≡ row_before_commits M k ss (row_at r k)
   at_restored_commits [] r k = refl
   at_restored_commits (bs ∷ ss) r k = at_restored_commits ss (unwind M bs r) k
-      ∙ ap (restored_commits M k ss) (at_restored bs r k)
+      ∙ ap (row_before_commits M k ss) (at_restored bs r k)

@@ -4,7 +4,7 @@ use Rattle.std.specs.Prelude.{◌⊎◌, ◌≢◌}
 use mathlib.Core.Path.{fun_ext}
 use Rattle.std.proofs.lemmas.Bool.{eq-eqb, ne_eqb, cases_eq, cond-true, cond-false}
 use Rattle.oe_theory.specs.Machine.{Mode, Shared, Exclusive}
-use Rattle.oe_theory.specs.World.{IsEnough, go_together, risen, set}
+use Rattle.oe_theory.specs.World.{IsEnough, go_together, greater_mode, set}
 
 module _ {A : Type 0} where
   pub set_same : (t : ℕ) (v : A) (f : ℕ → A) (u : ℕ) → u ≡ t → set t v f u ≡ v
@@ -69,19 +69,19 @@ enough_shared None m a = a
 enough_shared (Some Exclusive) m a = tt
 enough_shared (Some Shared) m a = tt
 
-pub risen_enough : (m : Mode) (o : Option Mode) → IsEnough (Some (risen m o)) m
+pub risen_enough : (m : Mode) (o : Option Mode) → IsEnough (Some (greater_mode m o)) m
 risen_enough Exclusive o = tt
 risen_enough Shared None = tt
 risen_enough Shared (Some Shared) = tt
 risen_enough Shared (Some Exclusive) = tt
 
-pub risen_keeps : (m n : Mode) (o : Option Mode) → IsEnough o n → IsEnough (Some (risen m o)) n
+pub risen_keeps : (m n : Mode) (o : Option Mode) → IsEnough o n → IsEnough (Some (greater_mode m o)) n
 risen_keeps Exclusive n o a = tt
 risen_keeps Shared n None a = absurd a
 risen_keeps Shared n (Some p) a = a
 
 -- a mode that rose came from one of its two causes
-pub risen_exclusive : (m : Mode) (o : Option Mode) → IsEnough (Some (risen m o)) Exclusive
+pub risen_exclusive : (m : Mode) (o : Option Mode) → IsEnough (Some (greater_mode m o)) Exclusive
     → (m ≡ Exclusive) ⊎ (IsEnough o Exclusive)
 risen_exclusive Exclusive o a = inl refl
 risen_exclusive Shared None a = absurd a

@@ -5,7 +5,8 @@ use Rattle.std.specs.Prelude.{◌⊎◌, ◌≢◌}
 use Rattle.std.proofs.lemmas.Bool.{cases_eq}
 use Rattle.oe_theory.specs.Machine.{Machine}
 use Rattle.oe_theory.specs.World.{set, Open, World, newest}
-use Rattle.oe_theory.specs.Next.{Step, Audit, Answer, Committed, committed, count_open, Next, begins, goes_on, commits}
+use Rattle.oe_theory.specs.Next.{Step, Audit, Answer, Committed, after_commit, count_open, Next, begins, goes_on}
+use Rattle.oe_theory.specs.Next.{commits}
 use Rattle.oe_theory.specs.Next.{saves, goes_back, rolls_back, purges, rewinds, stops, fails}
 use Rattle.oe_theory.specs.Laws.{Sound, Laws}
 use Rattle.oe_theory.specs.Theorems.{IsReached}
@@ -100,7 +101,7 @@ module _ (M : Machine) (L : Laws M) where
   counted w s _ _ _ (goes_on t o c p e g r room) =
       record { open_count = as_many w t o _ (s.each t o e).terminal.1 e; newest = refl; horizon = refl; latest = refl }
   counted w s _ _ _ (commits t o y e g r) =
-      let next : newest M (committed M w t o y) ≡ suc (newest M w) = omega arith in
+      let next : newest M (after_commit M w t o y) ≡ suc (newest M w) = omega arith in
       record {
         open_count = one_ended w t o (s.each t o e).terminal.1 e;
         newest = (next, sym next);

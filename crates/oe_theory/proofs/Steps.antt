@@ -6,11 +6,14 @@ use Rattle.std.proofs.lemmas.List.{take-append-drop}
 use Rattle.std.proofs.lemmas.Bool.{cond-true}
 use Rattle.oe_theory.specs.Machine.{Machine, Mode, Shared, Exclusive, Guard, Free, Under, Own, Ask, Stop, Plain, Take}
 use Rattle.oe_theory.specs.Machine.{Fail, Go, Ready, Tx}
-use Rattle.oe_theory.specs.World.{IsEnough, go_together, risen, set, bump, Open, Commit, World, tx_of, overlay, add}
+use Rattle.oe_theory.specs.World.{IsEnough, go_together, greater_mode, set, bump, Open, Commit, World, tx_of, overlay}
+use Rattle.oe_theory.specs.World.{add}
 use Rattle.oe_theory.specs.World.{map_after, version, counts_after, counts_now, newest, latest, IsCommit, IsSerial}
 use Rattle.oe_theory.specs.World.{tables}
-use Rattle.oe_theory.specs.Next.{Step, Answer, put_active, begun, held_after, moved, IsGranted, committed, purged}
-use Rattle.oe_theory.specs.Next.{rewound, IsQuiet, Next, begins, goes_on, commits, saves, goes_back, rolls_back, reads}
+use Rattle.oe_theory.specs.Next.{Step, Answer, put_active, open_at_begin, held_after, open_after, IsGranted}
+use Rattle.oe_theory.specs.Next.{after_commit, after_purge}
+use Rattle.oe_theory.specs.Next.{after_rewind, IsQuiet, Next, begins, goes_on, commits, saves, goes_back, rolls_back}
+use Rattle.oe_theory.specs.Next.{reads}
 use Rattle.oe_theory.specs.Next.{audits, purges, rewinds, stops, fails, is_busy, is_full, is_rejected, is_open}
 use Rattle.oe_theory.specs.Next.{number_is_rejected, query_is_rejected, misses, not_open, too_old, future, not_quiet}
 use Rattle.oe_theory.specs.Next.{lacks_memory_at_begin, lacks_memory, Event, Run}
@@ -79,7 +82,7 @@ module _ (M : Machine) (L : Laws M) where
   after_keeps Plain held n m h = h
   after_keeps (Take p q) held n m h = go (is_name n p)
     where
-      go : (b : Bool) → IsEnough (cond b (Some (risen q (held n))) (held n)) m
+      go : (b : Bool) → IsEnough (cond b (Some (greater_mode q (held n))) (held n)) m
       go true = risen_keeps q m (held n) h
       go false = h
 
@@ -88,7 +91,7 @@ module _ (M : Machine) (L : Laws M) where
   after_asked w t (Stop e) held g = g
   after_asked w t Plain held g = g
   after_asked w t (Take p q) held g = subst (λ v. IsEnough v q)
-      (sym (cond-true (is_name p p) (Some (risen q (held p))) (held p) (name_refl p))) (risen_enough q (held p))
+      (sym (cond-true (is_name p p) (Some (greater_mode q (held p))) (held p) (name_refl p))) (risen_enough q (held p))
 
   after_apart : (w : World M) (t : ℕ) (a : Ask Name Refusal) (held : Name → Option Mode) → IsGranted M w t a
       → (u : ℕ) (p : Open M) → t ≢ u → w.active u ≡ Some p → AreApart M held p.held
@@ -97,7 +100,7 @@ module _ (M : Machine) (L : Laws M) where
   after_apart w t Plain held g u p ne q f n x y = f n x y
   after_apart w t (Take i m) held g u p ne q f n x y = go (is_name n i) refl y
     where
-      go : (b : Bool) → is_name n i ≡ b → IsEnough (cond b (Some (risen m (held n))) (held n)) Shared → ⊥
+      go : (b : Bool) → is_name n i ≡ b → IsEnough (cond b (Some (greater_mode m (held n))) (held n)) Shared → ⊥
       go true e y = together_shared m (p.held i) (g u p (λ z. ne (sym z)) q)
           (subst (λ z. IsEnough (p.held z) Exclusive) (name_true n i e) x)
       go false e y = f n x y
@@ -115,7 +118,7 @@ module _ (M : Machine) (L : Laws M) where
           (subst (λ z. IsEnough (p.held z) Shared) e y)
       rose e (inr h) = f n h y
 
-      go : (b : Bool) → is_name n i ≡ b → IsEnough (cond b (Some (risen m (held n))) (held n)) Exclusive → ⊥
+      go : (b : Bool) → is_name n i ≡ b → IsEnough (cond b (Some (greater_mode m (held n))) (held n)) Exclusive → ⊥
       go true e x = rose (name_true n i e) (risen_exclusive m (held n) x)
       go false e x = f n x y
 
@@ -311,11 +314,11 @@ module _ (M : Machine) (L : Laws M) where
       → IsGranted M w t (ask (tx_of M t o) o.now.position (tables M w))
       → act (tx_of M t o) o.now.position (tables M w) ≡ Go c p
       → Sound M (put_active M t
-      (Some (moved M w.layout o (ask (tx_of M t o) o.now.position (tables M w)) c p (tables M w))) w)
+      (Some (open_after M w.layout o (ask (tx_of M t o) o.now.position (tables M w)) c p (tables M w))) w)
   sound_goes w s t o c p e g r =
       let a = ask (tx_of M t o) o.now.position (tables M w) in
       let more = reached_more M L o.held (held_after M a o.held) (tx_of M t o) (latest M w) (after_keeps a o.held) in
-      sound_put w s t (moved M w.layout o a c p (tables M w))
+      sound_put w s t (open_after M w.layout o a c p (tables M w))
       (record {
         terminal = (s.each t o e).terminal;
         number = (s.each t o e).number;
@@ -350,7 +353,7 @@ module _ (M : Machine) (L : Laws M) where
 
   sound_commits : (w : World M) → Sound M w → (t : ℕ) (o : Open M) (reply : Reply) → w.active t ≡ Some o
       → whole (tx_of M t o) (latest M w) ≡ Some (overlay M o.now.changes (latest M w), reply)
-      → Sound M (committed M w t o reply)
+      → Sound M (after_commit M w t o reply)
   sound_commits w s t o reply e q =
       record {
         good = s.good;
@@ -423,18 +426,18 @@ module _ (M : Machine) (L : Laws M) where
       → IsSerial M f b (take j cs ++ drop j cs)
   parted f b j cs s = subst (IsSerial M f b) (sym (take-append-drop j cs)) s
 
-  pub purged_latest : (w : World M) (m : ℕ) → latest M (purged M w m) ≡ latest M w
+  pub purged_latest : (w : World M) (m : ℕ) → latest M (after_purge M w m) ≡ latest M w
   purged_latest w m =
       let j = newest M w - m in
       version-append w.base (take j w.history) (drop j w.history) ∙ ap (version M w.base) (take-append-drop j w.history)
 
-  pub purged_counts : (w : World M) (m : ℕ) → counts_now M (purged M w m) ≡ counts_now M w
+  pub purged_counts : (w : World M) (m : ℕ) → counts_now M (after_purge M w m) ≡ counts_now M w
   purged_counts w m =
       let j = newest M w - m in
       counts-append w.counts (take j w.history) (drop j w.history) ∙ ap (counts_after M w.counts)
       (take-append-drop j w.history)
 
-  sound_purges : (w : World M) → Sound M w → (m : ℕ) → Sound M (purged M w m)
+  sound_purges : (w : World M) → Sound M w → (m : ℕ) → Sound M (after_purge M w m)
   sound_purges w s m =
       let j = newest M w - m in
       let split = parted w.counts w.base j w.history s.serial in
@@ -444,11 +447,11 @@ module _ (M : Machine) (L : Laws M) where
         serial = serial_front w.counts w.base (take j w.history) (drop j w.history) split;
         apart = s.apart;
         each = λ t o e.
-            subst (λ (f : ℕ → ℕ). IsOnCourse M f (latest M (purged M w m)) t o) (sym (purged_counts w m))
+            subst (λ (f : ℕ → ℕ). IsOnCourse M f (latest M (after_purge M w m)) t o) (sym (purged_counts w m))
             (subst (λ (r : Map). IsOnCourse M (counts_now M w) r t o) (sym (purged_latest w m)) (s.each t o e));
       }
 
-  sound_rewinds : (w : World M) → Sound M w → (m : ℕ) → IsQuiet M w → Sound M (rewound M w m)
+  sound_rewinds : (w : World M) → Sound M w → (m : ℕ) → IsQuiet M w → Sound M (after_rewind M w m)
   sound_rewinds w s m quiet =
       let j = newest M w - m in
       record {
@@ -462,7 +465,7 @@ module _ (M : Machine) (L : Laws M) where
   -- each step keeps a world sound
   pub next_sound : (w : World M) → Sound M w → (i : Step M) (a : Answer M) (w' : World M) → Next M w i a w' → Sound M w'
   next_sound w s _ _ _ (begins t q b) =
-      sound_put w s t (begun M w t q)
+      sound_put w s t (open_at_begin M w t q)
       (record {
         terminal = b.terminal;
         number = refl;

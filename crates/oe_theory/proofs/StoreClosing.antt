@@ -5,12 +5,12 @@ use Rattle.std.specs.Prelude.{◌⊎◌, ◌≢◌}
 use Rattle.std.proofs.lemmas.Bool.{cases_eq}
 use Rattle.oe_theory.specs.Machine.{Machine}
 use Rattle.oe_theory.specs.World.{overlay, Commit, latest, set}
-use Rattle.oe_theory.specs.Next.{filled}
+use Rattle.oe_theory.specs.Next.{fill_of}
 use Rattle.oe_theory.specs.Laws.{IsGood, Alone, Sound, Laws}
-use Rattle.oe_theory.specs.Undo.{unwind, unwind_open, unwind_commits, restored_commits, HasRecordIn, GoesBack}
+use Rattle.oe_theory.specs.Undo.{unwind, unwind_open, unwind_commits, row_before_commits, HasRecordIn, GoesBack}
 use Rattle.oe_theory.specs.Undo.{open_records, commit_records, IsAmong, AreAll, AreOfCommits, lengths_of, used_open}
 use Rattle.oe_theory.specs.Store.{Slot, Store, tx_in, changes_of, world_of, newest_version, newest_of, version_of}
-use Rattle.oe_theory.specs.Store.{commits_after, dropped, all_below, IsQuietIn, count_slots}
+use Rattle.oe_theory.specs.Store.{commits_after, without_slot, all_below, IsQuietIn, count_slots}
 use Rattle.oe_theory.specs.StoreTheorems.{IsStanding, AreAllIn, Store_is_orderly, Runs_alone_here, Version_is_here}
 use Rattle.oe_theory.specs.StoreTheorems.{Row_is_here, Row_without_record_here, Records_are_apart_here}
 use Rattle.oe_theory.specs.StoreTheorems.{Each_goes_back_here, Closing_leaves_newest, Facts_of_the_store}
@@ -53,7 +53,7 @@ module _ (M : Machine) (L : Laws M) where
   row_is_here s ts m k h all =
       sym (at_restored_commits M L (take (commits_after M s m) s.undo.history) (unwind_open M s.undo.active ts s.tables)
       k
-      ∙ ap (restored_commits M k (take (commits_after M s m) s.undo.history))
+      ∙ ap (row_before_commits M k (take (commits_after M s m) s.undo.history))
       (at_restored_open M L s.undo.active ts s.tables k))
       ∙ ap (λ (z : Map). M.row_at z k) (version_is_here s ts m h all)
 
@@ -164,7 +164,7 @@ module _ (M : Machine) (L : Laws M) where
       }
 
   -- a rollback, also where none is open, leaves the newest version
-  dropped_idle : (s : Store M) → IsStanding M s → (t : ℕ) → s.slots t ≡ None → s ≡ dropped M t s
+  dropped_idle : (s : Store M) → IsStanding M s → (t : ℕ) → s.slots t ≡ None → s ≡ without_slot M t s
   dropped_idle s h t e =
       let none = h.keeps.others t (is_shut_in M L s t e) in
       λ i. record {
@@ -177,17 +177,17 @@ module _ (M : Machine) (L : Laws M) where
         layout = s.layout;
       }
 
-  dropped_stands : (s : Store M) → IsStanding M s → (t : ℕ) → IsStanding M (dropped M t s)
+  dropped_stands : (s : Store M) → IsStanding M s → (t : ℕ) → IsStanding M (without_slot M t s)
   dropped_stands s h t = go (s.slots t) refl
     where
-      go : (v : Option (Slot M)) → s.slots t ≡ v → IsStanding M (dropped M t s)
+      go : (v : Option (Slot M)) → s.slots t ≡ v → IsStanding M (without_slot M t s)
       go None e = subst (IsStanding M) (dropped_idle s h t e) h
       go (Some p) e = (rolls_back_here M L s t p h e).stands
 
   all_here : (s : Store M) → IsStanding M s → AreAllIn M s (all_below M terminal_limit)
   all_here s h t p e = below M L terminal_limit t (terminal_here s h t p e)
 
-  dropped_newest : (s : Store M) → IsStanding M s → (t : ℕ) → newest_version M (dropped M t s) ≡ newest_version M s
+  dropped_newest : (s : Store M) → IsStanding M s → (t : ℕ) → newest_version M (without_slot M t s) ≡ newest_version M s
   dropped_newest s h t = newest_unwound s h (t ∷ all_below M terminal_limit) (λ u p e. inr (all_here s h u p e))
 
   pub rollback_leaves_versions : Rollback_leaves_versions M
@@ -199,7 +199,7 @@ module _ (M : Machine) (L : Laws M) where
         idle = λ e. sym (dropped_idle s h t e);
       }
 
-  still_all : (s : Store M) (t : ℕ) (ts : List ℕ) → AreAllIn M s (t ∷ ts) → AreAllIn M (dropped M t s) ts
+  still_all : (s : Store M) (t : ℕ) (ts : List ℕ) → AreAllIn M s (t ∷ ts) → AreAllIn M (without_slot M t s) ts
   still_all s t ts all u p e = go (set_cases t None s.slots u p e)
     where
       rest : u ≢ t → (u ≡ t) ⊎ IsAmong M u ts → IsAmong M u ts
@@ -228,7 +228,7 @@ module _ (M : Machine) (L : Laws M) where
       nobody : IsQuietIn M s.slots
       nobody t = none t (s.slots t) refl
   closing_leaves_newest s (t ∷ ts) h all =
-      let c = closing_leaves_newest (dropped M t s) ts (dropped_stands s h t) (still_all s t ts all) in
+      let c = closing_leaves_newest (without_slot M t s) ts (dropped_stands s h t) (still_all s t ts all) in
       record {
         stands = c.stands;
         quiet = c.quiet;
@@ -244,18 +244,18 @@ module _ (M : Machine) (L : Laws M) where
       → used_open M (set t bs active) n ≡ used_open M active n
   used_above active t zero bs h = refl
   used_above active t (suc n) bs h =
-      let e = ap (λ (z : List Record). (filled M (lengths_of M z)).0)
+      let e = ap (λ (z : List Record). (fill_of M (lengths_of M z)).0)
       (set_other t bs active n (λ q. omega (arith, q, h))) in
       omega (arith, used_above active t n bs (omega (arith, h)), e)
 
   used_set : (active : ℕ → List Record) (t n : ℕ) (bs : List Record) → t < n
-      → used_open M (set t bs active) n + (filled M (lengths_of M (active t))).0 ≡ used_open M active
-      n + (filled M (lengths_of M bs)).0
+      → used_open M (set t bs active) n + (fill_of M (lengths_of M (active t))).0 ≡ used_open M active
+      n + (fill_of M (lengths_of M bs)).0
   used_set active t zero bs h = absurd (omega (arith, h))
   used_set active t (suc n) bs h = go (cases_eq n t) (used_set active t n bs)
     where
       fills : List Record → ℕ
-      fills z = (filled M (lengths_of M z)).0
+      fills z = (fill_of M (lengths_of M z)).0
 
       go : (n ≡ t) ⊎ (n ≢ t)
           → (t < n → used_open M (set t bs active) n + fills (active t) ≡ used_open M active n + fills bs)

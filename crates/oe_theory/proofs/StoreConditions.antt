@@ -2,12 +2,12 @@
 use Rattle.std.proofs.Common.{◌≡◌, ℕ, suc, ◌<◌, ◌≤◌, Option, None, Some, refl, sym, ap, ◌∙◌, subst, inl, inr}
 use Rattle.oe_theory.specs.Machine.{Machine, Mode, Ask, Stop, Plain, Take}
 use Rattle.oe_theory.specs.World.{go_together}
-use Rattle.oe_theory.specs.Next.{record_on, filled, GivesWay, IsGranted, IsInTheWay, HasRoom, IsFull, MayLackMemory}
+use Rattle.oe_theory.specs.Next.{record_on, fill_of, GivesWay, IsGranted, IsInTheWay, HasRoom, IsFull, MayLackMemory}
 use Rattle.oe_theory.specs.Next.{MayBegin, IsPast, Step, Begin, Advance, Save, Back, Rollback, Read, Audit, Purge}
 use Rattle.oe_theory.specs.Next.{Rewind}
 use Rattle.oe_theory.specs.Laws.{Laws}
 use Rattle.oe_theory.specs.Undo.{lengths_of}
-use Rattle.oe_theory.specs.Store.{Slot, Store, tx_in, opened_by, open_of, world_of, MayBeginIn, IsGrantedIn}
+use Rattle.oe_theory.specs.Store.{Slot, Store, tx_in, open_in_slot, open_of, world_of, MayBeginIn, IsGrantedIn}
 use Rattle.oe_theory.specs.Store.{IsInTheWayIn, HasRoomIn, IsFullIn, MayLackMemoryIn, IsPastIn}
 use Rattle.oe_theory.specs.StoreTheorems.{IsStanding, Conditions_are_exact}
 use Rattle.oe_theory.proofs.Sets.{some_none}
@@ -23,7 +23,7 @@ module _ (M : Machine) (L : Laws M) where
     where
       go : (v : Option (Slot M)) → open_of M (s.undo.active t) s.tables v ≡ None → v ≡ None
       go None e = refl
-      go (Some p) e = absurd (some_none (opened_by M (s.undo.active t) s.tables p) e)
+      go (Some p) e = absurd (some_none (open_in_slot M (s.undo.active t) s.tables p) e)
 
   begin_back : (s : Store M) → IsStanding M s → (t : ℕ) (q : Request) → MayBegin M (world_of M s) t q
       → MayBeginIn M s t q
@@ -58,14 +58,14 @@ module _ (M : Machine) (L : Laws M) where
       → HasRoom M (world_of M s) (open_in M L s t p) c → HasRoomIn M s t c
   room_back s h t p None x = tt
   room_back s h t p (Some c) (inl x) =
-      inl (subst (λ (r : Map). M.size_of (record_on M s.layout c r) ≤ (filled M (lengths_of M (s.undo.active t))).1)
+      inl (subst (λ (r : Map). M.size_of (record_on M s.layout c r) ≤ (fill_of M (lengths_of M (s.undo.active t))).1)
       (tables_here M L s h) x)
   room_back s h t p (Some c) (inr x) = inr (subst (λ (n : ℕ). n < s.extents) (used_here M L s h) x)
 
   full_back : (s : Store M) → IsStanding M s → (t : ℕ) (p : Slot M) (c : Change)
       → IsFull M (world_of M s) (open_in M L s t p) c → IsFullIn M s t c
   full_back s h t p c f = (
-    subst (λ (r : Map). (filled M (lengths_of M (s.undo.active t))).1 < M.size_of (record_on M s.layout c r))
+    subst (λ (r : Map). (fill_of M (lengths_of M (s.undo.active t))).1 < M.size_of (record_on M s.layout c r))
         (tables_here M L s h) f.0,
     subst (λ (n : ℕ). s.extents ≤ n) (used_here M L s h) f.1,
   )

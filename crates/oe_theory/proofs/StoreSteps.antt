@@ -4,19 +4,23 @@ use Rattle.std.proofs.Common.{◌∷◌, take, drop, length, refl, sym, ap, ◌�
 use mathlib.Core.Path.{fun_ext}
 use Rattle.oe_theory.specs.Machine.{Machine, Mode, Ask, Stop, Plain, Take, Go}
 use Rattle.oe_theory.specs.World.{go_together, set, Open, World, tx_of, counts_now, tables, latest}
-use Rattle.oe_theory.specs.Next.{record_on, filled, used, held_after, moved, begun, put_active, GivesWay, IsGranted}
+use Rattle.oe_theory.specs.Next.{record_on, fill_of, extents_used, held_after, open_after, open_at_begin, put_active}
+use Rattle.oe_theory.specs.Next.{GivesWay, IsGranted}
 use Rattle.oe_theory.specs.Next.{IsInTheWay, HasRoom, IsFull, MayBegin, MayLackMemory, Step, Begin, Advance, Save, Back}
 use Rattle.oe_theory.specs.Next.{Rollback, Answer, Begun, More, Saved, Gone_back, Rolled_back, Aborted, Next, begins}
 use Rattle.oe_theory.specs.Next.{goes_on, saves, goes_back, rolls_back, stops, fails, is_busy, is_full, is_rejected}
 use Rattle.oe_theory.specs.Next.{is_open, number_is_rejected, not_open, lacks_memory_at_begin, lacks_memory}
 use Rattle.oe_theory.specs.Laws.{Laws}
-use Rattle.oe_theory.specs.Undo.{Undo, lengths_of, unwind, Keeps, cut, since_mark, with_record, pushed, with_change}
-use Rattle.oe_theory.specs.Undo.{changed, put_records, used_of, undo_after, tables_after}
-use Rattle.oe_theory.specs.Store.{Slot, Seal, Store, tx_in, opened_by, open_of, slot_of, seals_of, world_of, store_of}
-use Rattle.oe_theory.specs.Store.{opened_store, put_slot, first_slot, dropped, with_record_of, with_change_of}
-use Rattle.oe_theory.specs.Store.{slot_after, went_on, gone_back, marked, MayBeginIn, IsGrantedIn, IsInTheWayIn}
+use Rattle.oe_theory.specs.Undo.{Undo, lengths_of, unwind, Keeps, records_at_mark, since_mark, with_record}
+use Rattle.oe_theory.specs.Undo.{records_after, with_change}
+use Rattle.oe_theory.specs.Undo.{tables_with, put_records, used_of, undo_after, tables_after}
+use Rattle.oe_theory.specs.Store.{Slot, Seal, Store, tx_in, open_in_slot, open_of, slot_of, seals_of, world_of}
+use Rattle.oe_theory.specs.Store.{store_of}
+use Rattle.oe_theory.specs.Store.{opened_store, put_slot, first_slot, without_slot, with_record_of, with_change_of}
+use Rattle.oe_theory.specs.Store.{slot_after, after_stage, back_at_mark, with_mark, MayBeginIn, IsGrantedIn}
+use Rattle.oe_theory.specs.Store.{IsInTheWayIn}
 use Rattle.oe_theory.specs.Store.{HasRoomIn, IsFullIn, MayLackMemoryIn}
-use Rattle.oe_theory.specs.Theorems.{opened, IsReached}
+use Rattle.oe_theory.specs.Theorems.{world_at_opening, IsReached}
 use Rattle.oe_theory.specs.StoreTheorems.{IsStanding, Leads, World_is_stored, Store_follows, Opening_stands}
 use Rattle.oe_theory.specs.StoreTheorems.{Begins_here, Is_rejected_here, Is_open_here, Number_is_rejected_here}
 use Rattle.oe_theory.specs.StoreTheorems.{Lacks_memory_at_begin_here, Goes_on_here, Is_room_here, Stops_here}
@@ -96,7 +100,7 @@ module _ (M : Machine) (L : Laws M) where
 
   -- the transaction that a terminal has open
   abbrev pub open_in : Store M → ℕ → Slot M → Open M
-  open_in s t p = opened_by M (s.undo.active t) s.tables p
+  open_in s t p = open_in_slot M (s.undo.active t) s.tables p
 
   pub is_open_in : (s : Store M) (t : ℕ) (p : Slot M) → s.slots t ≡ Some p
       → (world_of M s).active t ≡ Some (open_in s t p)
@@ -108,7 +112,7 @@ module _ (M : Machine) (L : Laws M) where
   pub found : (bs : List Record) (r : Map) (v : Option (Slot M)) (o : Open M) → open_of M bs r v ≡ Some o
       → (p : Slot M) × (v ≡ Some p) × (p.held ≡ o.held)
   found bs r None o e = absurd (some_none o (sym e))
-  found bs r (Some p) o e = (p, refl, ap (λ (z : Open M). z.held) (some_inj (opened_by M bs r p) o e))
+  found bs r (Some p) o e = (p, refl, ap (λ (z : Open M). z.held) (some_inj (open_in_slot M bs r p) o e))
 
   slots_set : (t : ℕ) (v : Option (Open M)) (active : ℕ → Option (Open M))
       → (λ (i : ℕ). slot_of M (set t v active i)) ≡ set t (slot_of M v) (λ i. slot_of M (active i))
@@ -127,8 +131,10 @@ module _ (M : Machine) (L : Laws M) where
 
   pub opening_stands : Opening_stands M
   opening_stands b n l g =
-      stands_for (opened M b n l) (opening_is_reached M L b n l g) (opened_store M b n l) (keeps_opened M L b n l)
-      (same_store _ _ _ _ _ _ _ _ _ _ _ _ _ (quiet_tables M L (opened M b n l) (λ t. refl)) refl refl refl refl refl)
+      stands_for (world_at_opening M b n l) (opening_is_reached M L b n l g) (opened_store M b n l)
+      (keeps_opened M L b n l)
+      (same_store _ _ _ _ _ _ _ _ _ _ _ _ _
+      (quiet_tables M L (world_at_opening M b n l) (λ t. refl)) refl refl refl refl refl)
 
   -- begin
   pub may_begin : (s : Store M) → IsStanding M s → (t : ℕ) (q : Request) → MayBeginIn M s t q
@@ -143,7 +149,7 @@ module _ (M : Machine) (L : Laws M) where
       }
 
   first_same : (s : Store M) → IsStanding M s → (t : ℕ) (q : Request)
-      → slot_of M (Some (begun M (world_of M s) t q)) ≡ Some (first_slot M s t q)
+      → slot_of M (Some (open_at_begin M (world_of M s) t q)) ≡ Some (first_slot M s t q)
   first_same s h t q = ap (λ (f : ℕ → ℕ). go (suc (f t))) (counts_here s h)
     where
       go : ℕ → Option (Slot M)
@@ -161,7 +167,7 @@ module _ (M : Machine) (L : Laws M) where
   begins_here s t q h b =
       leads s h (Begin t q) Begun _ (begins t q (may_begin s h t q b)) (put_slot M t (Some (first_slot M s t q)) s) refl
       (tables_here s h)
-      (slots_put s h t (Some (begun M (world_of M s) t q)) (Some (first_slot M s t q)) (first_same s h t q))
+      (slots_put s h t (Some (open_at_begin M (world_of M s) t q)) (Some (first_slot M s t q)) (first_same s h t q))
       (seals_here s h) (counts_here s h) refl refl
 
   pub is_rejected_here : Is_rejected_here M
@@ -229,14 +235,14 @@ module _ (M : Machine) (L : Laws M) where
       → IsGranted M (world_of M s) t (ask (tx_in M t p) p.position (tables M (world_of M s)))
   granted_here s h t p g = subst (IsGranted M (world_of M s) t) (sym (asks_here s h t p)) (granted s t _ g)
 
-  pub used_here : (s : Store M) → IsStanding M s → used M (world_of M s) ≡ used_of M s.undo
+  pub used_here : (s : Store M) → IsStanding M s → extents_used M (world_of M s) ≡ used_of M s.undo
   used_here s h = used_same M L (world_of M s) s.undo h.keeps
 
   pub has_room : (s : Store M) → IsStanding M s → (t : ℕ) (p : Slot M) (c : Option Change) → HasRoomIn M s t c
       → HasRoom M (world_of M s) (open_in s t p) c
   has_room s h t p None x = tt
   has_room s h t p (Some c) (inl x) =
-      inl (subst (λ (r : Map). M.size_of (record_on M s.layout c r) ≤ (filled M (lengths_of M (s.undo.active t))).1)
+      inl (subst (λ (r : Map). M.size_of (record_on M s.layout c r) ≤ (fill_of M (lengths_of M (s.undo.active t))).1)
       (sym (tables_here s h)) x)
   has_room s h t p (Some c) (inr x) = inr (subst (λ (n : ℕ). n < s.extents) (sym (used_here s h)) x)
 
@@ -248,9 +254,10 @@ module _ (M : Machine) (L : Laws M) where
   slot_moved : (l : M.Layout) (o : Open M) (p : Slot M) (n : ℕ) (a a' : Ask Name Refusal) (c : Option Change)
       (q : Position) (r : Map)
       → slot_of M (Some o) ≡ Some p → length o.now.changes ≡ n
-      → a ≡ a' → slot_of M (Some (moved M l o a c q r)) ≡ Some (slot_after M p n a' q)
+      → a ≡ a' → slot_of M (Some (open_after M l o a c q r)) ≡ Some (slot_after M p n a' q)
   slot_moved l o p n a a' c q r e h f =
-      subst (λ (z : Slot M). slot_of M (Some (moved M l o a c q r)) ≡ Some (slot_after M z n a' q)) (some_inj _ p e)
+      subst (λ (z : Slot M). slot_of M (Some (open_after M l o a c q r)) ≡ Some (slot_after M z n a' q))
+      (some_inj _ p e)
       (go (marks o.now.position))
     where
       go : (b : Bool)
@@ -291,8 +298,8 @@ module _ (M : Machine) (L : Laws M) where
 
   changed_is : (w : World M) (t : ℕ) (o : Open M) (c : Option Change) (q : Position) → w.active t ≡ Some o
       → act (tx_of M t o) o.now.position (tables M w) ≡ Go c q
-      → changed M w t (w.active t) ≡ with_change_of M c (tables M w)
-  changed_is w t o c q e r = ap (changed M w t) e ∙ (ap (λ z. with_change M z (tables M w)) r ∙ go c)
+      → tables_with M w t (w.active t) ≡ with_change_of M c (tables M w)
+  changed_is w t o c q e r = ap (tables_with M w t) e ∙ (ap (λ z. with_change M z (tables M w)) r ∙ go c)
     where
       go : (c : Option Change) → with_change M (Go c q) (tables M w) ≡ with_change_of M c (tables M w)
       go None = refl
@@ -300,8 +307,8 @@ module _ (M : Machine) (L : Laws M) where
 
   pushed_is : (w : World M) (t : ℕ) (o : Open M) (c : Option Change) (q : Position) (bs : List Record)
       → w.active t ≡ Some o → act (tx_of M t o) o.now.position (tables M w) ≡ Go c q
-      → pushed M w t (w.active t) bs ≡ with_record_of M w.layout c (tables M w) bs
-  pushed_is w t o c q bs e r = ap (λ z. pushed M w t z bs) e
+      → records_after M w t (w.active t) bs ≡ with_record_of M w.layout c (tables M w) bs
+  pushed_is w t o c q bs e r = ap (λ z. records_after M w t z bs) e
       ∙ (ap (λ z. with_record M w.layout z (tables M w) bs) r ∙ go c)
     where
       go : (c : Option Change)
@@ -315,7 +322,7 @@ module _ (M : Machine) (L : Laws M) where
       let r' = acts_here s h t p ∙ r in
       leads s h (Advance t) More _
       (goes_on t o c q (is_open_in s t p e) (granted_here s h t p g) r' (has_room s h t p c room))
-      (went_on M t p (ask (tx_in M t p) p.position s.tables) c q s)
+      (after_stage M t p (ask (tx_in M t p) p.position s.tables) c q s)
       (ap (λ bs. put_records M t bs s.undo) (pushed_is (world_of M s) t o c q (s.undo.active t) (is_open_in s t p e) r'
       ∙ ap (λ z. with_record_of M s.layout c z (s.undo.active t)) (tables_here s h)))
       (changed_is (world_of M s) t o c q (is_open_in s t p e) r' ∙ ap (with_change_of M c) (tables_here s h))
@@ -329,9 +336,9 @@ module _ (M : Machine) (L : Laws M) where
       → Next M (world_of M s) i a (put_active M t None (world_of M s))
       → undo_after M (world_of M s) s.undo a i ≡ put_records M t [] s.undo
       → tables_after M (world_of M s) s.undo a i ≡ unwind M (s.undo.active t) (tables M (world_of M s))
-      → Leads M s i a (dropped M t s)
+      → Leads M s i a (without_slot M t s)
   drops s h t i a n q p =
-      leads s h i a _ n (dropped M t s) q (p ∙ ap (unwind M (s.undo.active t)) (tables_here s h))
+      leads s h i a _ n (without_slot M t s) q (p ∙ ap (unwind M (s.undo.active t)) (tables_here s h))
       (slots_put s h t None None refl) (seals_here s h) (counts_here s h) refl refl
 
   pub rolls_back_here : Rolls_back_here M
@@ -371,7 +378,7 @@ module _ (M : Machine) (L : Laws M) where
   pub is_full_in : (s : Store M) → IsStanding M s → (t : ℕ) (p : Slot M) (c : Change) → IsFullIn M s t c
       → IsFull M (world_of M s) (open_in s t p) c
   is_full_in s h t p c f = (
-    subst (λ (r : Map). (filled M (lengths_of M (s.undo.active t))).1 < M.size_of (record_on M s.layout c r))
+    subst (λ (r : Map). (fill_of M (lengths_of M (s.undo.active t))).1 < M.size_of (record_on M s.layout c r))
         (sym (tables_here s h)) f.0,
     subst (λ (n : ℕ). s.extents ≤ n) (sym (used_here s h)) f.1,
   )
@@ -407,7 +414,8 @@ module _ (M : Machine) (L : Laws M) where
   -- the mark
   pub saves_here : Saves_here M
   saves_here s t p h e =
-      leads s h (Save t) Saved _ (saves t (open_in s t p) (is_open_in s t p e)) (marked M t p s) refl (tables_here s h)
+      leads s h (Save t) Saved _ (saves t (open_in s t p) (is_open_in s t p e)) (with_mark M t p s) refl
+      (tables_here s h)
       (slots_put s h t _ _
       (λ i. Some (record {
         number = p.number;
@@ -425,8 +433,8 @@ module _ (M : Machine) (L : Laws M) where
       let bs = s.undo.active t in
       let is = is_open_in s t p e in
       let mark = mark_here s h t p e in
-      leads s h (Back t) Gone_back _ (goes_back t o is) (gone_back M t p s)
-      (ap (λ z. put_records M t (cut M z bs) s.undo) is
+      leads s h (Back t) Gone_back _ (goes_back t o is) (back_at_mark M t p s)
+      (ap (λ z. put_records M t (records_at_mark M z bs) s.undo) is
       ∙ ap (λ (n : ℕ). put_records M t (drop (length bs - n) bs) s.undo) mark)
       (ap (λ z. unwind M (since_mark M z bs) (tables M (world_of M s))) is
       ∙ (ap (λ (n : ℕ). unwind M (take (length bs - n) bs) (tables M (world_of M s))) mark

@@ -11,7 +11,7 @@ use Rattle.oe_theory.specs.Next.{purges, rewinds, query_is_rejected, misses, too
 use Rattle.oe_theory.specs.Laws.{Sound, Laws}
 use Rattle.oe_theory.specs.Undo.{unwind_open, unwind_commits}
 use Rattle.oe_theory.specs.Store.{Slot, Store, tx_in, open_of, seals_of, counts_before, world_of, newest_version}
-use Rattle.oe_theory.specs.Store.{newest_of, horizon_of, version_of, counts_of, sealed, purged_to, rewound_to}
+use Rattle.oe_theory.specs.Store.{newest_of, horizon_of, version_of, counts_of, after_seal, after_purge, after_rewind}
 use Rattle.oe_theory.specs.Store.{count_slots, IsPastIn, all_below}
 use Rattle.oe_theory.specs.StoreTheorems.{IsStanding, Leads, Commits_here, Reads_here, Misses_here}
 use Rattle.oe_theory.specs.StoreTheorems.{Query_is_rejected_here, Audits_here, Purges_here, Rewinds_here}
@@ -112,11 +112,11 @@ module _ (M : Machine) (L : Laws M) where
   -- a commit
   pub commits_here : Commits_here M
   commits_here s t p y h e g r =
-      subst (λ (n : ℕ). Leads M s (Advance t) (Committed (suc n) y) (sealed M t p y s)) (newest_here s h)
+      subst (λ (n : ℕ). Leads M s (Advance t) (Committed (suc n) y) (after_seal M t p y s)) (newest_here s h)
       (leads M L s h (Advance t) (Committed (suc (newest M (world_of M s))) y) _
       (commits t (open_in M L s t p) y (is_open_in M L s t p e) (granted_here M L s h t p g)
       (acts_here M L s h t p ∙ r))
-      (sealed M t p y s) refl (tables_here M L s h) (slots_put M L s h t None None refl)
+      (after_seal M t p y s) refl (tables_here M L s h) (slots_put M L s h t None None refl)
       (ap (λ z. record { tx = tx_in M t p; reply = y } ∷ z) (seals_here M L s h)) (ap (bump t) (counts_here M L s h))
       refl refl)
 
@@ -188,7 +188,7 @@ module _ (M : Machine) (L : Laws M) where
   pub purges_here : Purges_here M
   purges_here s m h a b =
       let w = world_of M s in
-      leads M L s h (Purge m) (Purged m) _ (purges m (not_before s h m a) (not_after s h m b)) (purged_to M m s)
+      leads M L s h (Purge m) (Purged m) _ (purges m (not_before s h m a) (not_after s h m b)) (after_purge M m s)
       (ap (λ (n : ℕ). record { active = s.undo.active; history = take (n - m) s.undo.history }) (newest_here s h))
       (tables_here M L s h) (slots_here M L s h)
       (seals-take (newest M w - m) w.history
@@ -199,7 +199,7 @@ module _ (M : Machine) (L : Laws M) where
   rewinds_here s m h quiet a b =
       let w = world_of M s in
       leads M L s h (Rewind m) (Rewound m) _
-      (rewinds m (λ t. is_shut_in M L s t (quiet t)) (not_before s h m a) (not_after s h m b)) (rewound_to M m s)
+      (rewinds m (λ t. is_shut_in M L s t (quiet t)) (not_before s h m a) (not_after s h m b)) (after_rewind M m s)
       (ap (λ (n : ℕ). record { active = s.undo.active; history = drop (n - m) s.undo.history }) (newest_here s h))
       (ap (unwind_commits M (take (newest M w - m) s.undo.history)) (tables_here M L s h)
       ∙ ap (λ (n : ℕ). unwind_commits M (take (n - m) s.undo.history) s.tables) (newest_here s h))

@@ -4,14 +4,16 @@ use Rattle.std.proofs.Common.{subst, arith, inl, inr}
 use Rattle.oe_theory.specs.Machine.{Machine, Stop, Fail}
 use Rattle.oe_theory.specs.World.{Open, World, tx_of, overlay, counts_now, map_after, horizon, newest, at, latest}
 use Rattle.oe_theory.specs.World.{tables, layers}
-use Rattle.oe_theory.specs.Next.{IsGranted, committed, Step, Begin, Advance, Purge, Rewind, Answer, Begun, Committed}
-use Rattle.oe_theory.specs.Next.{Aborted, Purged, Rewound, Undo_full, rewound, Next, commits, purges, rewinds, stops}
+use Rattle.oe_theory.specs.Next.{IsGranted, after_commit, Step, Begin, Advance, Purge, Rewind, Answer, Begun, Committed}
+use Rattle.oe_theory.specs.Next.{Aborted, Purged, Rewound, Undo_full, after_rewind, Next, commits, purges, rewinds}
+use Rattle.oe_theory.specs.Next.{stops}
 use Rattle.oe_theory.specs.Next.{fails, Event, Run, events}
 use Rattle.oe_theory.specs.Laws.{Laws, Sound}
 use Rattle.oe_theory.specs.Erase.{without}
-use Rattle.oe_theory.specs.Undo.{Undo, Keeps, unwind, unwind_open, unwind_commits, restored_commits, no_records}
+use Rattle.oe_theory.specs.Undo.{Undo, Keeps, unwind, unwind_open, unwind_commits, row_before_commits, no_records}
 use Rattle.oe_theory.specs.Undo.{undo_after}
-use Rattle.oe_theory.specs.Theorems.{opened, IsReached, Opening_is_reached, Run_is_reached, Rollback_leaves_no_trace}
+use Rattle.oe_theory.specs.Theorems.{world_at_opening, IsReached, Opening_is_reached, Run_is_reached}
+use Rattle.oe_theory.specs.Theorems.{Rollback_leaves_no_trace}
 use Rattle.oe_theory.specs.Theorems.{Is_whole, Commit_is_whole, Is_none, Abort_has_no_effect, Is_refused}
 use Rattle.oe_theory.specs.Theorems.{Abort_is_its_own, Changes_are_accepted, IsKeptByChanges, Holds_of_tables}
 use Rattle.oe_theory.specs.Theorems.{Holds_while_undone, Holds_while_rewound, Open_is_known, History_is_serial}
@@ -39,7 +41,7 @@ use Rattle.oe_theory.proofs.Past.{quiet_tables, latest_at, rewound_newest, rewou
 use Rattle.oe_theory.proofs.Past.{purged_at, good_at, kept_at}
 
 module _ (M : Machine) (L : Laws M) where
-  pub sound_opened : (b : M.Map) (n : ℕ) (l : M.Layout) → M.Good (λ _. 0) b → Sound M (opened M b n l)
+  pub sound_opened : (b : M.Map) (n : ℕ) (l : M.Layout) → M.Good (λ _. 0) b → Sound M (world_at_opening M b n l)
   sound_opened b n l g = record {
     good = g;
     serial = tt;
@@ -49,9 +51,9 @@ module _ (M : Machine) (L : Laws M) where
 
   pub reached_sound : (w : World M) → IsReached M w → Sound M w
   reached_sound w r =
-      run_sound M L (opened M r.base r.extents r.layout) (sound_opened r.base r.extents r.layout r.good)
+      run_sound M L (world_at_opening M r.base r.extents r.layout) (sound_opened r.base r.extents r.layout r.good)
       (events M r.steps r.answers) w
-      (run_events M (opened M r.base r.extents r.layout) r.steps r.answers w r.run)
+      (run_events M (world_at_opening M r.base r.extents r.layout) r.steps r.answers w r.run)
 
   pub opening_is_reached : Opening_is_reached M
   opening_is_reached b n l g = record
@@ -66,7 +68,7 @@ module _ (M : Machine) (L : Laws M) where
         good = r.good;
         steps = r.steps ++ is;
         answers = r.answers ++ ys;
-        run = runs-append M (opened M r.base r.extents r.layout) w w' r.steps is r.answers ys r.run q;
+        run = runs-append M (world_at_opening M r.base r.extents r.layout) w w' r.steps is r.answers ys r.run q;
       }
 
   pub rollback_leaves_no_trace : Rollback_leaves_no_trace M
@@ -84,7 +86,7 @@ module _ (M : Machine) (L : Laws M) where
       let said : y ≡ reply = cc in
       let count : suc (newest M w) ≡ m = cc in
       let q = commit_whole M L w s u o y e g r in
-      let one_more : newest M (committed M w u o y) ≡ suc (newest M w) = omega arith in (
+      let one_more : newest M (after_commit M w u o y) ≡ suc (newest M w) = omega arith in (
         record {
           was = o;
           is_open = ap w.active (sym same) ∙ e;
@@ -194,7 +196,7 @@ module _ (M : Machine) (L : Laws M) where
       × ((k : ℕ) → k ≤ m → at M w' k ≡ at M w k)
   rewound_step w _ _ _ m (rewinds n quiet l h) i a =
       let same : n ≡ m = cc in (
-        quiet_tables M L (rewound M w n) quiet ∙ ap (at M w) same,
+        quiet_tables M L (after_rewind M w n) quiet ∙ ap (at M w) same,
         rewound_newest M L w n l h
             ∙ same,
         refl,
@@ -237,9 +239,10 @@ module _ (M : Machine) (L : Laws M) where
 
   pub world_has_records : World_has_records M
   world_has_records w r =
-      run_keeps (opened M r.base r.extents r.layout) (sound_opened r.base r.extents r.layout r.good) (no_records M)
+      run_keeps (world_at_opening M r.base r.extents r.layout) (sound_opened r.base r.extents r.layout r.good)
+      (no_records M)
       (keeps_opened M L r.base r.extents r.layout) (events M r.steps r.answers) w
-      (run_events M (opened M r.base r.extents r.layout) r.steps r.answers w r.run)
+      (run_events M (world_at_opening M r.base r.extents r.layout) r.steps r.answers w r.run)
 
   pub tables_follow : Tables_follow M
   tables_follow w v u i a r k x = tables_next M L w (reached_sound w r) u k i a v x
@@ -262,7 +265,7 @@ module _ (M : Machine) (L : Laws M) where
   pub row_is_unwound : Row_is_unwound M
   row_is_unwound w u ts m k r h all =
       sym (at_restored_commits M L (take (newest M w - m) u.history) (unwind_open M u.active ts (tables M w)) k
-      ∙ ap (restored_commits M k (take (newest M w - m) u.history)) (at_restored_open M L u.active ts (tables M w) k))
+      ∙ ap (row_before_commits M k (take (newest M w - m) u.history)) (at_restored_open M L u.active ts (tables M w) k))
       ∙ ap (λ z. M.row_at z k) (version_is_unwound w u ts m r h all)
 
   module _ (P : M.Map → Type 0) (kept : IsKeptByChanges M P) where
@@ -286,9 +289,11 @@ module _ (M : Machine) (L : Laws M) where
 
   pub extents_suffice : Extents_suffice M
   extents_suffice w r =
-      run_within M L (opened M r.base r.extents r.layout) (sound_opened r.base r.extents r.layout r.good) (no_records M)
+      run_within M L (world_at_opening M r.base r.extents r.layout) (sound_opened r.base r.extents r.layout r.good)
+      (no_records M)
       (keeps_opened M L r.base r.extents r.layout) (omega (arith, none_used M L M.terminal_limit))
-      (events M r.steps r.answers) w (run_events M (opened M r.base r.extents r.layout) r.steps r.answers w r.run)
+      (events M r.steps r.answers) w (run_events M
+      (world_at_opening M r.base r.extents r.layout) r.steps r.answers w r.run)
 
   pub full_is_full : Full_is_full M
   full_is_full w w' t r x = full_step M L w (extents_suffice w r) (Advance t) Undo_full w' t x refl refl
@@ -345,9 +350,9 @@ module _ (M : Machine) (L : Laws M) where
     pub holds_of_versions : Holds_of_versions M P
     holds_of_versions w r p m =
         kept_at M L P keeps w (reached_sound w r)
-        (run_kept (opened M r.base r.extents r.layout) (sound_opened r.base r.extents r.layout r.good) p
+        (run_kept (world_at_opening M r.base r.extents r.layout) (sound_opened r.base r.extents r.layout r.good) p
         (events M r.steps r.answers) w
-        (run_events M (opened M r.base r.extents r.layout) r.steps r.answers w r.run)) m
+        (run_events M (world_at_opening M r.base r.extents r.layout) r.steps r.answers w r.run)) m
 
   pub tests_hold_from_base : Tests_hold_from_base M
   tests_hold_from_base p keeps = holds_from_base (λ r. p r ≡ true) keeps

@@ -5,7 +5,8 @@ use Rattle.std.specs.Prelude.{◌⊎◌, ◌≢◌}
 use Rattle.std.proofs.lemmas.Bool.{cases_eq, cases_order}
 use Rattle.oe_theory.specs.Machine.{Machine, Mode, Ask, Stop, Plain, Take, Act, Fail, Go, Ready, Outcome, Here, Missing}
 use Rattle.oe_theory.specs.World.{go_together, Open, World, IsTerminal, tx_of, tables, number, horizon, newest, at}
-use Rattle.oe_theory.specs.Next.{record_on, filled, used, IsGranted, IsInTheWay, IsQuiet, count_open, IsPast, Step}
+use Rattle.oe_theory.specs.Next.{record_on, fill_of, extents_used, IsGranted, IsInTheWay, IsQuiet, count_open, IsPast}
+use Rattle.oe_theory.specs.Next.{Step}
 use Rattle.oe_theory.specs.Next.{Begin, Advance, Save, Back, Rollback, Read, Audit, Purge, Rewind, moment, begins}
 use Rattle.oe_theory.specs.Next.{goes_on, commits, saves, goes_back, rolls_back, reads, audits, purges, rewinds, stops}
 use Rattle.oe_theory.specs.Next.{fails, is_busy, is_full, is_rejected, is_open, number_is_rejected, query_is_rejected}
@@ -90,12 +91,12 @@ module _ (M : Machine) where
   of_act w t o e g (Ready y) r = record { answer = _; after = _; next = commits t o y e g r; other = λ z. cc }
   of_act w t o e g (Go None p) r = record { answer = _; after = _; next = goes_on t o None p e g r tt; other = λ z. cc }
   of_act w t o e g (Go (Some c) p) r = room
-      (either (size_of (record_on M w.layout c (tables M w))) (filled M o.lengths).1)
-      (either w.extents (used M w))
+      (either (size_of (record_on M w.layout c (tables M w))) (fill_of M o.lengths).1)
+      (either w.extents (extents_used M w))
     where
-      room : (size_of (record_on M w.layout c (tables M w)) ≤ (filled M o.lengths).1)
-          ⊎ ((filled M o.lengths).1 < size_of (record_on M w.layout c (tables M w)))
-          → (w.extents ≤ used M w) ⊎ (used M w < w.extents) → IsAnswered M w (Advance t)
+      room : (size_of (record_on M w.layout c (tables M w)) ≤ (fill_of M o.lengths).1)
+          ⊎ ((fill_of M o.lengths).1 < size_of (record_on M w.layout c (tables M w)))
+          → (w.extents ≤ extents_used M w) ⊎ (extents_used M w < w.extents) → IsAnswered M w (Advance t)
       room (inl fits) x = record {
         answer = _;
         after = _;

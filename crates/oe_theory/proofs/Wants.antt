@@ -4,7 +4,8 @@ use Rattle.std.specs.Prelude.{◌⊎◌}
 use Rattle.std.proofs.lemmas.Bool.{cases_order}
 use Rattle.oe_theory.specs.Machine.{Machine, Ask, Stop, Plain, Take, Act, Fail, Go, Ready}
 use Rattle.oe_theory.specs.World.{Open, World, tx_of, tables}
-use Rattle.oe_theory.specs.Next.{record_on, filled, used, IsGranted, GivesWay, MayLackMemory, Step, Advance, Answer}
+use Rattle.oe_theory.specs.Next.{record_on, fill_of, extents_used, IsGranted, GivesWay, MayLackMemory, Step, Advance}
+use Rattle.oe_theory.specs.Next.{Answer}
 use Rattle.oe_theory.specs.Next.{No_memory, Next, begins, goes_on, stops, fails, is_full, lacks_memory_at_begin}
 use Rattle.oe_theory.specs.Next.{lacks_memory}
 use Rattle.oe_theory.specs.Theorems.{Stands_for, begins_else, goes_else, full_else, stops_else, Want_stands_for}
@@ -28,12 +29,12 @@ module _ (M : Machine) where
   of_act w t o e g (Ready y) r h = absurd h
   of_act w t o e g (Go None p) r h = goes_else t _ (goes_on t o None p e g r tt)
   of_act w t o e g (Go (Some c) p) r h = room
-      (either (size_of (record_on M w.layout c (tables M w))) (filled M o.lengths).1)
-      (either w.extents (used M w))
+      (either (size_of (record_on M w.layout c (tables M w))) (fill_of M o.lengths).1)
+      (either w.extents (extents_used M w))
     where
-      room : (size_of (record_on M w.layout c (tables M w)) ≤ (filled M o.lengths).1)
-          ⊎ ((filled M o.lengths).1 < size_of (record_on M w.layout c (tables M w)))
-          → (w.extents ≤ used M w) ⊎ (used M w < w.extents) → Stands_for M w (Advance t)
+      room : (size_of (record_on M w.layout c (tables M w)) ≤ (fill_of M o.lengths).1)
+          ⊎ ((fill_of M o.lengths).1 < size_of (record_on M w.layout c (tables M w)))
+          → (w.extents ≤ extents_used M w) ⊎ (extents_used M w < w.extents) → Stands_for M w (Advance t)
       room (inl fits) x = goes_else t _ (goes_on t o (Some c) p e g r (inl fits))
       room (inr long) (inr free) = goes_else t _ (goes_on t o (Some c) p e g r (inr free))
       room (inr long) (inl full) = full_else t (is_full t o c p e g r (long, full))

@@ -97,12 +97,12 @@ module _ (M : Machine) where
       (is_rolled_back t es)
 
   -- the events without the terminal's transaction
-  abbrev pub erased : ℕ → List (Event M) → List (Event M)
-  erased t [] = []
-  erased t (e ∷ es) =
-      cond (is_of t e.step) (cond (is_rollback e.answer) (tidy es) (erased t es))
-      (cond (is_idle e.answer) (erased t es) (e ∷ erased t es))
+  abbrev pub events_without : ℕ → List (Event M) → List (Event M)
+  events_without t [] = []
+  events_without t (e ∷ es) =
+      cond (is_of t e.step) (cond (is_rollback e.answer) (tidy es) (events_without t es))
+      (cond (is_idle e.answer) (events_without t es) (e ∷ events_without t es))
 
   -- all events, where the transaction begins between the first and the others
   abbrev pub without : List (Event M) → ℕ → List (Event M) → List (Event M)
-  without before t after = tidy before ++ erased t after
+  without before t after = tidy before ++ events_without t after

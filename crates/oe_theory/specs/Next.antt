@@ -2,7 +2,7 @@
 use Rattle.std.specs.Prelude.{◌≡◌, ℕ, suc, zero, ◌+◌, ◌-◌, ◌<◌, ◌≤◌, ◌≢◌, Bool, true, false, cond, nat_le, Option, None}
 use Rattle.std.specs.Prelude.{Some, List, [], ◌∷◌, take, drop, ◌⊎◌}
 use Rattle.oe_theory.specs.Machine.{Machine, Mode, Ask, Stop, Plain, Take, Act, Fail, Go, Ready, Here, Missing}
-use Rattle.oe_theory.specs.World.{go_together, risen, set, State, Open, Commit, World, IsTerminal, tx_of, add}
+use Rattle.oe_theory.specs.World.{go_together, greater_mode, set, State, Open, Commit, World, IsTerminal, tx_of, add}
 use Rattle.oe_theory.specs.World.{counts_after, horizon, newest, at, number, tables}
 
 module _ (M : Machine) where
@@ -88,8 +88,8 @@ module _ (M : Machine) where
   }
 
   -- a transaction that has just begun
-  abbrev pub begun : World M → ℕ → Request → Open M
-  begun w t q =
+  abbrev pub open_at_begin : World M → ℕ → Request → Open M
+  open_at_begin w t q =
       let first : State M =
       record { position = start (record { terminal = t; number = number M w t; request = q }); changes = [] } in
       record {
@@ -106,7 +106,7 @@ module _ (M : Machine) where
   abbrev pub held_after : Ask Name Refusal → (Name → Option Mode) → Name → Option Mode
   held_after (Stop e) held = held
   held_after Plain held = held
-  held_after (Take n m) held = λ q. cond (is_name q n) (Some (risen m (held q))) (held q)
+  held_after (Take n m) held = λ q. cond (is_name q n) (Some (greater_mode m (held q))) (held q)
 
   -- the record of a change of these tables
   abbrev pub record_on : Layout → Change → Map → Record
@@ -119,8 +119,8 @@ module _ (M : Machine) where
 
   -- the transaction after a stage; where the stage begins at a mark of the program's own, the mark has moved there
   -- first
-  abbrev pub moved : Layout → Open M → Ask Name Refusal → Option Change → Position → Map → Open M
-  moved l o a c p r =
+  abbrev pub open_after : Layout → Open M → Ask Name Refusal → Option Change → Position → Map → Open M
+  open_after l o a c p r =
       record {
         number = o.number;
         request = o.request;
@@ -132,14 +132,14 @@ module _ (M : Machine) where
       }
 
   -- how many extents records of these lengths fill in order, and how much is left of the last one
-  abbrev pub filled : List ℕ → ℕ × ℕ
-  filled [] = (0, 0)
-  filled (l ∷ ls) = let f = filled ls in cond (nat_le l f.1) (f.0, f.1 - l) (suc f.0, extent - l)
+  abbrev pub fill_of : List ℕ → ℕ × ℕ
+  fill_of [] = (0, 0)
+  fill_of (l ∷ ls) = let f = fill_of ls in cond (nat_le l f.1) (f.0, f.1 - l) (suc f.0, extent - l)
 
   -- the extents of one transaction
   abbrev pub used_by : Option (Open M) → ℕ
   used_by None = 0
-  used_by (Some o) = (filled o.lengths).0
+  used_by (Some o) = (fill_of o.lengths).0
 
   -- the extents of the open transactions of terminals below n
   abbrev pub used_active : (ℕ → Option (Open M)) → ℕ → ℕ
@@ -149,21 +149,21 @@ module _ (M : Machine) where
   -- the extents of commits
   abbrev pub used_history : List (Commit M) → ℕ
   used_history [] = 0
-  used_history (c ∷ cs) = (filled c.lengths).0 + used_history cs
+  used_history (c ∷ cs) = (fill_of c.lengths).0 + used_history cs
 
   -- the extents of all
-  abbrev pub used : World M → ℕ
-  used w = used_history w.history + used_active w.active terminal_limit
+  abbrev pub extents_used : World M → ℕ
+  extents_used w = used_history w.history + used_active w.active terminal_limit
 
   -- the record fits the rest of the transaction's last extent, or an extent is free
   abbrev pub HasRoom : World M → Open M → Option Change → Type 0
   HasRoom w o None = Unit {0}
-  HasRoom w o (Some c) = (size_of (record_on w.layout c (tables M w)) ≤ (filled o.lengths).1)
-      ⊎ (used w < w.extents)
+  HasRoom w o (Some c) = (size_of (record_on w.layout c (tables M w)) ≤ (fill_of o.lengths).1)
+      ⊎ (extents_used w < w.extents)
 
   -- the record fits neither there nor in a free extent
   abbrev pub IsFull : World M → Open M → Change → Type 0
-  IsFull w o c = ((filled o.lengths).1 < size_of (record_on w.layout c (tables M w))) × (w.extents ≤ used w)
+  IsFull w o c = ((fill_of o.lengths).1 < size_of (record_on w.layout c (tables M w))) × (w.extents ≤ extents_used w)
 
   -- no other transaction holds the name in a mode that conflicts
   abbrev pub IsFreeFor : World M → ℕ → Name → Mode → Type 0
@@ -204,8 +204,8 @@ module _ (M : Machine) where
       × GivesWay (yields (tx_of M t o) o.now.position) (act (tx_of M t o) o.now.position (tables M w))
 
   -- the world after a commit
-  abbrev pub committed : World M → ℕ → Open M → Reply → World M
-  committed w t o reply =
+  abbrev pub after_commit : World M → ℕ → Open M → Reply → World M
+  after_commit w t o reply =
       record {
         base = w.base;
         counts = w.counts;
@@ -217,8 +217,8 @@ module _ (M : Machine) where
       }
 
   -- the world after a purge up to m
-  abbrev pub purged : World M → ℕ → World M
-  purged w m =
+  abbrev pub after_purge : World M → ℕ → World M
+  after_purge w m =
       record {
         base = at M w m;
         counts = counts_after M w.counts (drop (newest M w - m) w.history);
@@ -229,8 +229,8 @@ module _ (M : Machine) where
       }
 
   -- the world after a rewind to m
-  abbrev pub rewound : World M → ℕ → World M
-  rewound w m = record {
+  abbrev pub after_rewind : World M → ℕ → World M
+  after_rewind w m = record {
     base = w.base;
     counts = w.counts;
     history = drop (newest M w - m) w.history;
@@ -294,17 +294,18 @@ module _ (M : Machine) where
 
   -- From w the step may be answered so, and leave the last world.
   pub data Next (w : World M) : Step → Answer → World M → Type 0 where
-    begins : (t : ℕ) (q : Request) → MayBegin w t q → Next w (Begin t q) Begun (put_active t (Some (begun w t q)) w)
+    begins : (t : ℕ) (q : Request) → MayBegin w t q
+        → Next w (Begin t q) Begun (put_active t (Some (open_at_begin w t q)) w)
     goes_on : (t : ℕ) (o : Open M) (c : Option Change) (p : Position) → w.active t ≡ Some o
         → IsGranted w t (ask (tx_of M t o) o.now.position (tables M w))
         → act (tx_of M t o) o.now.position (tables M w) ≡ Go c p
         → HasRoom w o c
         → Next w (Advance t) More
-        (put_active t (Some (moved w.layout o (ask (tx_of M t o) o.now.position (tables M w)) c p (tables M w))) w)
+        (put_active t (Some (open_after w.layout o (ask (tx_of M t o) o.now.position (tables M w)) c p (tables M w))) w)
     commits : (t : ℕ) (o : Open M) (reply : Reply) → w.active t ≡ Some o
         → IsGranted w t (ask (tx_of M t o) o.now.position (tables M w))
         → act (tx_of M t o) o.now.position (tables M w) ≡ Ready reply
-        → Next w (Advance t) (Committed (suc (newest M w)) reply) (committed w t o reply)
+        → Next w (Advance t) (Committed (suc (newest M w)) reply) (after_commit w t o reply)
     saves : (t : ℕ) (o : Open M) → w.active t ≡ Some o
         → Next w (Save t) Saved (put_active t (Some (record o { mark = o.now; mark_lengths = o.lengths })) w)
     goes_back : (t : ℕ) (o : Open M) → w.active t ≡ Some o
@@ -315,8 +316,8 @@ module _ (M : Machine) where
         → Next w (Read m q) (Replied f) w
     audits : (m : ℕ) (c : Condition) → horizon M w ≤ m → m ≤ newest M w
         → Next w (Audit m c) (Audited (verdict c (at M w m))) w
-    purges : (m : ℕ) → horizon M w ≤ m → m ≤ newest M w → Next w (Purge m) (Purged m) (purged w m)
-    rewinds : (m : ℕ) → IsQuiet w → horizon M w ≤ m → m ≤ newest M w → Next w (Rewind m) (Rewound m) (rewound w m)
+    purges : (m : ℕ) → horizon M w ≤ m → m ≤ newest M w → Next w (Purge m) (Purged m) (after_purge w m)
+    rewinds : (m : ℕ) → IsQuiet w → horizon M w ≤ m → m ≤ newest M w → Next w (Rewind m) (Rewound m) (after_rewind w m)
     -- refusals that roll the transaction back
     stops : (t : ℕ) (o : Open M) (e : Refusal) → w.active t ≡ Some o
         → ask (tx_of M t o) o.now.position (tables M w) ≡ Stop e

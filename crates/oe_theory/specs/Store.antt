@@ -4,7 +4,7 @@ use Rattle.std.specs.Prelude.{[], ◌∷◌, length, take, drop, ◌⊎◌}
 use Rattle.oe_theory.specs.Machine.{Machine, Mode, Ask, Stop, Plain, Take, Tx}
 use Rattle.oe_theory.specs.World.{go_together, set, bump, total, Open, Commit, World, add, IsTerminal, counts_now}
 use Rattle.oe_theory.specs.World.{tables}
-use Rattle.oe_theory.specs.Next.{record_on, filled, held_after, IsNew, GivesWay, Step, Begin, Advance, Save, Back}
+use Rattle.oe_theory.specs.Next.{record_on, fill_of, held_after, IsNew, GivesWay, Step, Begin, Advance, Save, Back}
 use Rattle.oe_theory.specs.Next.{Rollback, Read, Audit, Purge, Rewind}
 use Rattle.oe_theory.specs.Undo.{Undo, lengths_of, unwind, unwind_open, unwind_commits, no_records, put_records}
 use Rattle.oe_theory.specs.Undo.{used_of}
@@ -75,8 +75,8 @@ module _ (M : Machine) where
   changes_of (b ∷ bs) r = add M (redo b r) (changes_of bs (put_back b r))
 
   -- the open transaction of a slot and its records, where r are the tables
-  abbrev pub opened_by : List Record → Map → Slot → Open M
-  opened_by bs r p =
+  abbrev pub open_in_slot : List Record → Map → Slot → Open M
+  open_in_slot bs r p =
       record {
         number = p.number;
         request = p.request;
@@ -90,7 +90,7 @@ module _ (M : Machine) where
   -- if there is one
   abbrev pub open_of : List Record → Map → Option Slot → Option (Open M)
   open_of bs r None = None
-  open_of bs r (Some p) = Some (opened_by bs r p)
+  open_of bs r (Some p) = Some (open_in_slot bs r p)
 
   -- the commits of these seals and records
   abbrev pub history_of : List Seal → List (List Record) → List (Commit M)
@@ -209,8 +209,8 @@ module _ (M : Machine) where
       }
 
   -- a transaction rolled back: its records put back, and its slot empty
-  abbrev pub dropped : ℕ → Store → Store
-  dropped t s = record s {
+  abbrev pub without_slot : ℕ → Store → Store
+  without_slot t s = record s {
     tables = unwind M (s.undo.active t) s.tables;
     undo = put_records M t [] s.undo;
     slots = set t None s.slots;
@@ -240,8 +240,8 @@ module _ (M : Machine) where
       }
 
   -- a transaction that went on: its change made and recorded, and its slot moved
-  abbrev pub went_on : ℕ → Slot → Ask Name Refusal → Option Change → Position → Store → Store
-  went_on t p a c q s =
+  abbrev pub after_stage : ℕ → Slot → Ask Name Refusal → Option Change → Position → Store → Store
+  after_stage t p a c q s =
       record s {
         tables = with_change_of c s.tables;
         undo = put_records M t (with_record_of s.layout c s.tables (s.undo.active t)) s.undo;
@@ -249,8 +249,8 @@ module _ (M : Machine) where
       }
 
   -- a transaction committed: its records sealed, and its slot empty
-  abbrev pub sealed : ℕ → Slot → Reply → Store → Store
-  sealed t p reply s =
+  abbrev pub after_seal : ℕ → Slot → Reply → Store → Store
+  after_seal t p reply s =
       record s {
         undo = record { active = set t [] s.undo.active; history = s.undo.active t ∷ s.undo.history };
         slots = set t None s.slots;
@@ -263,8 +263,8 @@ module _ (M : Machine) where
   count_since t p s = length (s.undo.active t) - p.mark_count
 
   -- a transaction back at its mark: the records since then put back and dropped
-  abbrev pub gone_back : ℕ → Slot → Store → Store
-  gone_back t p s =
+  abbrev pub back_at_mark : ℕ → Slot → Store → Store
+  back_at_mark t p s =
       record s {
         tables = unwind M (take (count_since t p s) (s.undo.active t)) s.tables;
         undo = put_records M t (drop (count_since t p s) (s.undo.active t)) s.undo;
@@ -272,20 +272,20 @@ module _ (M : Machine) where
       }
 
   -- a transaction's mark set where it stands
-  abbrev pub marked : ℕ → Slot → Store → Store
-  marked t p s = put_slot t (Some (record p { mark_position = p.position; mark_count = length (s.undo.active t) })) s
+  abbrev pub with_mark : ℕ → Slot → Store → Store
+  with_mark t p s = put_slot t (Some (record p { mark_position = p.position; mark_count = length (s.undo.active t) })) s
 
   -- the records and seals of the commits up to a moment gone
-  abbrev pub purged_to : ℕ → Store → Store
-  purged_to m s =
+  abbrev pub after_purge : ℕ → Store → Store
+  after_purge m s =
       record s {
         undo = record { active = s.undo.active; history = take (commits_after s m) s.undo.history };
         seals = take (commits_after s m) s.seals;
       }
 
   -- the commits after a moment undone: their records put back and dropped, and the commits no longer counted
-  abbrev pub rewound_to : ℕ → Store → Store
-  rewound_to m s =
+  abbrev pub after_rewind : ℕ → Store → Store
+  after_rewind m s =
       record s {
         tables = unwind_commits M (take (commits_after s m) s.undo.history) s.tables;
         undo = record { active = s.undo.active; history = drop (commits_after s m) s.undo.history };
@@ -294,9 +294,9 @@ module _ (M : Machine) where
       }
 
   -- the transactions of these terminals rolled back, one after another
-  abbrev pub all_dropped : List ℕ → Store → Store
-  all_dropped [] s = s
-  all_dropped (t ∷ ts) s = all_dropped ts (dropped t s)
+  abbrev pub without_slots : List ℕ → Store → Store
+  without_slots [] s = s
+  without_slots (t ∷ ts) s = without_slots ts (without_slot t s)
 
   -- Conditions. Nothing is in the way of a transaction's beginning
   pub record MayBeginIn (s : Store) (t : ℕ) (q : Request) : Type 0 where
@@ -327,12 +327,12 @@ module _ (M : Machine) where
   -- the change's record fits the rest of the transaction's last extent, or an extent is free
   abbrev pub HasRoomIn : Store → ℕ → Option Change → Type 0
   HasRoomIn s t None = Unit {0}
-  HasRoomIn s t (Some c) = (size_of (record_on M s.layout c s.tables) ≤ (filled M (lengths_of M (s.undo.active t))).1)
+  HasRoomIn s t (Some c) = (size_of (record_on M s.layout c s.tables) ≤ (fill_of M (lengths_of M (s.undo.active t))).1)
       ⊎ (used_of M s.undo < s.extents)
 
   -- the record fits neither there nor in a free extent
   abbrev pub IsFullIn : Store → ℕ → Change → Type 0
-  IsFullIn s t c = ((filled M (lengths_of M (s.undo.active t))).1 < size_of (record_on M s.layout c s.tables))
+  IsFullIn s t c = ((fill_of M (lengths_of M (s.undo.active t))).1 < size_of (record_on M s.layout c s.tables))
       × (s.extents ≤ used_of M s.undo)
 
   -- no record takes any room

@@ -4,21 +4,23 @@ use Rattle.std.specs.Prelude.{◌≡◌, ◌↔◌, ℕ, suc, ◌+◌, ◌≤◌
 use Rattle.oe_theory.specs.Machine.{Machine, Mode, Ask, Stop, Take, Fail, Go, Ready, Here, Missing}
 use Rattle.oe_theory.specs.World.{World, IsTerminal, overlay, counts_now, counts_at, horizon, newest, at, latest}
 use Rattle.oe_theory.specs.World.{tables}
-use Rattle.oe_theory.specs.Next.{filled, used, IsGranted, IsInTheWay, HasRoom, IsFull, MayLackMemory, IsQuiet}
+use Rattle.oe_theory.specs.Next.{fill_of, extents_used, IsGranted, IsInTheWay, HasRoom, IsFull, MayLackMemory, IsQuiet}
 use Rattle.oe_theory.specs.Next.{count_open, IsPast, MayBegin, Step, Begin, Advance, Save, Back, Rollback, Read, Audit}
 use Rattle.oe_theory.specs.Next.{Purge, Rewind, Answer, Begun, More, Committed, Saved, Gone_back, Rolled_back, Replied}
 use Rattle.oe_theory.specs.Next.{Audited, Purged, Rewound, Aborted, Rejected, Busy, Undo_full, Not_open, Already_open}
 use Rattle.oe_theory.specs.Next.{Too_old, Future, Not_quiet, No_memory, works_on, moment, Next}
 use Rattle.oe_theory.specs.Laws.{IsGood, Alone}
-use Rattle.oe_theory.specs.Undo.{Undo, unwind_open, unwind_commits, restored_open, restored_commits, HasRecord}
+use Rattle.oe_theory.specs.Undo.{Undo, unwind_open, unwind_commits, row_before_open, row_before_commits, HasRecord}
 use Rattle.oe_theory.specs.Undo.{HasRecordIn, GoesBack, open_records, commit_records, IsAmong, Keeps, lengths_of}
 use Rattle.oe_theory.specs.Undo.{put_records, used_of, undo_after}
-use Rattle.oe_theory.specs.Store.{Slot, Store, tx_in, changes_of, opened_by, world_of, store_of, newest_version}
+use Rattle.oe_theory.specs.Store.{Slot, Store, tx_in, changes_of, open_in_slot, world_of, store_of, newest_version}
 use Rattle.oe_theory.specs.Store.{newest_of, horizon_of, commits_after, version_of, counts_of, opened_store, put_slot}
-use Rattle.oe_theory.specs.Store.{first_slot, dropped, went_on, sealed, gone_back, marked, purged_to, rewound_to}
-use Rattle.oe_theory.specs.Store.{all_dropped, MayBeginIn, IsGrantedIn, IsInTheWayIn, HasRoomIn, IsFullIn, TakesNoRoom}
+use Rattle.oe_theory.specs.Store.{first_slot, without_slot, after_stage, after_seal, back_at_mark, with_mark}
+use Rattle.oe_theory.specs.Store.{after_purge, after_rewind}
+use Rattle.oe_theory.specs.Store.{without_slots, MayBeginIn, IsGrantedIn, IsInTheWayIn, HasRoomIn, IsFullIn}
+use Rattle.oe_theory.specs.Store.{TakesNoRoom}
 use Rattle.oe_theory.specs.Store.{MayLackMemoryIn, IsQuietIn, count_slots, IsPastIn}
-use Rattle.oe_theory.specs.Theorems.{opened, IsReached}
+use Rattle.oe_theory.specs.Theorems.{world_at_opening, IsReached}
 
 module _ (M : Machine) where
   -- the store stands for a world that steps led to, has the records of that world, and is what is stored of it
@@ -47,7 +49,7 @@ module _ (M : Machine) where
   -- a store just opened on a good base stands for the world just opened
   abbrev pub Opening_stands : Type 0
   Opening_stands = (b : M.Map) (n : ℕ) (l : M.Layout) → M.Good (λ _. 0) b → IsStanding (opened_store M b n l)
-      × (world_of M (opened_store M b n l) ≡ opened M b n l)
+      × (world_of M (opened_store M b n l) ≡ world_at_opening M b n l)
 
   -- where nothing is in the way a transaction begins in its terminal's slot
   abbrev pub Begins_here : Type 0
@@ -87,7 +89,7 @@ module _ (M : Machine) where
       → IsGrantedIn M s.slots t (M.ask (tx_in M t p) p.position s.tables)
       → M.act (tx_in M t p) p.position s.tables ≡ Go c q
       → HasRoomIn M s t c
-      → Leads s (Advance t) More (went_on M t p (M.ask (tx_in M t p) p.position s.tables) c q s)
+      → Leads s (Advance t) More (after_stage M t p (M.ask (tx_in M t p) p.position s.tables) c q s)
 
   -- where no record takes room there is always some
   abbrev pub Is_room_here : Type 0
@@ -99,14 +101,14 @@ module _ (M : Machine) where
       (s : Store M) (t : ℕ) (p : Slot M) (reply : M.Reply) → IsStanding s → s.slots t ≡ Some p
       → IsGrantedIn M s.slots t (M.ask (tx_in M t p) p.position s.tables)
       → M.act (tx_in M t p) p.position s.tables ≡ Ready reply
-      → Leads s (Advance t) (Committed (suc (newest_of M s)) reply) (sealed M t p reply s)
+      → Leads s (Advance t) (Committed (suc (newest_of M s)) reply) (after_seal M t p reply s)
 
   -- a stage that stops before its lock rolls its transaction back
   abbrev pub Stops_here : Type 0
   Stops_here =
       (s : Store M) (t : ℕ) (p : Slot M) (e : M.Refusal) → IsStanding s → s.slots t ≡ Some p
       → M.ask (tx_in M t p) p.position s.tables ≡ Stop e
-      → Leads s (Advance t) (Aborted e) (dropped M t s)
+      → Leads s (Advance t) (Aborted e) (without_slot M t s)
 
   -- a stage that fails rolls its transaction back
   abbrev pub Fails_here : Type 0
@@ -114,7 +116,7 @@ module _ (M : Machine) where
       (s : Store M) (t : ℕ) (p : Slot M) (e : M.Refusal) → IsStanding s → s.slots t ≡ Some p
       → IsGrantedIn M s.slots t (M.ask (tx_in M t p) p.position s.tables)
       → M.act (tx_in M t p) p.position s.tables ≡ Fail e
-      → Leads s (Advance t) (Aborted e) (dropped M t s)
+      → Leads s (Advance t) (Aborted e) (without_slot M t s)
 
   -- a lock that another transaction has is refused with the least terminal that is in the way, and nothing changes
   abbrev pub Is_busy_here : Type 0
@@ -143,17 +145,17 @@ module _ (M : Machine) where
   -- the mark moves to where the transaction stands
   abbrev pub Saves_here : Type 0
   Saves_here = (s : Store M) (t : ℕ) (p : Slot M) → IsStanding s → s.slots t ≡ Some p
-      → Leads s (Save t) Saved (marked M t p s)
+      → Leads s (Save t) Saved (with_mark M t p s)
 
   -- the transaction goes back to its mark
   abbrev pub Goes_back_here : Type 0
   Goes_back_here = (s : Store M) (t : ℕ) (p : Slot M) → IsStanding s → s.slots t ≡ Some p
-      → Leads s (Back t) Gone_back (gone_back M t p s)
+      → Leads s (Back t) Gone_back (back_at_mark M t p s)
 
   -- the transaction is rolled back
   abbrev pub Rolls_back_here : Type 0
   Rolls_back_here = (s : Store M) (t : ℕ) (p : Slot M) → IsStanding s → s.slots t ≡ Some p
-      → Leads s (Rollback t) Rolled_back (dropped M t s)
+      → Leads s (Rollback t) Rolled_back (without_slot M t s)
 
   -- a step of a transaction that is not open changes nothing
   abbrev pub Is_not_open_here : Type 0
@@ -191,13 +193,13 @@ module _ (M : Machine) where
   -- a purge lets the records and seals of the commits up to its moment go
   abbrev pub Purges_here : Type 0
   Purges_here = (s : Store M) (m : ℕ) → IsStanding s → horizon_of M s ≤ m → m ≤ newest_of M s
-      → Leads s (Purge m) (Purged m) (purged_to M m s)
+      → Leads s (Purge m) (Purged m) (after_purge M m s)
 
   -- a rewind, while nothing is open, undoes the commits after its moment
   abbrev pub Rewinds_here : Type 0
   Rewinds_here =
       (s : Store M) (m : ℕ) → IsStanding s → IsQuietIn M s.slots → horizon_of M s ≤ m → m ≤ newest_of M s
-      → Leads s (Rewind m) (Rewound m) (rewound_to M m s)
+      → Leads s (Rewind m) (Rewound m) (after_rewind M m s)
 
   -- while transactions are open it is refused with their number, at any moment
   abbrev pub Is_not_quiet_here : Type 0
@@ -253,11 +255,11 @@ module _ (M : Machine) where
     pub in_the_way : (t : ℕ) (n : M.Name) (m : Mode) (u : ℕ)
         → IsInTheWay M (world_of M s) t n m u ↔ IsInTheWayIn M s.slots t n m u
     pub room : (t : ℕ) (p : Slot M) (c : Option M.Change)
-        → HasRoom M (world_of M s) (opened_by M (s.undo.active t) s.tables p) c ↔ HasRoomIn M s t c
+        → HasRoom M (world_of M s) (open_in_slot M (s.undo.active t) s.tables p) c ↔ HasRoomIn M s t c
     pub full : (t : ℕ) (p : Slot M) (c : M.Change)
-        → IsFull M (world_of M s) (opened_by M (s.undo.active t) s.tables p) c ↔ IsFullIn M s t c
+        → IsFull M (world_of M s) (open_in_slot M (s.undo.active t) s.tables p) c ↔ IsFullIn M s t c
     pub lacks_memory : (t : ℕ) (p : Slot M) (a : Ask M.Name M.Refusal)
-        → MayLackMemory M (world_of M s) t (opened_by M (s.undo.active t) s.tables p) a ↔ MayLackMemoryIn M s t p a
+        → MayLackMemory M (world_of M s) t (open_in_slot M (s.undo.active t) s.tables p) a ↔ MayLackMemoryIn M s t p a
     pub quiet : IsQuiet M (world_of M s) ↔ IsQuietIn M s.slots
     pub open_count : count_open M (world_of M s).active M.terminal_limit ≡ count_slots M s.slots M.terminal_limit
     pub past : (i : Step M) → IsPast M (world_of M s) i ↔ IsPastIn M s i
@@ -275,7 +277,7 @@ module _ (M : Machine) where
     pub latest : latest M (world_of M s) ≡ newest_version M s
     pub versions : (m : ℕ) → at M (world_of M s) m ≡ version_of M s m
     pub counts_at : (m : ℕ) → counts_at M (world_of M s) m ≡ counts_of M s m
-    pub used : used M (world_of M s) ≡ used_of M s.undo
+    pub used : extents_used M (world_of M s) ≡ used_of M s.undo
 
   -- of each store that stands
   abbrev pub World_is_shown : Type 0
@@ -337,8 +339,8 @@ module _ (M : Machine) where
   abbrev pub Row_is_here : Type 0
   Row_is_here =
       (s : Store M) (ts : List ℕ) (m : ℕ) (k : M.Key) → IsStanding s → AreAllIn s ts
-      → restored_commits M k (take (commits_after M s m) s.undo.history)
-      (restored_open M k s.undo.active ts (M.row_at s.tables k)) ≡ M.row_at (version_of M s m) k
+      → row_before_commits M k (take (commits_after M s m) s.undo.history)
+      (row_before_open M k s.undo.active ts (M.row_at s.tables k)) ≡ M.row_at (version_of M s m) k
 
   -- a key without a record, of open transactions and of commits after a moment, has in its version the row that it has
   -- now
@@ -371,7 +373,7 @@ module _ (M : Machine) where
 
   -- at any terminal
   abbrev pub Rollback_leaves_versions : Type 0
-  Rollback_leaves_versions = (s : Store M) (t : ℕ) → IsStanding s → Is_dropped s t (dropped M t s)
+  Rollback_leaves_versions = (s : Store M) (t : ℕ) → IsStanding s → Is_dropped s t (without_slot M t s)
 
   -- what is left once every open transaction was rolled back: the newest version of the same commits
   pub record Is_closed (s s' : Store M) : Type 0 where
@@ -384,20 +386,21 @@ module _ (M : Machine) where
 
   -- the rows are so once the transactions of a list that has all open ones were rolled back
   abbrev pub Closing_leaves_newest : Type 0
-  Closing_leaves_newest = (s : Store M) (ts : List ℕ) → IsStanding s → AreAllIn s ts → Is_closed s (all_dropped M ts s)
+  Closing_leaves_newest = (s : Store M) (ts : List ℕ) → IsStanding s → AreAllIn s ts
+      → Is_closed s (without_slots M ts s)
 
   -- one terminal's share in the extents that are used: what its records filled before, against what they fill now
   abbrev pub Used_is_a_sum : Type 0
   Used_is_a_sum =
       (u : Undo M) (t : ℕ) (bs : List M.Record) → t < M.terminal_limit
-      → used_of M (put_records M t bs u) + (filled M (lengths_of M (u.active t))).0 ≡ used_of M
-      u + (filled M (lengths_of M bs)).0
+      → used_of M (put_records M t bs u) + (fill_of M (lengths_of M (u.active t))).0 ≡ used_of M
+      u + (fill_of M (lengths_of M bs)).0
 
   -- a commit uses the extents that its transaction used
   abbrev pub Sealing_uses_the_same : Type 0
   Sealing_uses_the_same =
       (s : Store M) (t : ℕ) (p : Slot M) (reply : M.Reply) → t < M.terminal_limit
-      → used_of M (sealed M t p reply s).undo ≡ used_of M s.undo
+      → used_of M (after_seal M t p reply s).undo ≡ used_of M s.undo
 
   -- all that a store tells
   pub record Facts_of_the_store : Type 0 where

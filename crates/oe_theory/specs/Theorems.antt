@@ -5,18 +5,27 @@ use Rattle.std.specs.Prelude.{get_or, ◌≢◌, ◌⊎◌}
 use Rattle.oe_theory.specs.Machine.{Machine, Tx, Stop, Fail, Go}
 use Rattle.oe_theory.specs.World.{Open, World, IsTerminal, tx_of, overlay, counts_now, counts_at, horizon, newest, at}
 use Rattle.oe_theory.specs.World.{latest, IsSerial, tables}
-use Rattle.oe_theory.specs.Next.{record_on, filled, used, put_active, Begin, Advance, Save, Back, Rollback, Read, Audit}
+use Rattle.oe_theory.specs.Next.{record_on, fill_of, extents_used, put_active, Begin, Advance, Save, Back, Rollback}
+use Rattle.oe_theory.specs.Next.{Read, Audit}
 use Rattle.oe_theory.specs.Next.{Purge, Rewind, Begun, More, Committed, Aborted, Purged, Rewound, Undo_full, No_memory}
 use Rattle.oe_theory.specs.Next.{IsGranted, IsQuiet, Next, Runs, events, steps_of, answers_of, Step, Answer}
 use Rattle.oe_theory.specs.Laws.{IsGood, IsAsked, all_held, Alone}
 use Rattle.oe_theory.specs.Erase.{is_rolled_back, without}
-use Rattle.oe_theory.specs.Undo.{Undo, unwind, unwind_open, unwind_commits, restored_open, restored_commits, AreAll}
+use Rattle.oe_theory.specs.Undo.{Undo, unwind, unwind_open, unwind_commits, row_before_open, row_before_commits, AreAll}
 use Rattle.oe_theory.specs.Undo.{Keeps, used_of, no_records, undo_after, tables_after}
 
 module _ (M : Machine) where
   -- nothing committed, nothing open
-  abbrev pub opened : M.Map → ℕ → M.Layout → World M
-  opened b n l = record { base = b; counts = λ _. 0; history = []; active = λ _. None; extents = n; layout = l }
+  abbrev pub world_at_opening : M.Map → ℕ → M.Layout → World M
+  world_at_opening b n l = record {
+    base = b;
+    counts = λ _. 0;
+    history =
+        [];
+    active = λ _. None;
+    extents = n;
+    layout = l;
+  }
 
   -- a world that steps led to
   pub record IsReached (w : World M) : Type 0 where
@@ -26,11 +35,11 @@ module _ (M : Machine) where
     pub good : M.Good (λ _. 0) base
     pub steps : List (Step M)
     pub answers : List (Answer M)
-    pub run : Runs M (opened base extents layout) steps answers w
+    pub run : Runs M (world_at_opening base extents layout) steps answers w
 
   -- each good base is one to begin from
   abbrev pub Opening_is_reached : Type 0
-  Opening_is_reached = (b : M.Map) (n : ℕ) (l : M.Layout) → M.Good (λ _. 0) b → IsReached (opened b n l)
+  Opening_is_reached = (b : M.Map) (n : ℕ) (l : M.Layout) → M.Good (λ _. 0) b → IsReached (world_at_opening b n l)
 
   -- each run goes on from a world that was reached
   abbrev pub Run_is_reached : Type 0
@@ -110,7 +119,7 @@ module _ (M : Machine) where
 
   -- the stored records are the world's transactions', and the lengths in the world are theirs
   abbrev pub Nothing_is_recorded : Type 0
-  Nothing_is_recorded = (b : M.Map) (n : ℕ) (l : M.Layout) → Keeps M (opened b n l) (no_records M)
+  Nothing_is_recorded = (b : M.Map) (n : ℕ) (l : M.Layout) → Keeps M (world_at_opening b n l) (no_records M)
 
   -- what a step does to the store keeps it so
   abbrev pub Records_follow : Type 0
@@ -158,7 +167,8 @@ module _ (M : Machine) where
   abbrev pub Row_is_unwound : Type 0
   Row_is_unwound =
       (w : World M) (u : Undo M) (ts : List ℕ) (m : ℕ) (k : M.Key) → IsReached w → Keeps M w u → AreAll M w ts
-      → restored_commits M k (take (newest M w - m) u.history) (restored_open M k u.active ts (M.row_at (tables M w) k))
+      → row_before_commits M k (take (newest M w - m) u.history)
+      (row_before_open M k u.active ts (M.row_at (tables M w) k))
       ≡ M.row_at (at M w m) k
 
   -- what holds between transactions, and is kept by each change that the tables accept, as that each reference finds
@@ -184,11 +194,11 @@ module _ (M : Machine) where
 
   -- what is used of the ring is what the records fill
   abbrev pub Used_is_of_records : Type 0
-  Used_is_of_records = (w : World M) (u : Undo M) → Keeps M w u → used M w ≡ used_of M u
+  Used_is_of_records = (w : World M) (u : Undo M) → Keeps M w u → extents_used M w ≡ used_of M u
 
   -- no more extents are used than there are
   abbrev pub Extents_suffice : Type 0
-  Extents_suffice = (w : World M) → IsReached w → used M w ≤ w.extents
+  Extents_suffice = (w : World M) → IsReached w → extents_used M w ≤ w.extents
 
   -- the record of its row doesn't fit the rest of its last extent, and every extent is used
   pub record Is_full (w : World M) (t : ℕ) : Type 0 where
@@ -197,8 +207,8 @@ module _ (M : Machine) where
     pub change : M.Change
     pub position : M.Position
     pub makes : M.act (tx_of M t was) was.now.position (tables M w) ≡ Go (Some change) position
-    pub too_long : (filled M was.lengths).1 < M.size_of (record_on M w.layout change (tables M w))
-    pub all_used : used M w ≡ w.extents
+    pub too_long : (fill_of M was.lengths).1 < M.size_of (record_on M w.layout change (tables M w))
+    pub all_used : extents_used M w ≡ w.extents
 
   -- a full ring is answered exactly then
   abbrev pub Full_is_full : Type 0

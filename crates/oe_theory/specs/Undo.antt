@@ -3,7 +3,7 @@ use Rattle.std.specs.Prelude.{◌≡◌, ℕ, suc, zero, ◌+◌, ◌-◌, cond,
 use Rattle.std.specs.Prelude.{drop, ◌⊎◌}
 use Rattle.oe_theory.specs.Machine.{Machine, Act, Fail, Go, Ready}
 use Rattle.oe_theory.specs.World.{set, State, Open, Commit, World, tx_of, overlay, version, newest, latest, tables}
-use Rattle.oe_theory.specs.Next.{record_on, filled, Step, Advance, Back, Rollback, Purge, Rewind, Answer, More}
+use Rattle.oe_theory.specs.Next.{record_on, fill_of, Step, Advance, Back, Rollback, Purge, Rewind, Answer, More}
 use Rattle.oe_theory.specs.Next.{Committed, Gone_back, Rolled_back, Aborted, Purged, Rewound}
 use Rattle.oe_theory.specs.Laws.{Alone}
 
@@ -60,19 +60,19 @@ module _ (M : Machine) where
   unwind_commits (bs ∷ ss) r = unwind_commits ss (unwind bs r)
 
   -- one key's row, by its own records alone
-  abbrev pub restored : Key → List Record → Option Row → Option Row
-  restored k [] v = v
-  restored k (b ∷ bs) v = restored k bs (cond (is_key k (record_key b)) (restore b v) v)
+  abbrev pub row_before : Key → List Record → Option Row → Option Row
+  row_before k [] v = v
+  row_before k (b ∷ bs) v = row_before k bs (cond (is_key k (record_key b)) (restore b v) v)
 
   -- one key's row, by the records of open transactions
-  abbrev pub restored_open : Key → (ℕ → List Record) → List ℕ → Option Row → Option Row
-  restored_open k active [] v = v
-  restored_open k active (t ∷ ts) v = restored_open k (set t [] active) ts (restored k (active t) v)
+  abbrev pub row_before_open : Key → (ℕ → List Record) → List ℕ → Option Row → Option Row
+  row_before_open k active [] v = v
+  row_before_open k active (t ∷ ts) v = row_before_open k (set t [] active) ts (row_before k (active t) v)
 
   -- one key's row, by commits' records
-  abbrev pub restored_commits : Key → List (List Record) → Option Row → Option Row
-  restored_commits k [] v = v
-  restored_commits k (bs ∷ ss) v = restored_commits k ss (restored k bs v)
+  abbrev pub row_before_commits : Key → List (List Record) → Option Row → Option Row
+  row_before_commits k [] v = v
+  row_before_commits k (bs ∷ ss) v = row_before_commits k ss (row_before k bs v)
 
   -- some record of the list is of this key
   abbrev pub HasRecord : Key → List Record → Type 0
@@ -151,12 +151,12 @@ module _ (M : Machine) where
   -- how many extents the records of all segments fill
   abbrev pub used_open : (ℕ → List Record) → ℕ → ℕ
   used_open active zero = 0
-  used_open active (suc n) = used_open active n + (filled M (lengths_of (active n))).0
+  used_open active (suc n) = used_open active n + (fill_of M (lengths_of (active n))).0
 
   -- the extents that commits' records fill
   abbrev pub used_commits : List (List Record) → ℕ
   used_commits [] = 0
-  used_commits (bs ∷ ss) = (filled M (lengths_of bs)).0 + used_commits ss
+  used_commits (bs ∷ ss) = (fill_of M (lengths_of bs)).0 + used_commits ss
 
   -- how many extents all records fill
   abbrev pub used_of : Undo → ℕ
@@ -174,14 +174,14 @@ module _ (M : Machine) where
   with_record l (Ready y) r bs = bs
 
   -- the records of a terminal after a row that went on
-  abbrev pub pushed : World M → ℕ → Option (Open M) → List Record → List Record
-  pushed w t None bs = bs
-  pushed w t (Some o) bs = with_record w.layout (act (tx_of M t o) o.now.position (tables M w)) (tables M w) bs
+  abbrev pub records_after : World M → ℕ → Option (Open M) → List Record → List Record
+  records_after w t None bs = bs
+  records_after w t (Some o) bs = with_record w.layout (act (tx_of M t o) o.now.position (tables M w)) (tables M w) bs
 
   -- the records at the mark
-  abbrev pub cut : Option (Open M) → List Record → List Record
-  cut None bs = bs
-  cut (Some o) bs = drop (length bs - length o.mark.changes) bs
+  abbrev pub records_at_mark : Option (Open M) → List Record → List Record
+  records_at_mark None bs = bs
+  records_at_mark (Some o) bs = drop (length bs - length o.mark.changes) bs
 
   -- the store with a terminal's records replaced
   abbrev pub put_records : ℕ → List Record → Undo → Undo
@@ -190,10 +190,10 @@ module _ (M : Machine) where
   -- a row that goes on pushes its record, a commit seals them, a rollback drops them; the other steps leave all but
   -- what they cut off
   abbrev pub undo_after : World M → Undo → Answer M → Step M → Undo
-  undo_after w u More (Advance t) = put_records t (pushed w t (w.active t) (u.active t)) u
+  undo_after w u More (Advance t) = put_records t (records_after w t (w.active t) (u.active t)) u
   undo_after w u (Committed m y) (Advance t) = record { active = set t [] u.active; history = u.active t ∷ u.history }
   undo_after w u (Aborted e) (Advance t) = put_records t [] u
-  undo_after w u Gone_back (Back t) = put_records t (cut (w.active t) (u.active t)) u
+  undo_after w u Gone_back (Back t) = put_records t (records_at_mark (w.active t) (u.active t)) u
   undo_after w u Rolled_back (Rollback t) = put_records t [] u
   undo_after w u (Purged m) (Purge k) = record { active = u.active; history = take (newest M w - m) u.history }
   undo_after w u (Rewound m) (Rewind k) = record { active = u.active; history = drop (newest M w - m) u.history }
@@ -207,9 +207,9 @@ module _ (M : Machine) where
   with_change (Ready y) r = r
 
   -- the tables after a terminal's row that went on
-  abbrev pub changed : World M → ℕ → Option (Open M) → Map
-  changed w t None = tables M w
-  changed w t (Some o) = with_change (act (tx_of M t o) o.now.position (tables M w)) (tables M w)
+  abbrev pub tables_with : World M → ℕ → Option (Open M) → Map
+  tables_with w t None = tables M w
+  tables_with w t (Some o) = with_change (act (tx_of M t o) o.now.position (tables M w)) (tables M w)
 
   -- a terminal's records since its mark
   abbrev pub since_mark : Option (Open M) → List Record → List Record
@@ -218,7 +218,7 @@ module _ (M : Machine) where
 
   -- a row that goes on makes its change; what is undone is undone from records; the other steps leave the tables
   abbrev pub tables_after : World M → Undo → Answer M → Step M → Map
-  tables_after w u More (Advance t) = changed w t (w.active t)
+  tables_after w u More (Advance t) = tables_with w t (w.active t)
   tables_after w u (Aborted e) (Advance t) = unwind (u.active t) (tables M w)
   tables_after w u Gone_back (Back t) = unwind (since_mark (w.active t) (u.active t)) (tables M w)
   tables_after w u Rolled_back (Rollback t) = unwind (u.active t) (tables M w)

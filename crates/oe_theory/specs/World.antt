@@ -18,10 +18,10 @@ go_together Shared (Some Exclusive) = false
 go_together Exclusive (Some n) = false
 
 -- the mode after a further mode was taken
-abbrev pub risen : Mode → Option Mode → Mode
-risen Exclusive old = Exclusive
-risen Shared None = Shared
-risen Shared (Some m) = m
+abbrev pub greater_mode : Mode → Option Mode → Mode
+greater_mode Exclusive old = Exclusive
+greater_mode Shared None = Shared
+greater_mode Shared (Some m) = m
 
 -- the function with one value changed
 abbrev pub set : {A : Type 0} → ℕ → A → (ℕ → A) → ℕ → A

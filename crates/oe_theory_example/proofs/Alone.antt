@@ -13,7 +13,8 @@ use Rattle.oe_theory_example.specs.Programs.{Payment, Request, Pay, Serve, Renam
 use Rattle.oe_theory_example.specs.Programs.{Overflow, Present}
 use Rattle.oe_theory_example.specs.Programs.{AtAccount, AtQueue, ToRead, ToFind, Program, Paying, Serving}
 use Rattle.oe_theory_example.specs.Programs.{Renaming, Visiting}
-use Rattle.oe_theory_example.specs.Programs.{program_of, MayRefuse, Action, given, if_absent, if_within, take_least}
+use Rattle.oe_theory_example.specs.Programs.{program_of, MayRefuse, Action, with_value, if_absent, if_within}
+use Rattle.oe_theory_example.specs.Programs.{take_least}
 use Rattle.oe_theory_example.specs.Programs.{rejection}
 use Rattle.oe_theory_example.specs.Programs.{Effect, ◌>>=◌, ◌>>!◌, pay_whole, serve_whole, rename_whole}
 use Rattle.oe_theory_example.specs.Programs.{visit_whole, whole_of, ask}
@@ -32,7 +33,7 @@ module _ (Only : Refusal → Type 0) (x : Tx Request) where
   module _ (p : Program) (r : Tables) where
     -- a position that needs a value, one that needs none, and one that needs a number within its range
     ends_given : {A : Type 0} (e : Refusal) (o : Option A) (f : A → Action) (g : A → Effect) → AskedAt x p r
-        → act x p r ≡ given e o f → Only e
+        → act x p r ≡ with_value e o f → Only e
         → ((a : A) → o ≡ Some a → act x p r ≡ f a → Ended p r (g a)) → Ended p r (o >>= g)
     ends_given e None f g i is why h = fails_here p r e why i is
     ends_given e (Some a) f g i is why h = h a refl is
@@ -50,7 +51,7 @@ module _ (Only : Refusal → Type 0) (x : Tx Request) where
     -- a position that asks for an account's name, and stops where there is no such account
     ends_account : (k : ℕ) (o : Option Account) (f : Account → Action) (g : Account → Effect)
         → ask x p r ≡ cond (is_there (account_in (under AccountRow o))) (Take (OfAccount k) Exclusive) (Stop NoAccount)
-        → act x p r ≡ given NoAccount o f → (o ≡ None → Only NoAccount)
+        → act x p r ≡ with_value NoAccount o f → (o ≡ None → Only NoAccount)
         → ((a : Account) → o ≡ Some a → AskedAt x p r → act x p r ≡ f a → Ended p r (g a)) → Ended p r (o >>= g)
     ends_account k None f g i e why h = stops_here p r NoAccount (why refl) i
     ends_account k (Some a) f g i e why h = h a refl

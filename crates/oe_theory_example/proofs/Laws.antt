@@ -5,7 +5,7 @@ use Rattle.oe_theory.specs.World.{overlay}
 use Rattle.oe_theory.specs.Laws.{IsSameEver, Laws}
 use Rattle.oe_theory_example.specs.Rows.{Tables, IsThere}
 use Rattle.oe_theory_example.specs.Programs.{Request, Pay, Serve, Rename, Visit, Refusal, NoAccount, program_of}
-use Rattle.oe_theory_example.specs.Programs.{rejection, taken}
+use Rattle.oe_theory_example.specs.Programs.{rejection, locks_before}
 use Rattle.oe_theory_example.specs.Bank.{bank}
 use Rattle.oe_theory_example.proofs.Rows.{key_true, key_refl, name_true, name_refl, at_put, record_key_of, restores}
 use Rattle.oe_theory_example.proofs.Rows.{at_put_back}
@@ -14,7 +14,7 @@ use Rattle.oe_theory_example.proofs.Programs.{ask_same, act_same, accepts_same, 
 use Rattle.oe_theory_example.proofs.Alone.{program_ends}
 use Rattle.oe_theory_example.proofs.Effects.{stays_good}
 
-start_takes : (q : Request) (x : Tx Request) → taken x (program_of q) ≡ []
+start_takes : (q : Request) (x : Tx Request) → locks_before x (program_of q) ≡ []
 start_takes (Pay q) x = refl
 start_takes (Serve d) x = refl
 start_takes (Rename k n) x = refl

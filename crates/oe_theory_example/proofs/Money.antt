@@ -7,8 +7,8 @@ use Rattle.std.proofs.lemmas.Bool.{leb-true}
 use Rattle.oe_theory.specs.Machine.{Tx}
 use Rattle.oe_theory.specs.Theorems.{IsKept}
 use Rattle.oe_theory_example.specs.Rows.{Account, Entry, Tables, least, first_owned}
-use Rattle.oe_theory_example.specs.Programs.{Payment, Request, Pay, Serve, Rename, Visit, debited, entry_of}
-use Rattle.oe_theory_example.specs.Programs.{credited, pay_whole}
+use Rattle.oe_theory_example.specs.Programs.{Payment, Request, Pay, Serve, Rename, Visit, after_payment, entry_of}
+use Rattle.oe_theory_example.specs.Programs.{after_entry, pay_whole}
 use Rattle.oe_theory_example.specs.Programs.{serve_whole, whole_of}
 use Rattle.oe_theory_example.specs.Bank.{bank}
 use Rattle.oe_theory_example.specs.Conditions.{sum_map, balance, waiting, HasMoney}
@@ -33,7 +33,7 @@ module _ (n : ℕ) (r : Tables) (h : HasMoney n r) where
       leaves_within (HasMoney n) (nat_le q.amount a.balance) _ (λ e.
       leaves_absent (HasMoney n) (get r.queues q.entry) _ (λ f.
       let enough : q.amount ≤ a.balance = leb-true q.amount a.balance e in
-      let i = account_sum r q.account a (debited q a) g in
+      let i = account_sum r q.account a (after_payment q a) g in
       let j = sum_insert pair_total pair_exact waiting r.queues q.entry (entry_of q) in
       let k : sum_map waiting (insert r.queues q.entry (entry_of q)) + 0 ≡ sum_map waiting r.queues + q.amount =
       rw f at j in
@@ -43,7 +43,7 @@ module _ (n : ℕ) (r : Tables) (h : HasMoney n r) where
   serve_keeps d None first = leaves _ _ h
   serve_keeps d (Some t) first =
       leaves_given (HasMoney n) (get r.accounts t.1.account) _ (λ a g.
-      let i = account_sum r t.1.account a (credited t.1 a) g in
+      let i = account_sum r t.1.account a (after_entry t.1 a) g in
       let j = sum_remove pair_total pair_exact waiting r.queues (d, t.0.1) in
       let k : sum_map waiting (remove r.queues (d, t.0.1)) + t.1.amount ≡ sum_map waiting r.queues =
       rw (least_found d r t.0 t.1 first) at j in

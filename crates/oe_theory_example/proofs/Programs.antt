@@ -25,7 +25,8 @@ use Rattle.oe_theory_example.specs.Programs.{AtQueue, AtTarget, AtServed, AtSkip
 use Rattle.oe_theory_example.specs.Programs.{ToClose, ToFind}
 use Rattle.oe_theory_example.specs.Programs.{ToVisit, ToEnd, Program, Paying, Serving, Renaming, Visiting}
 use Rattle.oe_theory_example.specs.Programs.{program_of, Action}
-use Rattle.oe_theory_example.specs.Programs.{given, if_absent, if_within, alone, renamed, take_least, ask, act, taken}
+use Rattle.oe_theory_example.specs.Programs.{with_value, if_absent, if_within, alone, with_owner, take_least, ask}
+use Rattle.oe_theory_example.specs.Programs.{act, locks_before}
 use Rattle.oe_theory_example.specs.Bank.{bank}
 use Rattle.oe_theory.proofs.Sets.{enough_shared}
 use Rattle.oe_theory_example.proofs.Rows.{account_inj, entry_inj, slip_inj, same_owned, same_queue, same_accepts}
@@ -51,7 +52,7 @@ module _ (P : Name → Mode → Type 0) (x : Tx Request) (r s : Tables) (h : Ali
 abbrev take_if : ℕ → Bool → Ask Name Refusal
 take_if k b = cond b (Take (OfAccount k) Exclusive) (Stop NoAccount)
 
-pub ask_same : (x : Tx Request) (p : Program) (r s : Tables) → Alike bank (Holds bank (taken x p)) x r s
+pub ask_same : (x : Tx Request) (p : Program) (r s : Tables) → Alike bank (Holds bank (locks_before x p)) x r s
     → ask x p r ≡ ask x p s
 ask_same x (Paying q AtAccount) r s h = ap (take_if q.account) (h.parts (IsThere q.account) tt)
 ask_same x (Paying q _) r s h = refl
@@ -67,7 +68,7 @@ abbrev pub AskedAt : Tx Request → Program → Tables → Type 0
 AskedAt x p r = IsAsked bank (all_held bank) (ask x p r)
 
 abbrev pub HeldAt : Tx Request → Program → Tables → Name → Mode → Type 0
-HeldAt x p r = Holds bank (with_asked bank (ask x p r) (taken x p))
+HeldAt x p r = Holds bank (with_asked bank (ask x p r) (locks_before x p))
 
 -- an account's name is held where it was asked for
 takes_account : (k : ℕ) (b : Bool) (n : Name) (m : Mode) → IsAsked bank (all_held bank) (take_if k b)
@@ -75,8 +76,9 @@ takes_account : (k : ℕ) (b : Bool) (n : Name) (m : Mode) → IsAsked bank (all
 takes_account k true n m i h = h
 takes_account k false n m i h = absurd i
 
-pub given_same : {A : Type 0} (e : Refusal) (v w : Option A) (f : A → Action) → v ≡ w → given e v f ≡ given e w f
-given_same e v w f h = ap (λ o. given e o f) h
+pub given_same : {A : Type 0} (e : Refusal) (v w : Option A) (f : A → Action) → v ≡ w → with_value e v f
+    ≡ with_value e w f
+given_same e v w f h = ap (λ o. with_value e o f) h
 
 pub absent_same : {A : Type 0} (v w : Option A) (d : Action) → v ≡ w → if_absent v d ≡ if_absent w d
 absent_same v w d h = ap (λ o. if_absent o d) h
@@ -114,14 +116,15 @@ pub record Writes (x : Tx Request) (p : Program) (r : Tables) (d : Change) : Typ
 
 -- where a program goes on it writes what it may, and holds and knows what the next position needs
 pub record IsLawful (x : Tx Request) (p : Program) (r : Tables) (c : Option Change) (z : Program) : Type 0 where
-  pub takes : (n : Name) (m : Mode) → Holds bank (taken x z) n m → HeldAt x p r n m
+  pub takes : (n : Name) (m : Mode) → Holds bank (locks_before x z) n m → HeldAt x p r n m
   pub knows : Knows p r → Knows z (after bank c r)
   pub writes : (d : Change) → c ≡ Some d → Writes x p r d
 
 module _ (x : Tx Request) (p : Program) (r : Tables) where
   -- of an action that is written out
   lawful : (c d : Option Change) (z y : Program) → (let a : Action = Go d y in a) ≡ Go c z
-      → ((n : Name) (m : Mode) → Holds bank (taken x y) n m → HeldAt x p r n m) → (Knows p r → Knows y (after bank d r))
+      → ((n : Name) (m : Mode) → Holds bank (locks_before x y) n m → HeldAt x p r n m)
+      → (Knows p r → Knows y (after bank d r))
       → ((e : Change) → d ≡ Some e → Writes x p r e) → IsLawful x p r c z
   lawful c d z y e h k w =
       let one : d ≡ c = cc in
@@ -165,7 +168,7 @@ module _ (x : Tx Request) (p : Program) (r : Tables) where
       })
 
 given_goes : {A : Type 0} (e : Refusal) (o : Option A) (f : A → Action) (c : Option Change) (z : Program)
-    → given e o f ≡ Go c z → (a : A) × (o ≡ Some a) × (f a ≡ Go c z)
+    → with_value e o f ≡ Go c z → (a : A) × (o ≡ Some a) × (f a ≡ Go c z)
 given_goes e None f c z h = let no : ⊥ = cc in absurd no
 given_goes e (Some a) f c z h = (a, refl, h)
 
@@ -206,7 +209,7 @@ serve_lawful x d AtSkip r c z e = let no : ⊥ = cc in absurd no
 
 -- a new owner: each facet stands but for the old and the new owner's, which may be written
 writes_owner : (x : Tx Request) (k n old : ℕ) (r : Tables) (a : Account) → get r.accounts k ≡ Some a → (e : Change)
-    → Some (SetAccount k (Some (renamed n a))) ≡ Some e → Writes x (Renaming k n (ToSet old)) r e
+    → Some (SetAccount k (Some (with_owner n a))) ≡ Some e → Writes x (Renaming k n (ToSet old)) r e
 writes_owner x k n old r a here e q = writes_one _ _ _ _ e q
     (record { row = inr (inr (inl (refl, tt))); parts = λ t f _. by_facet (was t) f })
   where
@@ -215,7 +218,7 @@ writes_owner x k n old r a here e q = writes_one _ _ _ _ e q
         ap (λ (b : Account). b.owner) two ∙ t.2
 
     by_facet : a.owner ≡ old → (f : Facet)
-        → (part f (Some (AccountRow (renamed n a))) ≡ part f (row_at r (AccountKey k)))
+        → (part f (Some (AccountRow (with_owner n a))) ≡ part f (row_at r (AccountKey k)))
         ⊎ MayWrite bank (HeldAt x (Renaming k n (ToSet old)) r) x (governs_part f)
     by_facet o (IsThere j) = inl (ap (λ v. is_there (account_in (under AccountRow v))) (sym here))
     by_facet o (IsOwned j m) = by_owner (cases_eq n m) (cases_eq old m)
@@ -291,5 +294,5 @@ written_same hs x r s h (SlipKey k) w = h.rows (SlipKey k) w
 pub accepts_same : (x : Tx Request) (p : Program) (r s : Tables) (c : Change) (z : Program) → AskedAt x p r
     → Alike bank (HeldAt x p r) x r s → act x p r ≡ Go (Some c) z → Accepts c r → Accepts c s
 accepts_same x p r s c z i h e =
-    same_accepts c r s (written_same (with_asked bank (ask x p r) (taken x p)) x r s h (key_of c)
+    same_accepts c r s (written_same (with_asked bank (ask x p r) (locks_before x p)) x r s h (key_of c)
     ((is_lawful x p r (Some c) z i e).writes c refl).row)

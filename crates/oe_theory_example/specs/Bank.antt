@@ -10,7 +10,8 @@ use Rattle.oe_theory_example.specs.Rows.{facet_key, part, governs_part, is_name,
 use Rattle.oe_theory_example.specs.declared.Name.{Name}
 use Rattle.oe_theory_example.specs.Programs.{Request, Reply, Refusal, NoAccount, IsRequest, MayRefuse, Program}
 use Rattle.oe_theory_example.specs.Programs.{program_of, ask, act}
-use Rattle.oe_theory_example.specs.Programs.{marks, taken, may_allocate, yields, rejection, number_rejection, whole_of}
+use Rattle.oe_theory_example.specs.Programs.{marks, locks_before, may_allocate, yields, rejection, number_rejection}
+use Rattle.oe_theory_example.specs.Programs.{whole_of}
 use Rattle.oe_theory_example.specs.Conditions.{sum_map, balance, waiting}
 
 -- between transactions each slip is of a transaction that has committed
@@ -75,7 +76,7 @@ bank =
       ask = ask;
       act = act;
       marks = marks;
-      taken = taken;
+      taken = locks_before;
       whole = λ x r. whole_of x x.request r;
       Good = Good;
       rejection = rejection;

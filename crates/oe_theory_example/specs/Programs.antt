@@ -97,9 +97,9 @@ abbrev pub Action : Type 0
 Action = Act Change Program Reply Refusal
 
 -- go on with the value that is there, and fail where there is none
-abbrev pub given : {A : Type 0} → Refusal → Option A → (A → Action) → Action
-given e None f = Fail e
-given e (Some a) f = f a
+abbrev pub with_value : {A : Type 0} → Refusal → Option A → (A → Action) → Action
+with_value e None f = Fail e
+with_value e (Some a) f = f a
 
 -- go on where nothing is there, and fail where something is
 abbrev pub if_absent : {A : Type 0} → Option A → Action → Action
@@ -120,8 +120,8 @@ abbrev pub alone : Name → Hold Name
 alone n = record { name = n; mode = Exclusive }
 
 -- an account after a payment from it
-abbrev pub debited : Payment → Account → Account
-debited q a = record a { balance = a.balance - q.amount }
+abbrev pub after_payment : Payment → Account → Account
+after_payment q a = record a { balance = a.balance - q.amount }
 
 -- the entry of a payment
 abbrev pub entry_of : Payment → Entry
@@ -137,9 +137,9 @@ pay_ask q (AtEnd b) r = Plain
 -- what it does: the balance falls, the entry is put into its queue, and a slip of the transaction into the journal
 abbrev pub pay_act : Tx Request → Payment → PayPosition → Tables → Action
 pay_act x q AtAccount r =
-    given NoAccount (get r.accounts q.account) (λ a.
+    with_value NoAccount (get r.accounts q.account) (λ a.
     if_within (nat_le q.amount a.balance)
-    (Go (Some (SetAccount q.account (Some (debited q a)))) (Paying q (AtEntry (a.balance - q.amount)))))
+    (Go (Some (SetAccount q.account (Some (after_payment q a)))) (Paying q (AtEntry (a.balance - q.amount)))))
 pay_act x q (AtEntry b) r = if_absent (get r.queues q.entry)
     (Go (Some (SetEntry q.entry (Some (entry_of q)))) (Paying q (AtSlip b)))
 pay_act x q (AtSlip b) r = if_absent (get r.journal (x.terminal, x.number))
@@ -154,8 +154,8 @@ pay_taken q (AtSlip b) = alone (OfQueue q.entry.0) ∷ alone (OfAccount q.accoun
 pay_taken q (AtEnd b) = alone (OfQueue q.entry.0) ∷ alone (OfAccount q.account) ∷ []
 
 -- an account after an entry for it was served
-abbrev pub credited : Entry → Account → Account
-credited e a = record a { balance = a.balance + e.amount }
+abbrev pub after_entry : Entry → Account → Account
+after_entry e a = record a { balance = a.balance + e.amount }
 
 -- the locks that serving asks for, position by position
 abbrev pub serve_ask : ℕ → ServePosition → Tables → Ask Name Refusal
@@ -172,8 +172,8 @@ take_least d (Some p) = Go (Some (SetEntry (d, p.0.1) None)) (Serving d (AtTarge
 -- what it does: the least entry is removed, and the balance of its account rises
 abbrev pub serve_act : ℕ → ServePosition → Tables → Action
 serve_act d AtQueue r = take_least d (least d r)
-serve_act d (AtTarget k e) r = given NoAccount (get r.accounts e.account)
-    (λ a. Go (Some (SetAccount e.account (Some (credited e a)))) (Serving d (AtServed k)))
+serve_act d (AtTarget k e) r = with_value NoAccount (get r.accounts e.account)
+    (λ a. Go (Some (SetAccount e.account (Some (after_entry e a)))) (Serving d (AtServed k)))
 serve_act d (AtServed k) r = Ready (Served k.1)
 serve_act d AtSkip r = Ready Skipped
 
@@ -185,8 +185,8 @@ serve_taken d (AtServed k) = []
 serve_taken d AtSkip = []
 
 -- an account with another owner
-abbrev pub renamed : ℕ → Account → Account
-renamed n a = record a { owner = n }
+abbrev pub with_owner : ℕ → Account → Account
+with_owner n a = record a { owner = n }
 
 -- the locks that a renaming asks for, position by position: the old and the new owner's names are held when the owner
 -- changes
@@ -198,10 +198,10 @@ rename_ask k n ToClose r = Plain
 
 -- what it does: the old owner is read, and then the owner is changed
 abbrev pub rename_act : ℕ → ℕ → RenamePosition → Tables → Action
-rename_act k n ToRead r = given NoAccount (get r.accounts k) (λ a. Go None (Renaming k n (ToLeave a.owner)))
+rename_act k n ToRead r = with_value NoAccount (get r.accounts k) (λ a. Go None (Renaming k n (ToLeave a.owner)))
 rename_act k n (ToLeave old) r = Go None (Renaming k n (ToSet old))
-rename_act k n (ToSet old) r = given NoAccount (get r.accounts k)
-    (λ a. Go (Some (SetAccount k (Some (renamed n a)))) (Renaming k n ToClose))
+rename_act k n (ToSet old) r = with_value NoAccount (get r.accounts k)
+    (λ a. Go (Some (SetAccount k (Some (with_owner n a)))) (Renaming k n ToClose))
 rename_act k n ToClose r = Ready (Renamed n)
 
 -- the locks that were taken on the way, as far as later positions need them
@@ -212,8 +212,8 @@ rename_taken k (ToSet old) = alone (OfOwner old) ∷ alone (OfAccount k) ∷ []
 rename_taken k ToClose = []
 
 -- an account with one more visit
-abbrev pub visited : Account → Account
-visited a = record a { visits = suc a.visits }
+abbrev pub after_visit : Account → Account
+after_visit a = record a { visits = suc a.visits }
 
 -- the locks that a visit asks for, position by position: the owner's name is held when its accounts are looked up
 abbrev pub visit_ask : ℕ → VisitPosition → Tables → Ask Name Refusal
@@ -223,9 +223,9 @@ visit_ask n (ToEnd k) r = Plain
 
 -- what it does: the owner's first account is found, and its visits are one more
 abbrev pub visit_act : ℕ → VisitPosition → Tables → Action
-visit_act n ToFind r = given NoAccount (first_owned n r) (λ k. Go None (Visiting n (ToVisit k)))
-visit_act n (ToVisit k) r = given NoAccount (get r.accounts k)
-    (λ a. Go (Some (SetAccount k (Some (visited a)))) (Visiting n (ToEnd k)))
+visit_act n ToFind r = with_value NoAccount (first_owned n r) (λ k. Go None (Visiting n (ToVisit k)))
+visit_act n (ToVisit k) r = with_value NoAccount (get r.accounts k)
+    (λ a. Go (Some (SetAccount k (Some (after_visit a)))) (Visiting n (ToEnd k)))
 visit_act n (ToEnd k) r = Ready (Visited k)
 
 -- the locks that were taken on the way, as far as later positions need them
@@ -249,11 +249,11 @@ act x (Renaming k n p) r = rename_act k n p r
 act x (Visiting n p) r = visit_act n p r
 
 -- the locks that a program took on the way to its position
-abbrev pub taken : Tx Request → Program → List (Hold Name)
-taken x (Paying q p) = pay_taken q p
-taken x (Serving d p) = serve_taken d p
-taken x (Renaming k n p) = rename_taken k p
-taken x (Visiting n p) = visit_taken n p
+abbrev pub locks_before : Tx Request → Program → List (Hold Name)
+locks_before x (Paying q p) = pay_taken q p
+locks_before x (Serving d p) = serve_taken d p
+locks_before x (Renaming k n p) = rename_taken k p
+locks_before x (Visiting n p) = visit_taken n p
 
 -- a payment's mark moves to its last change
 abbrev pub marks : Program → Bool
@@ -304,7 +304,7 @@ pay_whole x q r =
     cond (nat_le q.amount a.balance)
     (get r.queues q.entry >>! Some (
       record {
-        accounts = insert r.accounts q.account (debited q a);
+        accounts = insert r.accounts q.account (after_payment q a);
         queues = insert r.queues q.entry (entry_of q);
         journal = insert r.journal (x.terminal, x.number) q.amount;
       },
@@ -318,21 +318,21 @@ serve_whole d r None = Some (r, Skipped)
 serve_whole d r (Some p) =
     get r.accounts p.1.account >>= λ a.
     Some (
-      record r { accounts = insert r.accounts p.1.account (credited p.1 a); queues = remove r.queues (d, p.0.1) },
+      record r { accounts = insert r.accounts p.1.account (after_entry p.1 a); queues = remove r.queues (d, p.0.1) },
       Served p.0.1,
     )
 
 -- the whole effect of a renaming: the account has its new owner
 abbrev pub rename_whole : ℕ → ℕ → Tables → Effect
 rename_whole k n r = get r.accounts k >>= λ a. Some
-    (record r { accounts = insert r.accounts k (renamed n a) }, Renamed n)
+    (record r { accounts = insert r.accounts k (with_owner n a) }, Renamed n)
 
 -- the whole effect of a visit: the owner's first account has one more
 abbrev pub visit_whole : ℕ → Tables → Effect
 visit_whole n r =
     first_owned n r >>= λ k.
     get r.accounts k >>= λ a.
-    Some (record r { accounts = insert r.accounts k (visited a) }, Visited k)
+    Some (record r { accounts = insert r.accounts k (after_visit a) }, Visited k)
 
 -- the whole effect of each request
 abbrev pub whole_of : Tx Request → Request → Tables → Effect

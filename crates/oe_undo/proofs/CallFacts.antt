@@ -17,14 +17,16 @@ use Rattle.oe_requests.specs.declared.replies.Reply.{Reply}
 use Rattle.oe_log.specs.Records.{Logged}
 use Rattle.oe_log.specs.Log.{SegmentLog, TerminalState, Open as OpenSegment, Committed as CommitSegment, idle}
 use Rattle.oe_log.specs.Log.{idle_terminals, records_in, active_at, records_at, count_at, total_count, no_segments}
-use Rattle.oe_log.specs.Log.{opened, pushed, popped, sealed, dropped, with_newest, reopened}
+use Rattle.oe_log.specs.Log.{with_segment, with_record, without_newest, after_seal, without_segment, with_newest}
+use Rattle.oe_log.specs.Log.{with_reopening}
 use Rattle.oe_log.proofs.StateFacts.{known}
 use Rattle.oe_log.proofs.LawFacts.{idle_at}
 use Rattle.oe_undo.specs.declared.holders.Link.{Link}
 use Rattle.oe_undo.specs.declared.holders.Holder.{Holder}
 use Rattle.oe_undo.specs.declared.holders.Holder.TheVariants.{Open, At}
-use Rattle.oe_undo.specs.Held.{Held, held_open, held_commits, held, of_key, horizon}
-use Rattle.oe_undo.specs.Chains.{link_from, IsEnd, IsChain, AreChained, linked, holder_sealed, holder_reopened}
+use Rattle.oe_undo.specs.Held.{Held, held_open, held_commits, all_held, of_key, horizon}
+use Rattle.oe_undo.specs.Chains.{link_from, IsEnd, IsChain, AreChained, with_link, holder_after_seal}
+use Rattle.oe_undo.specs.Chains.{holder_after_reopening}
 use Rattle.oe_undo.specs.Chains.{with_holder}
 use Rattle.oe_undo.specs.Laws.{IsWhole}
 use Rattle.oe_model.proofs.RowFacts.{key_true, key_refl}
@@ -77,20 +79,20 @@ abbrev commits : Key → ℕ → List CommitSegment → List Held
 commits k m cs = of_key k (held_commits m cs)
 
 module _ (k : Key) (u : SegmentLog) (l : Option Link) where
-  opened_up : IsChain (horizon u) l (of_key k (held u))
+  opened_up : IsChain (horizon u) l (of_key k (all_held u))
       → IsChain (horizon u) l (chain_open k (records_at u) terminal_limit (commits k (total_count u) u.committed))
   opened_up c = subst (IsChain (horizon u) l)
       (chain-open k (records_at u) terminal_limit (held_commits (total_count u) u.committed)) c
 
   closed_up : IsChain (horizon u) l (chain_open k (records_at u) terminal_limit (commits k (total_count u) u.committed))
-      → IsChain (horizon u) l (of_key k (held u))
+      → IsChain (horizon u) l (of_key k (all_held u))
   closed_up c = subst (IsChain (horizon u) l)
       (sym (chain-open k (records_at u) terminal_limit (held_commits (total_count u) u.committed))) c
 
 -- the commits are the same
 settled : (k : Key) (u w : SegmentLog) (l : Option Link) → total_count w ≡ total_count u → w.committed ≡ u.committed
     → IsChain (horizon u) l (chain_open k (records_at w) terminal_limit (commits k (total_count u) u.committed))
-    → IsChain (horizon w) l (of_key k (held w))
+    → IsChain (horizon w) l (of_key k (all_held w))
 settled k u w l total commits_are c =
     closed_up k w l
     (subst (λ m. IsChain (m - length w.committed) l
@@ -101,8 +103,8 @@ settled k u w l total commits_are c =
 -- and terminals have the same records of the key
 moved : (k : Key) (u w : SegmentLog) (l : Option Link)
     → ((s : ℕ) → own k (Open s) (records_at u s) ≡ own k (Open s) (records_at w s))
-    → total_count w ≡ total_count u → w.committed ≡ u.committed → IsChain (horizon u) l (of_key k (held u))
-    → IsChain (horizon w) l (of_key k (held w))
+    → total_count w ≡ total_count u → w.committed ≡ u.committed → IsChain (horizon u) l (of_key k (all_held u))
+    → IsChain (horizon w) l (of_key k (all_held w))
 moved k u w l same total commits_are c =
     settled k u w l total commits_are
     (subst (IsChain (horizon u) l)
@@ -116,13 +118,14 @@ same_records u w links same total commits_are c = λ k. moved k u w (links k) (�
     total commits_are (c k)
 
 pub opens : (u : SegmentLog) (links : Key → Option Link) (t : ℕ) → active_at u t ≡ None → AreChained u links
-    → AreChained (opened u t) links
-opens u links t closed c = same_records u (opened u t) links (records_same u t _ (ap records_in (sym closed)))
+    → AreChained (with_segment u t) links
+opens u links t closed c = same_records u (with_segment u t) links (records_same u t _ (ap records_in (sym closed)))
     (total_same u t _ refl) refl c
 
 pub drops : (u : SegmentLog) (links : Key → Option Link) (t : ℕ) → records_at u t ≡ [] → AreChained u links
-    → AreChained (dropped u t) links
-drops u links t empty c = same_records u (dropped u t) links (records_same u t _ (sym empty)) (total_same u t _ refl)
+    → AreChained (without_segment u t) links
+drops u links t empty c = same_records u (without_segment u t) links (records_same u t _ (sym empty))
+    (total_same u t _ refl)
     refl c
 
 now_with : (rs : List Logged) (a : Option OpenSegment) (o : OpenSegment) → a ≡ Some o
@@ -132,7 +135,7 @@ now_with rs (Some a) o e = refl
 
 -- a key's link and those of other keys
 by_key : (P : Key → Option Link → Type 0) (links : Key → Option Link) (k : Key) (l : Option Link) → P k l
-    → ((j : Key) → is_key j k ≡ false → P j (links j)) → (j : Key) → P j (linked links k l j)
+    → ((j : Key) → is_key j k ≡ false → P j (links j)) → (j : Key) → P j (with_link links k l j)
 by_key P links k l this others j = go (is_key k j) refl
   where
     go : (b : Bool) → is_key k j ≡ b → P j (cond b l (links j))
@@ -153,8 +156,8 @@ module _ (u w : SegmentLog) (links : Key → Option Link) (t : ℕ) (within : t 
     (total : total_count w ≡ total_count u) (commits_are : w.committed ≡ u.committed) where
   other_keys : (j : Key) (r : Logged) (rs : List Logged) → is_key j (record_key r.before) ≡ false
       → own j (Open t) (records_at u t) ≡ own j (Open t) rs
-      → records_at w t ≡ rs → IsChain (horizon u) (links j) (of_key j (held u))
-      → IsChain (horizon w) (links j) (of_key j (held w))
+      → records_at w t ≡ rs → IsChain (horizon u) (links j) (of_key j (all_held u))
+      → IsChain (horizon w) (links j) (of_key j (all_held w))
   other_keys j r rs e same now c =
       moved j u w (links j) (λ s. elim (cases_eq s t) [
         | inl q ↦ subst (λ z. own j (Open z) (records_at u z) ≡ own j (Open z) (records_at w z)) (sym q)
@@ -164,11 +167,11 @@ module _ (u w : SegmentLog) (links : Key → Option Link) (t : ℕ) (within : t 
 
   more : (r : Logged) → records_at w t ≡ r ∷ records_at u t
       → link_from (Open t) r.previous ≡ links (record_key r.before) → AreChained u links
-      → AreChained w (linked links (record_key r.before) (Some (record { address = r.address; holder = Open t })))
+      → AreChained w (with_link links (record_key r.before) (Some (record { address = r.address; holder = Open t })))
   more r now leads c =
       let k : Key = record_key r.before in
       let l : Option Link = Some (record { address = r.address; holder = Open t }) in
-      by_key (λ j x. IsChain (horizon w) x (of_key j (held w))) links k l
+      by_key (λ j x. IsChain (horizon w) x (of_key j (all_held w))) links k l
       (settled k u w l total commits_are
       (chain.pushed k (horizon u) (records_at u) (records_at w) t r (commits k (total_count u) u.committed) (key_refl k)
       now others terminal_limit within
@@ -178,11 +181,11 @@ module _ (u w : SegmentLog) (links : Key → Option Link) (t : ℕ) (within : t 
       (λ j e. other_keys j r (r ∷ records_at u t) e (sym (other_key j (Open t) r (records_at u t) e)) now (c j))
 
   less : (r : Logged) (rs : List Logged) → records_at u t ≡ r ∷ rs → records_at w t ≡ rs → AreChained u links
-      → AreChained w (linked links (record_key r.before) (link_from (Open t) r.previous))
+      → AreChained w (with_link links (record_key r.before) (link_from (Open t) r.previous))
   less r rs had now c =
       let k : Key = record_key r.before in
       let l : Option Link = link_from (Open t) r.previous in
-      by_key (λ j x. IsChain (horizon w) x (of_key j (held w))) links k l
+      by_key (λ j x. IsChain (horizon w) x (of_key j (all_held w))) links k l
       (settled k u w l total commits_are
       (chain.popped k (horizon u) (records_at u) (records_at w) t r rs (commits k (total_count u) u.committed) (links k)
       (key_refl k) had now others terminal_limit within
@@ -195,11 +198,12 @@ below_limit u t whole less = subst (λ n. t < n) whole.terminals less
 pub pushes : (u : SegmentLog) (links : Key → Option Link) (t : ℕ) (o : OpenSegment) (r : Logged) → IsWhole u
     → active_at u t ≡ Some o
     → link_from (Open t) r.previous ≡ links (record_key r.before) → AreChained u links
-    → AreChained (pushed u t r)
-    (linked links (record_key r.before) (Some (record { address = r.address; holder = Open t })))
+    → AreChained (with_record u t r)
+    (with_link links (record_key r.before) (Some (record { address = r.address; holder = Open t })))
 pushes u links t o r whole is leads c =
     let within = known u t o is in
-    more u (pushed u t r) links t (below_limit u t whole within) (records_there u t _) (total_same u t _ refl) refl r
+    more u (with_record u t r) links t (below_limit u t whole within) (records_there u t _)
+    (total_same u t _ refl) refl r
     (records_here u t _ within ∙ now_with (r ∷ records_at u t) (active_at u t) o is) leads c
 
 open_there : (a : Option OpenSegment) (r : Logged) (rs : List Logged) → records_in a ≡ r ∷ rs
@@ -209,17 +213,19 @@ open_there (Some o) r rs e = ap (drop 1) e
 
 pub pops : (u : SegmentLog) (links : Key → Option Link) (t : ℕ) (r : Logged) (rs : List Logged) → IsWhole u
     → records_at u t ≡ r ∷ rs
-    → AreChained u links → AreChained (popped u t) (linked links (record_key r.before) (link_from (Open t) r.previous))
+    → AreChained u links → AreChained (without_newest u t)
+    (with_link links (record_key r.before) (link_from (Open t) r.previous))
 pops u links t r rs whole had c =
     let within = known_by_record u t r rs had in
-    less u (popped u t) links t (below_limit u t whole within) (records_there u t _) (total_same u t _ refl) refl r rs
+    less u (without_newest u t) links t (below_limit u t whole within) (records_there u t _)
+    (total_same u t _ refl) refl r rs
     had
     (records_here u t _ within ∙ open_there (active_at u t) r rs had) c
 
 -- ---- commits
 
 pub total_more : (u : SegmentLog) (t : ℕ) (q : Request) (y : Reply) → t < length u.terminals
-    → total_count (sealed u t q y) ≡ suc (total_count u)
+    → total_count (after_seal u t q y) ≡ suc (total_count u)
 total_more u t q y within =
     let sums = sum_by-set (λ (z : TerminalState). z.count) u.terminals t
     (record { count = suc (count_at u t); active = None }) idle within in
@@ -231,13 +237,13 @@ horizon_low u = omega arith
 
 pub seals : (u : SegmentLog) (links : Key → Option Link) (t : ℕ) (o : OpenSegment) (q : Request) (y : Reply) → IsWhole u
     → active_at u t ≡ Some o
-    → AreChained u links → AreChained (sealed u t q y)
-    (λ k. with_holder (holder_sealed t (suc (total_count u))) (links k))
+    → AreChained u links → AreChained (after_seal u t q y)
+    (λ k. with_holder (holder_after_seal t (suc (total_count u))) (links k))
 seals u links t o q y whole is c = λ k.
     let within = known u t o is in
-    let w : SegmentLog = sealed u t q y in
+    let w : SegmentLog = after_seal u t q y in
     let n : ℕ = total_count u in
-    let l : Option Link = with_holder (holder_sealed t (suc n)) (links k) in
+    let l : Option Link = with_holder (holder_after_seal t (suc n)) (links k) in
     let total : total_count w ≡ suc n = total_more u t q y within in
     let ends : horizon u ≡ horizon w = omega (arith, total) in
     let ys : List Held = commits k n u.committed in
@@ -271,13 +277,15 @@ counted u t some =
 pub reopens : (u : SegmentLog) (links : Key → Option Link) (c : CommitSegment) (cs : List CommitSegment) → IsWhole u
     → u.committed ≡ c ∷ cs
     → 1 ≤ count_at u c.terminal → ((t : ℕ) → active_at u t ≡ None) → AreChained u links
-    → AreChained (reopened u u.committed) (λ k. with_holder (holder_reopened c.terminal (total_count u)) (links k))
+    → AreChained (with_reopening u u.committed)
+    (λ k. with_holder (holder_after_reopening c.terminal (total_count u)) (links k))
 reopens u links c cs whole e some closed chained =
-    subst (λ z. AreChained (reopened u z) (λ k. with_holder (holder_reopened c.terminal (total_count u)) (links k)))
+    subst (λ z. AreChained (with_reopening u z)
+    (λ k. with_holder (holder_after_reopening c.terminal (total_count u)) (links k)))
     (sym e) (λ k.
     let t : ℕ = c.terminal in
     let n : ℕ = total_count u in
-    let w : SegmentLog = reopened u (c ∷ cs) in
+    let w : SegmentLog = with_reopening u (c ∷ cs) in
     let within = counted u t some in
     let state : TerminalState =
     record {
@@ -290,7 +298,7 @@ reopens u links c cs whole e some closed chained =
     let size = ap length e in
     let few = whole.commits in
     let ends : horizon u ≡ horizon w = omega (arith, total, size) in
-    let l : Option Link = with_holder (holder_reopened t n) (links k) in
+    let l : Option Link = with_holder (holder_after_reopening t n) (links k) in
     let before : IsChain (horizon u) (links k) (chain_open k (records_at u) terminal_limit (commits k n (c ∷ cs))) =
     subst (λ z. IsChain (horizon u) (links k) (chain_open k (records_at u) terminal_limit (commits k n z))) e
     (opened_up k u (links k) (chained k)) in
@@ -330,20 +338,20 @@ purges u links n c = λ k.
 -- ---- ends
 
 pub ends : (u : SegmentLog) (links : Key → Option Link) (k : Key) → IsWhole u → AreChained u links
-    → IsEnd (horizon u) (links k) → of_key k (held u) ≡ []
+    → IsEnd (horizon u) (links k) → of_key k (all_held u) ≡ []
 ends u links k whole c end =
     chain-open k (records_at u) terminal_limit (held_commits (total_count u) u.committed)
     ∙ no_record k (horizon u) (total_count u) (records_at u) terminal_limit u.committed (links k)
     (omega (arith, whole.commits)) end (opened_up k u (links k) (c k))
 
 pub ends_without_records : (u : SegmentLog) (links : Key → Option Link) (k : Key) → IsWhole u → AreChained u links
-    → IsEnd (horizon u) (links k) ↔ (of_key k (held u) ≡ [])
+    → IsEnd (horizon u) (links k) ↔ (of_key k (all_held u) ≡ [])
 ends_without_records u links k whole c = (ends u links k whole c, λ e. subst (IsChain (horizon u) (links k)) e (c k))
 
 pub gives_up : (u : SegmentLog) (links : Key → Option Link) (k : Key) → IsWhole u → IsEnd (horizon u) (links k)
-    → AreChained u links → AreChained u (linked links k None)
+    → AreChained u links → AreChained u (with_link links k None)
 gives_up u links k whole end c =
-    by_key (λ j x. IsChain (horizon u) x (of_key j (held u))) links k None
+    by_key (λ j x. IsChain (horizon u) x (of_key j (all_held u))) links k None
     (subst (IsChain (horizon u) None) (sym (ends u links k whole c end)) tt) (λ j e. c j)
 
 -- ---- an empty log

@@ -19,7 +19,8 @@ use Rattle.oe_undo.specs.declared.holders.Link.{Link}
 use Rattle.oe_undo.specs.declared.holders.Holder.{Holder}
 use Rattle.oe_undo.specs.declared.holders.Holder.TheVariants.{Open, At}
 use Rattle.oe_undo.specs.Held.{Held, held_by, held_open, held_commits, of_key}
-use Rattle.oe_undo.specs.Chains.{link_from, IsForgotten, IsEnd, IsEarlier, IsChain, holder_sealed, holder_reopened}
+use Rattle.oe_undo.specs.Chains.{link_from, IsForgotten, IsEnd, IsEarlier, IsChain, holder_after_seal}
+use Rattle.oe_undo.specs.Chains.{holder_after_reopening}
 use Rattle.oe_undo.specs.Chains.{with_holder, previous_by, previous_of, IsOwnOrDone, IsSeenBy}
 use Rattle.oe_undo.proofs.ChainWalkFacts.{of_key-append}
 
@@ -314,7 +315,7 @@ module _ (k : Key) where
   -- ---- a commit
 
   -- these are not of the terminal's open segment
-  same_sealed : (t m : ℕ) (x : Holder) → open_number x ≢ suc t → holder_sealed t m x ≡ x
+  same_sealed : (t m : ℕ) (x : Holder) → open_number x ≢ suc t → holder_after_seal t m x ≡ x
   same_sealed t m (Open s) ne = cond-false (s == t) (At m) (Open s) (ne_eqb s t (λ e. ne (ap suc e)))
   same_sealed t m (At n) ne = refl
 
@@ -323,8 +324,8 @@ module _ (k : Key) where
   link_same f None same = refl
   link_same f (Some x) same = ap (λ (h : Holder). Some (record { address = x.address; holder = h })) (same x refl)
 
-  unsealed : (t m : ℕ) (l : Option Link) → number l ≢ suc t → with_holder (holder_sealed t m) l ≡ l
-  unsealed t m l ne = link_same (holder_sealed t m) l (λ x e. same_sealed t m x.holder (λ q. ne (ap number e ∙ q)))
+  unsealed : (t m : ℕ) (l : Option Link) → number l ≢ suc t → with_holder (holder_after_seal t m) l ≡ l
+  unsealed t m l ne = link_same (holder_after_seal t m) l (λ x e. same_sealed t m x.holder (λ q. ne (ap number e ∙ q)))
 
   -- a link to no open record
   closed_number : (h n : ℕ) (l : Option Link) (ys : List Held) → AreUpTo n ys → IsChain h l ys → number l ≡ 0
@@ -362,7 +363,8 @@ module _ (k : Key) where
       go (x ∷ xs) e = let is = first_number h t rs ys (Some (record { address = a; holder = At m })) x xs e c in
           absurd (omega (arith, is))
 
-  from_sealed : (t n : ℕ) (p : Previous) → with_holder (holder_sealed t n) (link_from (Open t) p) ≡ link_from (At n) p
+  from_sealed : (t n : ℕ) (p : Previous) → with_holder (holder_after_seal t n) (link_from (Open t) p)
+      ≡ link_from (At n) p
   from_sealed t n Nothing = refl
   from_sealed t n (Own a) = ap (λ (h : Holder). Some (record { address = a; holder = h }))
       (cond-true (t == t) (At n) (Open t) (eq-eqb t t refl))
@@ -371,7 +373,7 @@ module _ (k : Key) where
   -- its own records are those of the commit at the moment after n
   sealed_own : (h n t : ℕ) (ys : List Held) → h ≤ n → AreUpTo n ys → (rs : List Logged) (l : Option Link)
       → IsChain h l (own (Open t) rs ++ ys)
-      → IsChain h (with_holder (holder_sealed t (suc n)) l) (own (At (suc n)) rs ++ ys)
+      → IsChain h (with_holder (holder_after_seal t (suc n)) l) (own (At (suc n)) rs ++ ys)
   sealed_own h n t ys le up [] l c =
       let closed = closed_number h n l ys up c in
       subst (λ x. IsChain h x ys) (sym (unsealed t (suc n) l (λ e. omega (arith, e, closed)))) c
@@ -385,11 +387,11 @@ module _ (k : Key) where
       go : (b : Bool) → IsChain h l (cond b (record { logged = r; holder = Open t } ∷ own (Open t) rs) (own (Open t) rs)
           ++ ys)
           → ((x : Option Link) → IsChain h x (own (Open t) rs ++ ys)
-          → IsChain h (with_holder (holder_sealed t (suc n)) x) (own (At (suc n)) rs ++ ys))
-          → IsChain h (with_holder (holder_sealed t (suc n)) l)
+          → IsChain h (with_holder (holder_after_seal t (suc n)) x) (own (At (suc n)) rs ++ ys))
+          → IsChain h (with_holder (holder_after_seal t (suc n)) l)
           (cond b (record { logged = r; holder = At (suc n) } ∷ own (At (suc n)) rs) (own (At (suc n)) rs) ++ ys)
       go true c i =
-          let leads = ap (with_holder (holder_sealed t (suc n))) c.0.leads
+          let leads = ap (with_holder (holder_after_seal t (suc n))) c.0.leads
           ∙ ap (λ (h : Holder). Some (record { address = r.address; holder = h }))
           (cond-true (t == t) (At (suc n)) (Open t) (eq-eqb t t refl)) in (
             record { leads = leads; earlier = earlier r.previous c.1 },
@@ -400,21 +402,21 @@ module _ (k : Key) where
 
   -- where a terminal has records of the key, the link leads to one of its
   sealed_moment : (t m : ℕ) (l : Option Link) → number l ≡ suc t
-      → with_holder (λ h. At m) l ≡ with_holder (holder_sealed t m) l
+      → with_holder (λ h. At m) l ≡ with_holder (holder_after_seal t m) l
   sealed_moment t m None e = refl
   sealed_moment t m (Some x) e = ap (λ (h : Holder). Some (record { address = x.address; holder = h })) (go x.holder e)
     where
-      go : (h : Holder) → open_number h ≡ suc t → At m ≡ holder_sealed t m h
+      go : (h : Holder) → open_number h ≡ suc t → At m ≡ holder_after_seal t m h
       go (Open s) q = sym (cond-true (s == t) (At m) (Open s) (eq-eqb s t (omega (arith, q))))
       go (At n) q = absurd (omega (arith, q))
 
   pub sealed : (h m : ℕ) (f g : ℕ → List Logged) (t : ℕ) (ys : List Held) (l : Option Link) → h ≤ m → AreUpTo m ys
       → g t ≡ [] → ((s : ℕ) → s ≢ t → g s ≡ f s) → (n : ℕ) → t < n → IsChain h l (chain_open f n ys)
-      → IsChain h (with_holder (holder_sealed t (suc m)) l) (chain_open g n (own (At (suc m)) (f t) ++ ys))
+      → IsChain h (with_holder (holder_after_seal t (suc m)) l) (chain_open g n (own (At (suc m)) (f t) ++ ys))
   sealed h m f g t ys l le up gone others n lt c = go (own (Open t) (f t)) refl
     where
       go : (xs : List Held) → own (Open t) (f t) ≡ xs
-          → IsChain h (with_holder (holder_sealed t (suc m)) l) (chain_open g n (own (At (suc m)) (f t) ++ ys))
+          → IsChain h (with_holder (holder_after_seal t (suc m)) l) (chain_open g n (own (At (suc m)) (f t) ++ ys))
       go [] e =
           let moved : own (At (suc m)) (f t) ≡ [] = none_for (Open t) (At (suc m)) (f t) e in
           let here : (s : ℕ) → own (Open s) (f s) ≡ own (Open s) (g s) =
@@ -424,7 +426,7 @@ module _ (k : Key) where
           ] in
           let lists : chain_open f n ys ≡ chain_open g n (own (At (suc m)) (f t) ++ ys) =
           chain-same f g n ys (λ s less. here s) ∙ ap (λ xs. chain_open g n (xs ++ ys)) (sym moved) in
-          let links : l ≡ with_holder (holder_sealed t (suc m)) l = sym
+          let links : l ≡ with_holder (holder_after_seal t (suc m)) l = sym
           (unsealed t (suc m) l (leads_elsewhere h m f t ys up e n l c)) in
           subst (λ x. IsChain h x (chain_open g n (own (At (suc m)) (f t) ++ ys))) links (subst (IsChain h l) lists c)
       go (x ∷ xs) e =
@@ -433,27 +435,27 @@ module _ (k : Key) where
           let after : chain_open g n (own (At (suc m)) (f t) ++ ys) ≡ own (At (suc m)) (f t) ++ ys =
           only g t n (own (At (suc m)) (f t) ++ ys) lt (λ s less ne. ap (own (Open s)) (others s ne) ∙ none s less ne)
           ∙ ap (λ zs. own (Open t) zs ++ (own (At (suc m)) (f t) ++ ys)) gone in
-          subst (IsChain h (with_holder (holder_sealed t (suc m)) l)) (sym after)
+          subst (IsChain h (with_holder (holder_after_seal t (suc m)) l)) (sym after)
           (sealed_own h m t ys le up (f t) l one)
 
   -- ---- a rewind opens the newest commit again
 
-  same_reopened : (t m n : ℕ) (x : Holder) → n < m → IsForgotten n x → holder_reopened t m x ≡ x
+  same_reopened : (t m n : ℕ) (x : Holder) → n < m → IsForgotten n x → holder_after_reopening t m x ≡ x
   same_reopened t m n (Open s) lt up = absurd up
   same_reopened t m n (At q) lt up = cond-false (q == m) (Open t) (At q) (ne_eqb q m (λ e. omega (arith, e, lt, up)))
 
   unopened : (h n t m : ℕ) (l : Option Link) (ys : List Held) → h < m → n < m → AreUpTo n ys → IsChain h l ys
-      → with_holder (holder_reopened t m) l ≡ l
+      → with_holder (holder_after_reopening t m) l ≡ l
   unopened h n t m None [] lh ln up c = refl
   unopened h n t m (Some x) [] lh ln up c = ap (λ (z : Holder). Some (record { address = x.address; holder = z }))
       (same_reopened t m h x.holder lh c)
   unopened h n t m l (y ∷ ys) lh ln up c =
-      subst (λ x. with_holder (holder_reopened t m) x ≡ x) (sym c.0.leads)
+      subst (λ x. with_holder (holder_after_reopening t m) x ≡ x) (sym c.0.leads)
       (ap (λ (z : Holder). Some (record { address = y.logged.address; holder = z }))
       (same_reopened t m n y.holder ln up.0))
 
   from_reopened : (t m : ℕ) (p : Previous) → IsEarlier p (At m)
-      → with_holder (holder_reopened t m) (link_from (At m) p) ≡ link_from (Open t) p
+      → with_holder (holder_after_reopening t m) (link_from (At m) p) ≡ link_from (Open t) p
   from_reopened t m Nothing e = refl
   from_reopened t m (Own a) e = ap (λ (h : Holder). Some (record { address = a; holder = h }))
       (cond-true (m == m) (Open t) (At m) (eq-eqb m m refl))
@@ -462,7 +464,7 @@ module _ (k : Key) where
 
   reopened_own : (h n t m : ℕ) (ys : List Held) → h < m → n < m → AreUpTo n ys → (rs : List Logged) (l : Option Link)
       → IsChain h l (own (At m) rs ++ ys)
-      → IsChain h (with_holder (holder_reopened t m) l) (own (Open t) rs ++ ys)
+      → IsChain h (with_holder (holder_after_reopening t m) l) (own (Open t) rs ++ ys)
   reopened_own h n t m ys lh ln up [] l c = subst (λ x. IsChain h x ys) (sym (unopened h n t m l ys lh ln up c)) c
   reopened_own h n t m ys lh ln up (r ∷ rs) l c = go (is_key k (record_key r.before)) c
       (reopened_own h n t m ys lh ln up rs)
@@ -475,11 +477,11 @@ module _ (k : Key) where
       go : (b : Bool) → IsChain h l (cond b (record { logged = r; holder = At m } ∷ own (At m) rs) (own (At m) rs)
           ++ ys)
           → ((x : Option Link) → IsChain h x (own (At m) rs ++ ys)
-          → IsChain h (with_holder (holder_reopened t m) x) (own (Open t) rs ++ ys))
-          → IsChain h (with_holder (holder_reopened t m) l)
+          → IsChain h (with_holder (holder_after_reopening t m) x) (own (Open t) rs ++ ys))
+          → IsChain h (with_holder (holder_after_reopening t m) l)
           (cond b (record { logged = r; holder = Open t } ∷ own (Open t) rs) (own (Open t) rs) ++ ys)
       go true c i =
-          let leads = ap (with_holder (holder_reopened t m)) c.0.leads
+          let leads = ap (with_holder (holder_after_reopening t m)) c.0.leads
           ∙ ap (λ (h : Holder). Some (record { address = r.address; holder = h }))
           (cond-true (m == m) (Open t) (At m) (eq-eqb m m refl)) in (
             record { leads = leads; earlier = own_earlier r.previous },
@@ -492,14 +494,14 @@ module _ (k : Key) where
       → AreUpTo b ys
       → ((s : ℕ) → f s ≡ []) → ((s : ℕ) → s ≢ t → g s ≡ []) → (n : ℕ) → t < n
       → IsChain h l (chain_open f n (own (At m) (g t) ++ ys))
-      → IsChain h (with_holder (holder_reopened t m) l) (chain_open g n ys)
+      → IsChain h (with_holder (holder_after_reopening t m) l) (chain_open g n ys)
   reopened h b m f g t ys l lh lb up closed others n lt c =
       let before : chain_open f n (own (At m) (g t) ++ ys) ≡ own (At m) (g t) ++ ys =
       only f t n (own (At m) (g t) ++ ys) lt (λ s less ne. ap (own (Open s)) (closed s))
       ∙ ap (λ zs. own (Open t) zs ++ (own (At m) (g t) ++ ys)) (closed t) in
       let after : chain_open g n ys ≡ own (Open t) (g t) ++ ys = only g t n ys lt
       (λ s less ne. ap (own (Open s)) (others s ne)) in
-      subst (IsChain h (with_holder (holder_reopened t m) l)) (sym after)
+      subst (IsChain h (with_holder (holder_after_reopening t m) l)) (sym after)
       (reopened_own h b t m ys lh lb up (g t) l (subst (IsChain h l) before c))
 
   -- ---- a purge

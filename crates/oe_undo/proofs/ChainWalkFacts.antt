@@ -13,9 +13,9 @@ use Rattle.oe_log.specs.Records.{Logged}
 use Rattle.oe_log.specs.Log.{SegmentLog, Committed as CommitSegment, records_at, total_count}
 use Rattle.oe_undo.specs.declared.holders.Holder.{Holder}
 use Rattle.oe_undo.specs.declared.holders.Holder.TheVariants.{Open, At}
-use Rattle.oe_undo.specs.Held.{Held, held_by, held_open, held_commits, held, of_key, is_later, count_later}
+use Rattle.oe_undo.specs.Held.{Held, held_by, held_open, held_commits, all_held, of_key, is_later, count_later}
 use Rattle.oe_undo.specs.Restored.{later_of, has_later}
-use Rattle.oe_undo.specs.Chains.{walked}
+use Rattle.oe_undo.specs.Chains.{records_after}
 
 pub of_key-append : (k : Key) (xs ys : List Held) → of_key k (xs ++ ys) ≡ of_key k xs ++ of_key k ys
 of_key-append k [] ys = refl
@@ -29,25 +29,27 @@ of_key-append k (x ∷ xs) ys = go (is_key k (record_key x.logged.before)) (of_k
 -- ---- records up to the first that is not later
 
 module _ (m : ℕ) where
-  none_walked : (xs : List Held) → later_of m xs ≡ [] → walked m xs ≡ []
+  none_walked : (xs : List Held) → later_of m xs ≡ [] → records_after m xs ≡ []
   none_walked [] e = refl
   none_walked (x ∷ xs) e = go (is_later m x.holder) e
     where
       go : (c : Bool) → cond c (x.logged.before ∷ later_of m xs) (later_of m xs) ≡ []
-          → cond c (x.logged.before ∷ walked m xs) [] ≡ []
+          → cond c (x.logged.before ∷ records_after m xs) [] ≡ []
       go true e = let no : ⊥ = cc in absurd no
       go false e = refl
 
   module _ (k : Key) where
     -- what a later holder has is read whole
     later_walked : (h : Holder) (rs : List Logged) (rest : List Held) → is_later m h ≡ true
-        → walked m rest ≡ later_of m rest
-        → walked m (of_key k (held_by h rs) ++ rest) ≡ later_of m (of_key k (held_by h rs) ++ rest)
+        → records_after m rest ≡ later_of m rest
+        → records_after m (of_key k (held_by h rs) ++ rest) ≡ later_of m (of_key k (held_by h rs) ++ rest)
     later_walked h [] rest e same = same
     later_walked h (r ∷ rs) rest e same = go (is_key k (record_key r.before)) (later_walked h rs rest e same)
       where
-        go : (c : Bool) → walked m (of_key k (held_by h rs) ++ rest) ≡ later_of m (of_key k (held_by h rs) ++ rest)
-            → walked m (cond c (record { logged = r; holder = h } ∷ of_key k (held_by h rs)) (of_key k (held_by h rs))
+        go : (c : Bool) → records_after m (of_key k (held_by h rs) ++ rest)
+            ≡ later_of m (of_key k (held_by h rs) ++ rest)
+            → records_after m (cond c (record { logged = r; holder = h } ∷ of_key k (held_by h rs))
+            (of_key k (held_by h rs))
             ++ rest)
             ≡ later_of m (cond c (record { logged = r; holder = h } ∷ of_key k (held_by h rs))
             (of_key k (held_by h rs)) ++ rest)
@@ -74,15 +76,15 @@ module _ (m : ℕ) where
         (none_later (n - 1) cs (omega (arith, h)))
 
     commits_walked : (n : ℕ) (cs : List CommitSegment)
-        → walked m (of_key k (held_commits n cs)) ≡ later_of m (of_key k (held_commits n cs))
+        → records_after m (of_key k (held_commits n cs)) ≡ later_of m (of_key k (held_commits n cs))
     commits_walked n [] = refl
     commits_walked n (c ∷ cs) = go (nat_lt m n) refl (commits_walked (n - 1) cs)
       where
-        go : (b : Bool) → nat_lt m n ≡ b → walked m (of_key k (held_commits (n - 1) cs)) ≡ later_of m
+        go : (b : Bool) → nat_lt m n ≡ b → records_after m (of_key k (held_commits (n - 1) cs)) ≡ later_of m
             (of_key k (held_commits (n - 1) cs))
-            → walked m (of_key k (held_commits n (c ∷ cs))) ≡ later_of m (of_key k (held_commits n (c ∷ cs)))
+            → records_after m (of_key k (held_commits n (c ∷ cs))) ≡ later_of m (of_key k (held_commits n (c ∷ cs)))
         go true e i =
-            subst (λ xs. walked m xs ≡ later_of m xs)
+            subst (λ xs. records_after m xs ≡ later_of m xs)
             (sym (of_key-append k (held_by (At n) c.records) (held_commits (n - 1) cs)))
             (later_walked (At n) c.records (of_key k (held_commits (n - 1) cs)) e i)
         go false e i =
@@ -90,18 +92,18 @@ module _ (m : ℕ) where
             none_walked (of_key k (held_commits n (c ∷ cs))) none ∙ sym none
 
     open_walked : (f : ℕ → List Logged) (ts : List ℕ) (rest : List Held)
-        → walked m (of_key k rest) ≡ later_of m (of_key k rest)
-        → walked m (of_key k (held_open f ts ++ rest)) ≡ later_of m (of_key k (held_open f ts ++ rest))
+        → records_after m (of_key k rest) ≡ later_of m (of_key k rest)
+        → records_after m (of_key k (held_open f ts ++ rest)) ≡ later_of m (of_key k (held_open f ts ++ rest))
     open_walked f [] rest same = same
     open_walked f (t ∷ ts) rest same =
-        subst (λ xs. walked m xs ≡ later_of m xs)
+        subst (λ xs. records_after m xs ≡ later_of m xs)
         (sym (ap (of_key k) (append_assoc (held_by (Open t) (f t)) (held_open f ts) rest)
         ∙ of_key-append k (held_by (Open t) (f t)) (held_open f ts ++ rest)))
         (later_walked (Open t) (f t) (of_key k (held_open f ts ++ rest)) refl (open_walked f ts rest same))
 
 -- a walk reads the key's records that are later than the moment, and no other
 pub walk_reads : (k : Key) (u : SegmentLog) (m : ℕ)
-    → walked m (of_key k (held u)) ≡ later_of m (of_key k (held u))
+    → records_after m (of_key k (all_held u)) ≡ later_of m (of_key k (all_held u))
 walk_reads k u m = open_walked m k (records_at u) (all_below system terminal_limit)
     (held_commits (total_count u) u.committed) (commits_walked m k (total_count u) u.committed)
 

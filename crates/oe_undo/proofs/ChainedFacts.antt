@@ -19,18 +19,19 @@ use Rattle.oe_theory.specs.Store.{all_below}
 use Rattle.oe_layout.specs.declared.links.RecordAddress.{RecordAddress}
 use Rattle.oe_layout.specs.declared.links.Previous.{Previous}
 use Rattle.oe_layout.specs.declared.links.Previous.TheVariants.{Own, Committed}
-use Rattle.oe_log.specs.Records.{Logged, logged, newest_of}
+use Rattle.oe_log.specs.Records.{Logged, log_entry, newest_of}
 use Rattle.oe_log.specs.Log.{SegmentLog, Open as OpenSegment, TerminalState, Committed as CommitSegment, idle}
 use Rattle.oe_log.specs.Log.{idle_terminals, active_at, records_at, count_at, total_count, commits_of, no_segments}
-use Rattle.oe_log.specs.Log.{with_active, with_records, opened, dropped, pushed, popped, sealed, with_newest, reopened}
+use Rattle.oe_log.specs.Log.{with_active, with_records, with_segment, without_segment, with_record, without_newest}
+use Rattle.oe_log.specs.Log.{after_seal, with_newest, with_reopening}
 use Rattle.oe_log.specs.Log.{owner_of}
 use Rattle.oe_log.specs.declared.heads.SegmentOwner.{SegmentOwner}
 use Rattle.oe_log.proofs.LawFacts.{idle_at}
 use Rattle.oe_undo.specs.declared.holders.Link.{Link}
 use Rattle.oe_undo.specs.declared.holders.Holder.{Holder}
 use Rattle.oe_undo.specs.declared.holders.Holder.TheVariants.{Open, At}
-use Rattle.oe_undo.specs.Held.{Held, held_by, held_open, held_commits, held, of_key, horizon}
-use Rattle.oe_undo.specs.Chains.{link_to, link_from, previous_of, IsEnd, IsChain, IsAlone, AreChained, linked}
+use Rattle.oe_undo.specs.Held.{Held, held_by, held_open, held_commits, all_held, of_key, horizon}
+use Rattle.oe_undo.specs.Chains.{link_to, link_from, previous_of, IsEnd, IsChain, IsAlone, AreChained, with_link}
 use Rattle.oe_undo.specs.Laws.{IsWhole}
 use Rattle.oe_undo.proofs.ChainFacts.{own, chain_open, chain-open, seen_again}
 use Rattle.oe_undo.proofs.ChainedLinkFacts.{sees_alone}
@@ -40,9 +41,9 @@ use Rattle.oe_undo.specs.Links.{LinkMaps, place_of, links_of, link_in, no_links,
 use Rattle.oe_undo.specs.Links.{GivesUpLink, LeadsTo}
 use Rattle.oe_undo.proofs.LinkFacts.{no_link}
 use Rattle.oe_undo.proofs.LeadFacts.{set_leads, given_links, given_up_links}
-use Rattle.oe_undo.specs.Owners.{MomentList, no_moments, moments_at, moments_of, holder_of, followed, next_owner}
+use Rattle.oe_undo.specs.Owners.{MomentList, no_moments, moments_at, moments_of, holder_of, link_by_now, next_owner}
 use Rattle.oe_undo.specs.Owners.{IsOwner, AreOwned, AreIdle, AreMoments, IsLinked, IsMadeBy, IsMade}
-use Rattle.oe_undo.specs.Undo.{UndoState, unended, GivesBack}
+use Rattle.oe_undo.specs.Undo.{UndoState, link_above, GivesBack}
 use Rattle.oe_log.proofs.StateFacts.{some_of, known, pushed_popped}
 use Rattle.oe_undo.proofs.OwnerFacts as owner
 
@@ -64,7 +65,8 @@ none_linked e l u maps ms empty none idle_ms =
     subst (λ v. IsLinked v (links_of maps) ms) (sym empty)
     (subst (λ (m : LinkMaps). IsLinked (no_segments e l) (links_of m) ms) (sym none)
     record {
-      chained = subst (AreChained (no_segments e l)) (sym (fun_ext (λ k. ap (followed (no_segments e l)) (no_link k))))
+      chained = subst (AreChained (no_segments e l))
+          (sym (fun_ext (λ k. ap (link_by_now (no_segments e l)) (no_link k))))
           (calls.none e l);
       owned = λ k o is. no_owned o (IsOwner (no_segments e l) o.owner) (sym (no_link k) ∙ is);
       moments = record {
@@ -79,7 +81,8 @@ none_linked e l u maps ms empty none idle_ms =
 
 pub same_chained : (u w : SegmentLog) (links : Key → Option OwnedLink) → ((s : ℕ) → count_at w s ≡ count_at u s)
     → total_count w ≡ total_count u
-    → w.committed ≡ u.committed → AreChained w (λ k. followed u (links k)) → AreChained w (λ k. followed w (links k))
+    → w.committed ≡ u.committed → AreChained w (λ k. link_by_now u (links k))
+    → AreChained w (λ k. link_by_now w (links k))
 same_chained u w links counts total commits c =
     subst (AreChained w) (sym
     (fun_ext (λ k. owner.followed_same u w (links k) (owner.holder_same u w counts total commits)))) c
@@ -155,11 +158,11 @@ module _ (u w : SegmentLog) (t : ℕ) (rs : List Logged) (is : w ≡ with_record
   opens_are : (s : ℕ) → is_some (active_at w s) ≡ is_some (active_at u s)
   opens_are s = ap (λ v. is_some (active_at v s)) is ∙ opens_same u t new_active (records_kept rs (active_at u t)) s
 
-  pub replaced_chained : (links : Key → Option OwnedLink) → AreChained w (λ k. followed u (links k))
-      → AreChained w (λ k. followed w (links k))
+  pub replaced_chained : (links : Key → Option OwnedLink) → AreChained w (λ k. link_by_now u (links k))
+      → AreChained w (λ k. link_by_now w (links k))
   replaced_chained links c = same_chained u w links counts_are total_is commits_are c
 
-  pub replaced_followed : (l : Option OwnedLink) → followed w l ≡ followed u l
+  pub replaced_followed : (l : Option OwnedLink) → link_by_now w l ≡ link_by_now u l
   replaced_followed l = owner.followed_same u w l (owner.holder_same u w counts_are total_is commits_are)
 
   pub replaced_owned : (links : Key → Option OwnedLink) → AreOwned u links → AreOwned w links
@@ -211,7 +214,7 @@ set_owned u old new k l leads this owned j x is = go (is_key k j) (sym (leads.li
     go false e = owned j x e
 
 followed_cond : (u : SegmentLog) (b : Bool) (l p : Option OwnedLink)
-    → followed u (cond b l p) ≡ cond b (followed u l) (followed u p)
+    → link_by_now u (cond b l p) ≡ cond b (link_by_now u l) (link_by_now u p)
 followed_cond u true l p = refl
 followed_cond u false l p = refl
 
@@ -221,20 +224,20 @@ next_is_owner : (u : SegmentLog) (t : ℕ) → IsSome (active_at u t) → IsOwne
 next_is_owner u t some = record { number = omega arith; is_open = λ less. some }
 
 next_followed : (u : SegmentLog) (t : ℕ) (a : RecordAddress)
-    → followed u (Some (record { address = a; owner = next_owner u t })) ≡ Some
+    → link_by_now u (Some (record { address = a; owner = next_owner u t })) ≡ Some
     (record { address = a; holder = Open t })
 next_followed u t a =
     ap (λ (o : Option Holder). option_map {T = Holder} (λ h. record { address = a; holder = h }) o)
     (owner.opened_holder u (next_owner u t) (omega arith))
 
 module _ (u w : SegmentLog) (t : ℕ) (a : RecordAddress) (p : Previous) (b : Record) (some : IsSome (active_at u t))
-    (is : w ≡ pushed u t (logged a p b)) where
+    (is : w ≡ with_record u t (log_entry a p b)) where
   abbrev more : List Logged
-  more = logged a p b ∷ records_at u t
+  more = log_entry a p b ∷ records_at u t
 
   -- a record more, to which its key's link leads
   pub push_linked : (old new : LinkMaps) (ms : List MomentList) (k : Key) (n : SegmentOwner) → IsWhole u
-      → link_from (Open t) p ≡ followed u (links_of old (record_key b)) → k ≡ record_key b
+      → link_from (Open t) p ≡ link_by_now u (links_of old (record_key b)) → k ≡ record_key b
       → n ≡ next_owner u t → LeadsTo old new k (Some (record { address = a; owner = n })) → IsLinked u (links_of old) ms
       → IsLinked w (links_of new) ms
   push_linked old new ms k n whole leads own_key by any_sets c =
@@ -246,15 +249,16 @@ module _ (u w : SegmentLog) (t : ℕ) (a : RecordAddress) (p : Previous) (b : Re
       subst (λ (x : SegmentOwner). LeadsTo old new (record_key b) (Some (record { address = a; owner = x })))
       by keyed in
       let links : ◌≡◌ {A = Key → Option Link}
-      (linked (λ j. followed u (links_of old j)) (record_key b) (Some (record { address = a; holder = Open t })))
-      (λ j. followed u (links_of new j)) =
-      fun_ext (λ j. ap (λ z. cond (is_key (record_key b) j) z (followed u (links_of old j))) (sym (next_followed u t a))
+      (with_link (λ j. link_by_now u (links_of old j)) (record_key b) (Some (record { address = a; holder = Open t })))
+      (λ j. link_by_now u (links_of new j)) =
+      fun_ext (λ j. ap (λ z. cond (is_key (record_key b) j) z (link_by_now u (links_of old j)))
+      (sym (next_followed u t a))
       ∙ sym (followed_cond u (is_key (record_key b) j) l (links_of old j))
-      ∙ ap (followed u) (sym (sets.links j))) in
-      let chained : AreChained w (λ j. followed u (links_of new j)) =
-      subst (λ v. AreChained v (λ j. followed u (links_of new j))) (sym is)
-      (subst (AreChained (pushed u t (logged a p b))) links
-      (calls.pushes u (λ j. followed u (links_of old j)) t o.0 (logged a p b) whole o.1 leads c.chained)) in
+      ∙ ap (link_by_now u) (sym (sets.links j))) in
+      let chained : AreChained w (λ j. link_by_now u (links_of new j)) =
+      subst (λ v. AreChained v (λ j. link_by_now u (links_of new j))) (sym is)
+      (subst (AreChained (with_record u t (log_entry a p b))) links
+      (calls.pushes u (λ j. link_by_now u (links_of old j)) t o.0 (log_entry a p b) whole o.1 leads c.chained)) in
       record {
         chained = replaced_chained u w t more is (links_of new) chained;
         owned = replaced_owned u w t more is (links_of new)
@@ -265,10 +269,10 @@ module _ (u w : SegmentLog) (t : ℕ) (a : RecordAddress) (p : Previous) (b : Re
       }
 
   -- and taken off again
-  pub push_undone : (v : SegmentLog) → v ≡ popped w t → v ≡ u
+  pub push_undone : (v : SegmentLog) → v ≡ without_newest w t → v ≡ u
   push_undone v gone =
       let o = some_of (active_at u t) some in
-      gone ∙ ap (λ z. popped z t) is ∙ pushed_popped u t o.0 (logged a p b) o.1
+      gone ∙ ap (λ z. without_newest z t) is ∙ pushed_popped u t o.0 (log_entry a p b) o.1
 
 -- ---- whose records there are
 
@@ -326,17 +330,17 @@ end_made u (At m) e = omega (arith, e)
 pub chain_made : (u : SegmentLog) (links : Key → Option Link) (k : Key) → AreChained u links → IsMade u (links k)
 chain_made u links k c = go (links k) (c k)
   where
-    all : AllHeld (IsMadeBy u) (of_key k (held u))
-    all = held_key (IsMadeBy u) k (held u)
+    all : AllHeld (IsMadeBy u) (of_key k (all_held u))
+    all = held_key (IsMadeBy u) k (all_held u)
         (held_append (IsMadeBy u) (held_open (records_at u) (all_below system terminal_limit))
         (held_commits (total_count u) u.committed)
         (held_open_all (IsMadeBy u) (records_at u) (all_below system terminal_limit) (λ s. inr tt))
         (held_commits_all (IsMadeBy u) (total_count u) u.committed (λ n low. low)))
 
-    go : (l : Option Link) → IsChain (horizon u) l (of_key k (held u)) → IsMade u l
+    go : (l : Option Link) → IsChain (horizon u) l (of_key k (all_held u)) → IsMade u l
     go None chain = tt
     go (Some l) chain =
-        elim (met_holder (IsMadeBy u) (horizon u) l (of_key k (held u)) all chain) [
+        elim (met_holder (IsMadeBy u) (horizon u) l (of_key k (all_held u)) all chain) [
           | inl end ↦ end_made u l.holder end
           | inr made ↦ made
         ]
@@ -353,14 +357,14 @@ made_same w u (Some l) total made = go l.holder made
 not_open : (u : SegmentLog) (links : Key → Option Link) (k : Key) (t : ℕ) (l : Link) → records_at u t ≡ []
     → AreChained u links → links k ≡ Some l → l.holder ≡ Open t → ⊥
 not_open u links k t l empty c is opens =
-    let all : AllHeld (λ h. h ≢ Open t) (of_key k (held u)) =
-    held_key (λ h. h ≢ Open t) k (held u)
+    let all : AllHeld (λ h. h ≢ Open t) (of_key k (all_held u)) =
+    held_key (λ h. h ≢ Open t) k (all_held u)
     (held_append (λ h. h ≢ Open t) (held_open (records_at u) (all_below system terminal_limit))
     (held_commits (total_count u) u.committed)
     (held_open_all (λ h. h ≢ Open t) (records_at u) (all_below system terminal_limit) (λ s. other s))
     (held_commits_all (λ h. h ≢ Open t) (total_count u) u.committed (λ n low e. cc))) in
-    elim (met_holder (λ h. h ≢ Open t) (horizon u) l (of_key k (held u)) all
-    (subst (λ z. IsChain (horizon u) z (of_key k (held u))) is (c k))) [
+    elim (met_holder (λ h. h ≢ Open t) (horizon u) l (of_key k (all_held u)) all
+    (subst (λ z. IsChain (horizon u) z (of_key k (all_held u))) is (c k))) [
       | inl end ↦ open_end l.holder opens end
       | inr ne ↦ ne opens
     ]
@@ -422,14 +426,14 @@ met_link u links t r rs whole less are c = go (links (record_key r.before)) refl
     go None q =
         let k : Key = record_key r.before in
         let commits : List Held = held_commits (total_count u) u.committed in
-        let none : of_key k (held u) ≡ [] = calls.ends u links k whole c (subst (IsEnd (horizon u)) (sym q) tt) in
+        let none : of_key k (all_held u) ≡ [] = calls.ends u links k whole c (subst (IsEnd (horizon u)) (sym q) tt) in
         let apart : chain_open k (records_at u) terminal_limit (of_key k commits) ≡ [] =
         sym (chain-open k (records_at u) terminal_limit commits) ∙ none in
         absurd (first_own r rs (Open t)
         (subst (λ xs. own k (Open t) xs ≡ []) are
         (none_own k (records_at u) t terminal_limit (of_key k commits) less apart)))
 
-link_placed : (u : SegmentLog) (p : Option (Option OwnedLink)) → IsSome (followed u (link_in p)) → IsSome p
+link_placed : (u : SegmentLog) (p : Option (Option OwnedLink)) → IsSome (link_by_now u (link_in p)) → IsSome p
 link_placed u None e = e
 link_placed u (Some l) e = refl
 
@@ -470,7 +474,7 @@ module _ (u : SegmentLog) (old : LinkMaps) (t : ℕ) (p : Previous) (b : Record)
   newest = newest_is (records_at u t) p b is
 
   -- its key has a place for a link
-  pub newest_placed : (k : Key) → k ≡ record_key b → IsWhole u → AreChained u (λ j. followed u (links_of old j))
+  pub newest_placed : (k : Key) → k ≡ record_key b → IsWhole u → AreChained u (λ j. link_by_now u (links_of old j))
       → HasPlace old k
   newest_placed k own whole c =
       let o = some_of (active_at u t) some in
@@ -479,43 +483,47 @@ module _ (u : SegmentLog) (old : LinkMaps) (t : ℕ) (p : Previous) (b : Record)
       let key : record_key n.first.before ≡ k = ap (λ (x : Record). record_key x) n.before ∙ sym own in
       subst (HasPlace old) key
       (link_placed u (place_of old (record_key n.first.before))
-      (met_link u (λ j. followed u (links_of old j)) t n.first n.older whole less n.are c))
+      (met_link u (λ j. link_by_now u (links_of old j)) t n.first n.older whole less n.are c))
 
   -- what its previous leads to was made
-  pub newest_made : IsWhole u → AreChained u (λ j. followed u (links_of old j)) → IsMade u (link_from (Open t) p)
+  pub newest_made : IsWhole u → AreChained u (λ j. link_by_now u (links_of old j)) → IsMade u (link_from (Open t) p)
   newest_made whole c =
       let n = newest in
-      let popped_chained = calls.pops u (λ j. followed u (links_of old j)) t n.first n.older whole n.are c in
-      let total : total_count (popped u t) ≡ total_count u = total_is u (popped u t) t (drop 1 (records_at u t)) refl in
-      let at_key : linked (λ j. followed u (links_of old j)) (record_key n.first.before)
+      let popped_chained = calls.pops u (λ j. link_by_now u (links_of old j)) t n.first n.older whole n.are c in
+      let total : total_count (without_newest u t)
+      ≡ total_count u = total_is u (without_newest u t) t (drop 1 (records_at u t)) refl in
+      let at_key : with_link (λ j. link_by_now u (links_of old j)) (record_key n.first.before)
       (link_from (Open t) n.first.previous) (record_key n.first.before) ≡ link_from (Open t) n.first.previous =
-      ap (λ z. cond z (link_from (Open t) n.first.previous) (followed u (links_of old (record_key n.first.before))))
+      ap (λ z. cond z (link_from (Open t) n.first.previous) (link_by_now u (links_of old (record_key n.first.before))))
       (key_refl (record_key n.first.before)) in
-      let made : IsMade (popped u t) (link_from (Open t) n.first.previous) =
-      subst (IsMade (popped u t)) at_key (chain_made (popped u t) _ (record_key n.first.before) popped_chained) in
+      let made : IsMade (without_newest u t) (link_from (Open t) n.first.previous) =
+      subst (IsMade (without_newest u t)) at_key
+      (chain_made (without_newest u t) _ (record_key n.first.before) popped_chained) in
       subst (λ (x : Previous). IsMade u (link_from (Open t) x)) n.previous
-      (made_same (popped u t) u (link_from (Open t) n.first.previous) total made)
+      (made_same (without_newest u t) u (link_from (Open t) n.first.previous) total made)
 
-  pub given_back : (new : LinkMaps) (w : SegmentLog) (l : Option OwnedLink) → w ≡ popped u t
+  pub given_back : (new : LinkMaps) (w : SegmentLog) (l : Option OwnedLink) → w ≡ without_newest u t
       → SetsLink old new (record_key b) l
-      → followed u l ≡ unended (horizon u) (link_from (Open t) p)
+      → link_by_now u l ≡ link_above (horizon u) (link_from (Open t) p)
       → GivesBack (record { log = u; links = old }) (record { log = w; links = new }) t (records_at u t)
   given_back new w l gone sets leads =
       let n = newest in
-      let now : followed w l ≡ unended (horizon w) (link_from (Open t) p) =
+      let now : link_by_now w l ≡ link_above (horizon w) (link_from (Open t) p) =
       replaced_followed u w t (drop 1 (records_at u t)) gone l ∙ leads
-      ∙ ap (λ h. unended h (link_from (Open t) p)) (sym (replaced_horizon u w t (drop 1 (records_at u t)) gone)) in
+      ∙ ap (λ h. link_above h (link_from (Open t) p)) (sym (replaced_horizon u w t (drop 1 (records_at u t)) gone)) in
       subst (GivesBack (record { log = u; links = old }) (record { log = w; links = new }) t) (sym n.are)
       record {
         link = l;
         set = subst (λ (x : Record). SetsLink old new (record_key x) l) (sym n.before) sets;
-        leads = subst (λ (x : Previous). followed w l ≡ unended (horizon w) (link_from (Open t) x)) (sym n.previous)
+        leads = subst (λ (x : Previous). link_by_now w l ≡ link_above (horizon w) (link_from (Open t) x))
+            (sym n.previous)
             now;
       }
 
   pub pop_linked : (w : SegmentLog) (new : LinkMaps) (ms : List MomentList) (l : Option OwnedLink) → IsWhole u
-      → w ≡ popped u t → SetsLink old new (record_key b) l
-      → followed u l ≡ unended (horizon u) (link_from (Open t) p) → ((x : OwnedLink) → l ≡ Some x → IsOwner u x.owner)
+      → w ≡ without_newest u t → SetsLink old new (record_key b) l
+      → link_by_now u l ≡ link_above (horizon u) (link_from (Open t) p)
+      → ((x : OwnedLink) → l ≡ Some x → IsOwner u x.owner)
       → IsLinked u (links_of old) ms → IsLinked w (links_of new) ms
   pop_linked w new ms l whole gone sets leads owner_of_l c =
       let n = newest in
@@ -523,21 +531,22 @@ module _ (u : SegmentLog) (old : LinkMaps) (t : ℕ) (p : Previous) (b : Record)
       let total = total_is u w t rs gone in
       let commits = commits_are u w t rs gone in
       let left : IsWhole w = whole_still u w t rs gone whole in
-      let before : Key → Option Link = linked (λ j. followed u (links_of old j)) (record_key b)
+      let before : Key → Option Link = with_link (λ j. link_by_now u (links_of old j)) (record_key b)
       (link_from (Open t) p) in
       let links : ◌≡◌ {A = Key → Option Link}
-      (linked (λ j. followed u (links_of old j)) (record_key n.first.before) (link_from (Open t) n.first.previous))
+      (with_link (λ j. link_by_now u (links_of old j)) (record_key n.first.before)
+      (link_from (Open t) n.first.previous))
       before =
-      ap (λ (x : Record). linked (λ j. followed u (links_of old j)) (record_key x)
+      ap (λ (x : Record). with_link (λ j. link_by_now u (links_of old j)) (record_key x)
       (link_from (Open t) n.first.previous)) n.before
-      ∙ ap (λ (x : Previous). linked (λ j. followed u (links_of old j)) (record_key b) (link_from (Open t) x))
+      ∙ ap (λ (x : Previous). with_link (λ j. link_by_now u (links_of old j)) (record_key b) (link_from (Open t) x))
       n.previous in
       let chained : AreChained w before =
       subst (λ v. AreChained v before) (sym gone)
-      (subst (AreChained (popped u t)) links
-      (calls.pops u (λ j. followed u (links_of old j)) t n.first n.older whole n.are c.chained)) in
+      (subst (AreChained (without_newest u t)) links
+      (calls.pops u (λ j. link_by_now u (links_of old j)) t n.first n.older whole n.are c.chained)) in
       record {
-        chained = owner.chained_anew w before (λ j. followed w (links_of new j)) left chained
+        chained = owner.chained_anew w before (λ j. link_by_now w (links_of new j)) left chained
             (λ j. by_key (is_key (record_key b) j) j ((set_leads old new (record_key b) l sets).links j));
         owned = replaced_owned u w t rs gone (links_of new)
             (set_owned u old new (record_key b) l (set_leads old new (record_key b) l sets) owner_of_l c.owned);
@@ -545,15 +554,15 @@ module _ (u : SegmentLog) (old : LinkMaps) (t : ℕ) (p : Previous) (b : Record)
       }
     where
       by_key : (x : Bool) (j : Key) → links_of new j ≡ cond x l (links_of old j)
-          → (followed w (links_of new j) ≡ cond x (link_from (Open t) p) (followed u (links_of old j)))
-          ⊎ (IsEnd (horizon w) (cond x (link_from (Open t) p) (followed u (links_of old j)))
-          × (followed w (links_of new j) ≡ None))
+          → (link_by_now w (links_of new j) ≡ cond x (link_from (Open t) p) (link_by_now u (links_of old j)))
+          ⊎ (IsEnd (horizon w) (cond x (link_from (Open t) p) (link_by_now u (links_of old j)))
+          × (link_by_now w (links_of new j) ≡ None))
       by_key true j e =
-          owner.unended_or_end (horizon w) (link_from (Open t) p) (followed w (links_of new j))
-          (ap (followed w) e ∙ replaced_followed u w t (drop 1 (records_at u t)) gone l ∙ leads
-          ∙ ap (λ h. unended h (link_from (Open t) p)) (sym (replaced_horizon u w t (drop 1 (records_at u t)) gone)))
+          owner.unended_or_end (horizon w) (link_from (Open t) p) (link_by_now w (links_of new j))
+          (ap (link_by_now w) e ∙ replaced_followed u w t (drop 1 (records_at u t)) gone l ∙ leads
+          ∙ ap (λ h. link_above h (link_from (Open t) p)) (sym (replaced_horizon u w t (drop 1 (records_at u t)) gone)))
       by_key false j e = inl
-          (ap (followed w) e ∙ replaced_followed u w t (drop 1 (records_at u t)) gone (links_of old j))
+          (ap (link_by_now w) e ∙ replaced_followed u w t (drop 1 (records_at u t)) gone (links_of old j))
 
 -- the commit that this is of
 pub record IsCommit (found : Option CommitSegment) (n : SegmentOwner) : Type 0 where
@@ -588,10 +597,11 @@ last_is (c ∷ cs) n e =
     let same : n ≡ owner_of c = owner.some_is n (owner_of c) e in
     record { newest = c; older = cs; are = refl; terminal = sym (ap (λ (x : SegmentOwner). x.terminal) same) }
 
-pub none_reopened : (u : SegmentLog) → None ≡ option_map owner_of (slice_get u.committed 0) → reopened u u.committed ≡ u
+pub none_reopened : (u : SegmentLog) → None ≡ option_map owner_of (slice_get u.committed 0)
+    → with_reopening u u.committed ≡ u
 none_reopened u e = go u.committed e
   where
-    go : (cs : List CommitSegment) → None ≡ option_map owner_of (slice_get cs 0) → reopened u cs ≡ u
+    go : (cs : List CommitSegment) → None ≡ option_map owner_of (slice_get cs 0) → with_reopening u cs ≡ u
     go [] e = refl
     go (c ∷ cs) e = cc
 
@@ -649,7 +659,7 @@ module _ (u : SegmentLog) (links : Key → Option OwnedLink) (ms : List MomentLi
 
   -- ---- a segment opened, with room for its commit
 
-  opens_all : (s : ℕ) → IsSome (active_at u s) → active_at u t ≡ None → IsSome (active_at (opened u t) s)
+  opens_all : (s : ℕ) → IsSome (active_at u s) → active_at u t ≡ None → IsSome (active_at (with_segment u t) s)
   opens_all s some closed =
       elim (cases_eq s t) [
         | inl e ↦ let none = subst (λ z. IsSome {T = OpenSegment} z) (ap (active_at u) e ∙ closed) some in cc
@@ -658,17 +668,19 @@ module _ (u : SegmentLog) (links : Key → Option OwnedLink) (ms : List MomentLi
             some
       ]
 
-  pub open_linked : (w : SegmentLog) (x y : MomentList) → active_at u t ≡ None → w ≡ opened u t → x ≡ get_or ms i x
+  pub open_linked : (w : SegmentLog) (x y : MomentList) → active_at u t ≡ None → w ≡ with_segment u t → x
+      ≡ get_or ms i x
       → y.moments ≡ x.moments → 1 ≤ y.room
       → IsLinked w links (set ms i y)
   open_linked w x y closed is read same room =
       let a : Option OpenSegment = Some (record { terminal = t; number = suc (count_at u t); records = [] }) in
       subst (λ v. IsLinked v links (set ms i y)) (sym is)
       record {
-        chained = same_chained u (opened u t) links (owner.count_same u t a) (owner.total_kept u t a) refl
-            (calls.opens u (λ k. followed u (links k)) t closed c.chained);
-        owned = same_owned u (opened u t) links (owner.count_same u t a) (λ s some. opens_all s some closed) c.owned;
-        moments = replaced_list (opened u t) y (same ∙ moments_are x read
+        chained = same_chained u (with_segment u t) links (owner.count_same u t a) (owner.total_kept u t a) refl
+            (calls.opens u (λ k. link_by_now u (links k)) t closed c.chained);
+        owned = same_owned u (with_segment u t) links (owner.count_same u t a)
+            (λ s some. opens_all s some closed) c.owned;
+        moments = replaced_list (with_segment u t) y (same ∙ moments_are x read
             ∙ ap (λ n. moments_of t n u.committed) (sym (owner.total_kept u t a)))
             (λ s ne. ap (λ n. moments_of s n u.committed) (owner.total_kept u t a)) (λ some. room)
             (λ s ne some. subst (λ z. IsSome {T = OpenSegment} z) (active_there u t a s ne) some);
@@ -686,7 +698,7 @@ module _ (u : SegmentLog) (links : Key → Option OwnedLink) (ms : List MomentLi
       }
 
   pub open_either : {T E : Type 0} (r : Result T E) (w : SegmentLog) (x y : MomentList) → active_at u t ≡ None
-      → OnOk r (w ≡ opened u t) → OnErr r (w ≡ u)
+      → OnOk r (w ≡ with_segment u t) → OnErr r (w ≡ u)
       → x ≡ get_or ms i x → y.moments ≡ x.moments → 1 ≤ y.room → IsLinked w links (set ms i y)
   open_either (Ok v) w x y closed ok err read same room = open_linked w x y closed ok read same room
   open_either (Err e) w x y closed ok err read same room = open_refused w x y err read same (λ s. room)
@@ -694,7 +706,7 @@ module _ (u : SegmentLog) (links : Key → Option OwnedLink) (ms : List MomentLi
   -- ---- a commit
 
   pub seal_linked : (w : SegmentLog) (x y : MomentList) (m : ℕ) (q : Request) (r : Reply) → IsWhole u
-      → IsSome (active_at u t) → w ≡ sealed u t q r → m ≡ total_count u + 1
+      → IsSome (active_at u t) → w ≡ after_seal u t q r → m ≡ total_count u + 1
       → x ≡ get_or ms i x → y.moments ≡ m ∷ x.moments → IsLinked w links (set ms i y)
   seal_linked w x y m q r whole some is moment read more =
       let o = some_of (active_at u t) some in
@@ -703,11 +715,11 @@ module _ (u : SegmentLog) (links : Key → Option OwnedLink) (ms : List MomentLi
       record {
         chained = owner.sealed_chained u t o.0 q r o.1 links whole c.owned c.chained;
         owned = owner.sealed_owned u t o.0 q r o.1 links c.owned;
-        moments = replaced_list (sealed u t q r) y
+        moments = replaced_list (after_seal u t q r) y
             (more ∙ ap (λ n. n ∷ x.moments) next ∙ ap (λ xs. suc (total_count u) ∷ xs) (moments_are x read)
             ∙ sym (owner.sealed_moments u t o.0 q r o.1 t refl))
             (λ s ne. owner.sealed_others u t o.0 q r o.1 s ne)
-            (λ now. let none : active_at (sealed u t q r) t ≡ None = owner.sealed_closed u t o.0 q r o.1 in
+            (λ now. let none : active_at (after_seal u t q r) t ≡ None = owner.sealed_closed u t o.0 q r o.1 in
             let off = subst (λ z. IsSome {T = OpenSegment} z) none now in cc)
             (λ s ne now. subst (λ z. IsSome {T = OpenSegment} z) (owner.sealed_active u t o.0 q r o.1 s ne) now);
       }
@@ -737,7 +749,7 @@ module _ (u : SegmentLog) (links : Key → Option OwnedLink) (ms : List MomentLi
 
   pub reopen_linked : (w : SegmentLog) (x y : MomentList) (n : SegmentOwner) (later : ℕ) → IsWhole u
       → ((s : ℕ) → active_at u s ≡ None) → Some n ≡ option_map owner_of (slice_get u.committed 0)
-      → n.terminal ≡ t → 1 ≤ n.number → n.number + later ≡ count_at u n.terminal → w ≡ reopened u u.committed
+      → n.terminal ≡ t → 1 ≤ n.number → n.number + later ≡ count_at u n.terminal → w ≡ with_reopening u u.committed
       → x ≡ get_or ms i x → y.moments ≡ drop 1 x.moments → y.room + length y.moments ≡ x.room + length x.moments
       → IsLinked w links (set ms i y)
   reopen_linked w x y n later whole closed found by first sum is read less room =
@@ -746,15 +758,15 @@ module _ (u : SegmentLog) (links : Key → Option OwnedLink) (ms : List MomentLi
       let whose : t ≡ d.terminal = sym by ∙ sym last.terminal in
       let counted : 1 ≤ count_at u n.terminal = omega (arith, first, sum) in
       let some : 1 ≤ count_at u d.terminal = subst (λ s. 1 ≤ count_at u s) (sym last.terminal) counted in
-      let was : x.moments ≡ total_count u ∷ moments_of t (total_count (reopened u (d ∷ last.older))) last.older =
+      let was : x.moments ≡ total_count u ∷ moments_of t (total_count (with_reopening u (d ∷ last.older))) last.older =
       moments_are x read ∙ owner.was_moments u d last.older last.are whole some closed t whose in
       let longer = ap length was in
       let shorter = ap length (less ∙ ap (drop 1) was) in
-      subst (λ v. IsLinked v links (set ms i y)) (sym (is ∙ ap (reopened u) last.are))
+      subst (λ v. IsLinked v links (set ms i y)) (sym (is ∙ ap (with_reopening u) last.are))
       record {
         chained = owner.back_chained u d last.older last.are whole some closed links c.owned c.chained;
         owned = owner.back_owned u d last.older last.are whole some closed links c.owned;
-        moments = replaced_list (reopened u (d ∷ last.older)) y (less ∙ ap (drop 1) was)
+        moments = replaced_list (with_reopening u (d ∷ last.older)) y (less ∙ ap (drop 1) was)
             (λ s ne. sym (owner.was_others u d last.older last.are whole some closed s (λ e. ne (e ∙ sym whose))))
             (λ now. omega (arith, longer, shorter, room))
             (λ s ne now. subst (λ z. IsSome {T = OpenSegment} z)
@@ -776,7 +788,7 @@ module _ (u : SegmentLog) (links : Key → Option OwnedLink) (ms : List MomentLi
 -- ---- a segment given up
 
 drop_owned : (u : SegmentLog) (t : ℕ) (links : Key → Option OwnedLink) → records_at u t ≡ []
-    → AreChained u (λ k. followed u (links k)) → AreOwned u links → AreOwned (dropped u t) links
+    → AreChained u (λ k. link_by_now u (links k)) → AreOwned u links → AreOwned (without_segment u t) links
 drop_owned u t links empty c owned k l is =
     let own = owned k l is in
     let count = owner.count_same u t None l.owner.terminal in
@@ -785,9 +797,10 @@ drop_owned u t links empty c owned k l is =
       number = omega (arith, count, few);
       is_open = λ less. elim (cases_eq l.owner.terminal t) [
         | inl e ↦ absurd
-            (not_open u (λ j. followed u (links j)) k t (record { address = l.address; holder = Open l.owner.terminal })
+            (not_open u (λ j. link_by_now u (links j)) k t
+            (record { address = l.address; holder = Open l.owner.terminal })
             empty c
-            (ap (followed u) is ∙ ap
+            (ap (link_by_now u) is ∙ ap
             (λ (o : Option Holder). option_map {T = Holder} (λ h. record { address = l.address; holder = h }) o)
             (owner.opened_holder u l.owner (omega (arith, count, less))))
             (ap (λ s. Open s) e))
@@ -796,12 +809,12 @@ drop_owned u t links empty c owned k l is =
       ];
     }
 
-drop_opens : (u : SegmentLog) (t s : ℕ) → IsSome (active_at (dropped u t) s) → IsSome (active_at u s)
+drop_opens : (u : SegmentLog) (t s : ℕ) → IsSome (active_at (without_segment u t) s) → IsSome (active_at u s)
 drop_opens u t s some =
     elim (cases_eq s t) [
       | inl e ↦ elim (cases_lt t (length u.terminals)) [
         | inl within ↦ let none = subst (λ z. IsSome {T = OpenSegment} z)
-            (ap (active_at (dropped u t)) e ∙ active_here u t None within) some in cc
+            (ap (active_at (without_segment u t)) e ∙ active_here u t None within) some in cc
         | inr past ↦ subst (λ z. IsSome (get_or z s idle).active)
             (set_past u.terminals t (record { count = count_at u t; active = None }) past) some
       ]
@@ -809,14 +822,14 @@ drop_opens u t s some =
     ]
 
 pub drop_linked : (u w : SegmentLog) (t : ℕ) (links : Key → Option OwnedLink) (ms : List MomentList)
-    → records_at u t ≡ [] → w ≡ dropped u t → IsLinked u links ms → IsLinked w links ms
+    → records_at u t ≡ [] → w ≡ without_segment u t → IsLinked u links ms → IsLinked w links ms
 drop_linked u w t links ms empty is c =
     subst (λ v. IsLinked v links ms) (sym is)
     record {
-      chained = same_chained u (dropped u t) links (owner.count_same u t None) (owner.total_kept u t None) refl
-          (calls.drops u (λ k. followed u (links k)) t empty c.chained);
+      chained = same_chained u (without_segment u t) links (owner.count_same u t None) (owner.total_kept u t None) refl
+          (calls.drops u (λ k. link_by_now u (links k)) t empty c.chained);
       owned = drop_owned u t links empty c.chained c.owned;
-      moments = same_moments u (dropped u t) ms (owner.total_kept u t None) refl (drop_opens u t) c.moments;
+      moments = same_moments u (without_segment u t) ms (owner.total_kept u t None) refl (drop_opens u t) c.moments;
     }
 
 -- ---- no commit is kept
@@ -847,13 +860,13 @@ none_linked_still u w links ms none is c =
 
 module _ (u : SegmentLog) (t : ℕ) (whole : IsWhole u) where
   pub own_given : (a : RecordAddress) (n : SegmentOwner) → n ≡ next_owner u t
-      → followed u (Some (record { address = a; owner = n })) ≡ unended (horizon u) (link_from (Open t) (Own a))
-  own_given a n by = ap (λ (x : SegmentOwner). followed u (Some (record { address = a; owner = x }))) by
+      → link_by_now u (Some (record { address = a; owner = n })) ≡ link_above (horizon u) (link_from (Open t) (Own a))
+  own_given a n by = ap (λ (x : SegmentOwner). link_by_now u (Some (record { address = a; owner = x }))) by
       ∙ next_followed u t a
 
   pub none_given : (a : RecordAddress) (m later : ℕ) → m ≤ total_count u → later ≡ total_count u - m
       → None ≡ option_map owner_of (slice_get u.committed later)
-      → None ≡ unended (horizon u) (link_from (Open t) (Committed a m))
+      → None ≡ link_above (horizon u) (link_from (Open t) (Committed a m))
   none_given a m later made is none =
       let past = none_past u.committed later none in
       let few = whole.commits in
@@ -862,7 +875,8 @@ module _ (u : SegmentLog) (t : ℕ) (whole : IsWhole u) where
   pub committed_given : (a : RecordAddress) (m later : ℕ) (n : SegmentOwner) → m ≤ total_count u
       → later ≡ total_count u - m → Some n ≡ option_map owner_of (slice_get u.committed later)
       → n.number + commits_of n.terminal (take later u.committed) ≡ count_at u n.terminal
-      → followed u (Some (record { address = a; owner = n })) ≡ unended (horizon u) (link_from (Open t) (Committed a m))
+      → link_by_now u (Some (record { address = a; owner = n }))
+      ≡ link_above (horizon u) (link_from (Open t) (Committed a m))
   committed_given a m later n made is found sum =
       let d = commit_is (slice_get u.committed later) n found in
       let inside = some_inside u.committed later d.commit d.are in
@@ -897,9 +911,9 @@ leads_previous u links t k whole c alone = seen_again t (links k) (sees_alone u 
 -- a record is led to where its key's link in its place leads
 pub push_leads : (u : SegmentLog) (links : LinkMaps) (t : ℕ) (k key : Key) (place : Option OwnedLink) (l : Option Link)
     (p : Previous) → k ≡ key → Some place ≡ place_of links k
-    → l ≡ followed u place → p ≡ previous_of l → IsWhole u → AreChained u (λ j. followed u (links_of links j))
-    → IsAlone u t key → link_from (Open t) p ≡ followed u (links_of links key)
+    → l ≡ link_by_now u place → p ≡ previous_of l → IsWhole u → AreChained u (λ j. link_by_now u (links_of links j))
+    → IsAlone u t key → link_from (Open t) p ≡ link_by_now u (links_of links key)
 push_leads u links t k key place l p own found is by whole chained alone =
     ap (λ q. link_from (Open t) q)
-    (by ∙ ap previous_of (is ∙ ap (λ o. followed u (link_in o)) (found ∙ ap (place_of links) own)))
-    ∙ leads_previous u (λ j. followed u (links_of links j)) t key whole chained alone
+    (by ∙ ap previous_of (is ∙ ap (λ o. link_by_now u (link_in o)) (found ∙ ap (place_of links) own)))
+    ∙ leads_previous u (λ j. link_by_now u (links_of links j)) t key whole chained alone

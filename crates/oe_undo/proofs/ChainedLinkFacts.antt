@@ -17,10 +17,10 @@ use Rattle.oe_log.specs.Stands.{model_records}
 use Rattle.oe_undo.specs.declared.holders.Link.{Link}
 use Rattle.oe_undo.specs.declared.holders.Holder.{Holder}
 use Rattle.oe_undo.specs.declared.holders.Holder.TheVariants.{Open, At}
-use Rattle.oe_undo.specs.Held.{Held, held_by, held_open, held_commits, held, of_key, horizon, is_later, count_later}
+use Rattle.oe_undo.specs.Held.{Held, held_by, held_open, held_commits, all_held, of_key, horizon, is_later, count_later}
 use Rattle.oe_undo.specs.Chains.{link_to, link_from, IsOwnOrDone, IsSeenBy, HaveNone, IsAlone, IsForgotten, IsEnd}
-use Rattle.oe_undo.specs.Chains.{IsChain, AreChained, walked}
-use Rattle.oe_undo.specs.Restored.{later_of, has_later, restored}
+use Rattle.oe_undo.specs.Chains.{IsChain, AreChained, records_after}
+use Rattle.oe_undo.specs.Restored.{later_of, has_later, row_before}
 use Rattle.oe_undo.specs.Laws.{IsWhole}
 use Rattle.oe_undo.specs.Walks.{records_by, leads_later, Walks, Ends, Reads}
 use Rattle.oe_undo.proofs.ChainWalkFacts.{walk_reads, later_counted, none_has}
@@ -63,7 +63,7 @@ stand_commits u n i (c ∷ cs) at few look =
     let next : j + suc i ≡ suc j + i = omega arith in
     ap (λ z. get_or (committed_records u) z []) next ∙ look (suc j)))
 
-pub all_stand : (u : SegmentLog) → IsWhole u → AllStand u (held u)
+pub all_stand : (u : SegmentLog) → IsWhole u → AllStand u (all_held u)
 all_stand u whole =
     stand_both u (held_open (records_at u) (all_below system terminal_limit)) (held_commits (total_count u) u.committed)
     (stand_open u (all_below system terminal_limit))
@@ -91,29 +91,30 @@ end_not_later h m (Some l) le e = go l.holder e
 
 module _ (u : SegmentLog) (h m : ℕ) (le : h ≤ m) where
   walks_on : (xs : List Held) (l : Option Link) (now : Option Row) → AllStand u xs → IsChain h l xs
-      → Walks u m l now (length (walked m xs)) (restored (walked m xs) now)
+      → Walks u m l now (length (records_after m xs)) (row_before (records_after m xs) now)
   walks_on [] l now stand c = Ends l now (end_not_later h m l le c)
   walks_on (r ∷ rs) l now stand c =
-      subst (λ z. Walks u m z now (length (walked m (r ∷ rs))) (restored (walked m (r ∷ rs)) now)) (sym c.0.leads)
+      subst (λ z. Walks u m z now (length (records_after m (r ∷ rs))) (row_before (records_after m (r ∷ rs)) now))
+      (sym c.0.leads)
       (go (is_later m r.holder) refl
       (walks_on rs (link_from r.holder r.logged.previous) (restore r.logged.before now) stand.1 c.1))
     where
       go : (b : Bool) → is_later m r.holder ≡ b
-          → Walks u m (link_from r.holder r.logged.previous) (restore r.logged.before now) (length (walked m rs))
-          (restored (walked m rs) (restore r.logged.before now))
-          → Walks u m (Some (link_to r)) now (length (cond b (r.logged.before ∷ walked m rs) []))
-          (restored (cond b (r.logged.before ∷ walked m rs) []) now)
-      go true e w = Reads r.logged.address r.holder r.logged.previous r.logged.before now (length (walked m rs))
-          (restored (walked m rs) (restore r.logged.before now)) e stand.0 w
+          → Walks u m (link_from r.holder r.logged.previous) (restore r.logged.before now) (length (records_after m rs))
+          (row_before (records_after m rs) (restore r.logged.before now))
+          → Walks u m (Some (link_to r)) now (length (cond b (r.logged.before ∷ records_after m rs) []))
+          (row_before (cond b (r.logged.before ∷ records_after m rs) []) now)
+      go true e w = Reads r.logged.address r.holder r.logged.previous r.logged.before now (length (records_after m rs))
+          (row_before (records_after m rs) (restore r.logged.before now)) e stand.0 w
       go false e w = Ends (Some (link_to r)) now e
 
   -- the first record tells whether there is a later one
-  leads_first : (xs : List Held) (l : Option Link) → walked m xs ≡ later_of m xs → IsChain h l xs
+  leads_first : (xs : List Held) (l : Option Link) → records_after m xs ≡ later_of m xs → IsChain h l xs
       → leads_later m l ≡ has_later m xs
   leads_first [] l same c = end_not_later h m l le c
   leads_first (r ∷ rs) l same c = ap (leads_later m) c.0.leads ∙ go (is_later m r.holder) same
     where
-      go : (b : Bool) → cond b (r.logged.before ∷ walked m rs) [] ≡ cond b (r.logged.before ∷ later_of m rs)
+      go : (b : Bool) → cond b (r.logged.before ∷ records_after m rs) [] ≡ cond b (r.logged.before ∷ later_of m rs)
           (later_of m rs)
           → b ≡ cond b true (has_later m rs)
       go true e = refl
@@ -121,17 +122,18 @@ module _ (u : SegmentLog) (h m : ℕ) (le : h ≤ m) where
 
 pub chains_are_walked : (u : SegmentLog) (links : Key → Option Link) (k : Key) (m : ℕ) (now : Option Row) → IsWhole u
     → AreChained u links → horizon u ≤ m
-    → Walks u m (links k) now (count_later m (of_key k (held u))) (restored (later_of m (of_key k (held u))) now)
+    → Walks u m (links k) now (count_later m (of_key k (all_held u)))
+    (row_before (later_of m (of_key k (all_held u))) now)
 chains_are_walked u links k m now whole c le =
-    let xs : List Held = of_key k (held u) in
-    subst (λ n. Walks u m (links k) now n (restored (later_of m xs) now)) (later_counted m xs)
-    (subst (λ (bs : List Record). Walks u m (links k) now (length bs) (restored bs now)) (walk_reads k u m)
-    (walks_on u (horizon u) m le xs (links k) now (stand_of_key u k (held u) (all_stand u whole)) (c k)))
+    let xs : List Held = of_key k (all_held u) in
+    subst (λ n. Walks u m (links k) now n (row_before (later_of m xs) now)) (later_counted m xs)
+    (subst (λ (bs : List Record). Walks u m (links k) now (length bs) (row_before bs now)) (walk_reads k u m)
+    (walks_on u (horizon u) m le xs (links k) now (stand_of_key u k (all_held u) (all_stand u whole)) (c k)))
 
 -- a key's link tells whether it has a later record
 pub link_tells : (u : SegmentLog) (links : Key → Option Link) (k : Key) (m : ℕ) → AreChained u links → horizon u ≤ m
-    → leads_later m (links k) ≡ has_later m (of_key k (held u))
-link_tells u links k m c le = leads_first u (horizon u) m le (of_key k (held u)) (links k) (walk_reads k u m) (c k)
+    → leads_later m (links k) ≡ has_later m (of_key k (all_held u))
+link_tells u links k m c le = leads_first u (horizon u) m le (of_key k (all_held u)) (links k) (walk_reads k u m) (c k)
 
 -- ---- who sees a link
 
@@ -176,5 +178,6 @@ first_seen u t k h l (r ∷ rs) alone stand keys c = subst (IsSeenBy t) (sym c.0
 pub sees_alone : (u : SegmentLog) (links : Key → Option Link) (t : ℕ) (k : Key) → IsWhole u → AreChained u links
     → IsAlone u t k → IsSeenBy t (links k)
 sees_alone u links t k whole c alone =
-    first_seen u t k (horizon u) (links k) (of_key k (held u)) alone (stand_of_key u k (held u) (all_stand u whole))
-    (all_of_key k (held u)) (c k)
+    first_seen u t k (horizon u) (links k) (of_key k (all_held u)) alone
+    (stand_of_key u k (all_held u) (all_stand u whole))
+    (all_of_key k (all_held u)) (c k)

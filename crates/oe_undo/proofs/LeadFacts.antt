@@ -9,8 +9,8 @@ use Rattle.oe_model.proofs.RowFacts.{key_true, key_refl}
 use Rattle.oe_undo.specs.declared.links.OwnedLink.{OwnedLink}
 use Rattle.oe_undo.specs.Links.{LinkMaps, link_in, place_of, links_of, HasPlace, comes_with, SetsLink, GivesPlaces}
 use Rattle.oe_undo.specs.Links.{InsertsLink, GivesUpLink, KeepsPlaces, Comes, LeadsTo}
-use Rattle.oe_undo.specs.Owners.{followed}
-use Rattle.oe_undo.specs.Undo.{UndoState, seen}
+use Rattle.oe_undo.specs.Owners.{link_by_now}
+use Rattle.oe_undo.specs.Undo.{UndoState, link_seen}
 
 set_in : (b : Bool) (l : Option OwnedLink) (p : Option (Option OwnedLink))
     → link_in (cond b (Some l) p) ≡ cond b l (link_in p)
@@ -109,7 +109,7 @@ given_up_others old new own given_up k e = given_up k ∙ ap (λ b. cond b (left
 
 -- and each key is seen as it was
 pub given_up_seen : (old new : UndoState) (own : Key) → new.log ≡ old.log → GivesUpLink old.links new.links own
-    → (k : Key) → seen new k ≡ seen old k
+    → (k : Key) → link_seen new k ≡ link_seen old k
 given_up_seen old new own same given_up k =
-    ap (λ l. followed new.log l) (given_up_links old.links new.links own given_up k)
-    ∙ ap (λ u. followed u (links_of old.links k)) same
+    ap (λ l. link_by_now new.log l) (given_up_links old.links new.links own given_up k)
+    ∙ ap (λ u. link_by_now u (links_of old.links k)) same

@@ -32,7 +32,8 @@ use Rattle.oe_undo.specs.Numbers.{warehouse_number, district_number, customer_nu
 use Rattle.oe_undo.specs.Numbers.{order_line_number, item_number, stock_number}
 use Rattle.oe_undo.specs.NumberLaws.{warehouse_numbered, district_numbered, customer_numbered, new_order_numbered}
 use Rattle.oe_undo.specs.NumberLaws.{order_numbered, order_line_numbered, item_numbered, stock_numbered}
-use Rattle.oe_undo.specs.Tables.{LinkTable, link_in, numbered_at, with_number, SetsNumber, GivesNumbers, InsertsNumber}
+use Rattle.oe_undo.specs.Tables.{LinkTable, link_in, link_by_number, with_number, SetsNumber, GivesNumbers}
+use Rattle.oe_undo.specs.Tables.{InsertsNumber}
 use Rattle.oe_undo.specs.Links.{LinkMaps, HasPlace, place_of, with_link, links_of, no_links, comes_with, SetsLink}
 use Rattle.oe_undo.specs.Links.{GivesPlaces, InsertsLink, GivesUpLink}
 use Rattle.oe_undo.proofs.NumberFacts.{sets_number, number_same, not_above_placed}
@@ -384,7 +385,7 @@ comes_placed m (key.Stock j) (key.Stock k) h had = not_above_placed m.stocks j.w
     (stock_number k) h had
 comes_placed m _ _ h had = cc
 
-none_numbered : (s : ℕ) (o : Option ℕ) → link_in (numbered_at [] s o) ≡ None
+none_numbered : (s : ℕ) (o : Option ℕ) → link_in (link_by_number [] s o) ≡ None
 none_numbered s None = refl
 none_numbered s (Some n) = refl
 

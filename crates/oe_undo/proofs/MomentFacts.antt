@@ -14,8 +14,8 @@ use Rattle.oe_undo.specs.declared.links.OwnedLink.{OwnedLink}
 use Rattle.oe_undo.specs.Chains.{link_from}
 use Rattle.oe_undo.specs.Held.{is_later}
 use Rattle.oe_undo.specs.Laws.{IsWhole, Moments_begin_at_one}
-use Rattle.oe_undo.specs.Owners.{moments_of, holder_of, followed}
-use Rattle.oe_undo.specs.Undo.{unended}
+use Rattle.oe_undo.specs.Owners.{moments_of, holder_of, link_by_now}
+use Rattle.oe_undo.specs.Undo.{link_above}
 
 -- the moments of kept commits
 some_moment : (t m : ℕ) (cs : List CommitSegment) (i x : ℕ) → length cs ≤ m → slice_get (moments_of t m cs) i ≡ Some x
@@ -46,7 +46,7 @@ later_holder u l h within e = go (nat_lt (count_at u l.owner.terminal) l.owner.n
     go false e = made _ (λ x f. some_moment l.owner.terminal (total_count u) u.committed
         (count_at u l.owner.terminal - l.owner.number) x within f) e
 
-later_link : (u : SegmentLog) (l : Option OwnedLink) (x : Link) → IsWhole u → followed u l ≡ Some x
+later_link : (u : SegmentLog) (l : Option OwnedLink) (x : Link) → IsWhole u → link_by_now u l ≡ Some x
     → is_later 0 x.holder ≡ true
 later_link u None x whole e = cc
 later_link u (Some l) x whole e = go (holder_of u l.owner) refl e
@@ -56,11 +56,11 @@ later_link u (Some l) x whole e = go (holder_of u l.owner) refl e
     go None f e = cc
     go (Some h) f e = ap (λ (z : Link). is_later 0 z.holder) (sym (some_inj _ _ e)) ∙ later_holder u l h whole.commits f
 
-none_at_zero : (h t : ℕ) (a : RecordAddress) → unended h (link_from (Open t) (Committed a 0)) ≡ None
+none_at_zero : (h t : ℕ) (a : RecordAddress) → link_above h (link_from (Open t) (Committed a 0)) ≡ None
 none_at_zero h t a = ap (λ b. cond b (link_from (Open t) (Committed a 0)) None) (le-ltb h 0 (omega arith))
 
 -- and so is what it follows to
-pub none_first : (u : SegmentLog) (l : Option OwnedLink) (o : Option Link) → IsWhole u → o ≡ followed u l
+pub none_first : (u : SegmentLog) (l : Option OwnedLink) (o : Option Link) → IsWhole u → o ≡ link_by_now u l
     → IfSome o (λ x. is_later 0 x.holder ≡ true)
 none_first u l None whole e = tt
 none_first u l (Some x) whole e = later_link u l x whole (sym e)

@@ -11,7 +11,7 @@ use Rattle.std.specs.FinMap.{IsAntisymmetric}
 use Rattle.oe_model.proofs.MapFacts.{is_same, is_self}
 use Rattle.oe_undo.specs.Places.{place_at, with_content}
 use Rattle.oe_undo.specs.declared.links.OwnedLink.{OwnedLink}
-use Rattle.oe_undo.specs.Tables.{LinkTable, numbered_at, with_number, is_not_above, SetsNumber}
+use Rattle.oe_undo.specs.Tables.{LinkTable, link_by_number, with_number, is_not_above, SetsNumber}
 
 module _ {X : Type 0} where
   set_here : (xs : List X) (n : ℕ) (x : X) → IsSome (slice_get xs n) → slice_get (set xs n x) n ≡ Some x
@@ -58,14 +58,14 @@ module _ {X : Type 0} where
   with_same (xs ∷ t) (suc s) n p e = ap (λ r. xs ∷ r) (with_same t s n p e)
 
 -- to put in what stands there changes nothing
-pub number_same : (t : LinkTable) (s : ℕ) (o : Option ℕ) (l : Option OwnedLink) → numbered_at t s o ≡ Some l
+pub number_same : (t : LinkTable) (s : ℕ) (o : Option ℕ) (l : Option OwnedLink) → link_by_number t s o ≡ Some l
     → with_number t s o l ≡ t
 number_same t s None l e = refl
 number_same t s (Some n) l e = with_same t s n l e
 
 -- a number that isn't above one with a place has one too
 pub not_above_placed : (t : LinkTable) (s : ℕ) (o : Option ℕ) (r : ℕ) (q : Option ℕ) → is_not_above s o r q ≡ true
-    → IsSome (numbered_at t s o) → IsSome (numbered_at t r q)
+    → IsSome (link_by_number t s o) → IsSome (link_by_number t r q)
 not_above_placed t s None r q h some = cc
 not_above_placed t s (Some n) r None h some = cc
 not_above_placed t s (Some n) r (Some m) h some = go (eqb s r) (leb m n) refl refl h
@@ -80,7 +80,7 @@ module _ {K : Type 0} {cmp : K → K → Ordering} (total : IsTotalOrder cmp) (e
     (numbered : (j k : K) (n : ℕ) → shelf_of j ≡ shelf_of k → number_of j ≡ Some n → number_of k ≡ Some n → j ≡ k) where
   -- a link put in a key's place is set there
   pub sets_number : (t : LinkTable) (own : K) (l : Option OwnedLink)
-      → IsSome (numbered_at t (shelf_of own) (number_of own))
+      → IsSome (link_by_number t (shelf_of own) (number_of own))
       → SetsNumber cmp shelf_of number_of t (with_number t (shelf_of own) (number_of own) l) own l
   sets_number t own l some k = by (number_of own) refl
     where
@@ -94,25 +94,26 @@ module _ {K : Type 0} {cmp : K → K → Ordering} (total : IsTotalOrder cmp) (e
           cc
 
       other : (n : ℕ) → number_of own ≡ Some n → eq_by_cmp cmp own k ≡ false → (o : Option ℕ) → number_of k ≡ o
-          → numbered_at (with_content t (shelf_of own) n l) (shelf_of k) o ≡ numbered_at t (shelf_of k) o
+          → link_by_number (with_content t (shelf_of own) n l) (shelf_of k) o ≡ link_by_number t (shelf_of k) o
       other n e q None r = refl
       other n e q (Some m) r = with_other t (shelf_of own) n (shelf_of k) m l (apart n m e r q)
 
       inner : (n : ℕ) → number_of own ≡ Some n → (b : Bool) → eq_by_cmp cmp own k ≡ b
-          → numbered_at (with_content t (shelf_of own) n l) (shelf_of k) (number_of k) ≡ cond b (Some l)
-          (numbered_at t (shelf_of k) (number_of k))
+          → link_by_number (with_content t (shelf_of own) n l) (shelf_of k) (number_of k) ≡ cond b (Some l)
+          (link_by_number t (shelf_of k) (number_of k))
       inner n e true q =
-          subst (λ j. numbered_at (with_content t (shelf_of own) n l) (shelf_of j) (number_of j) ≡ Some l)
+          subst (λ j. link_by_number (with_content t (shelf_of own) n l) (shelf_of j) (number_of j) ≡ Some l)
           (is_same total exact own k q)
-          (ap (numbered_at (with_content t (shelf_of own) n l) (shelf_of own)) e
-          ∙ with_here t (shelf_of own) n l (subst (λ o. IsSome (numbered_at t (shelf_of own) o)) e some))
+          (ap (link_by_number (with_content t (shelf_of own) n l) (shelf_of own)) e
+          ∙ with_here t (shelf_of own) n l (subst (λ o. IsSome (link_by_number t (shelf_of own) o)) e some))
       inner n e false q = other n e q (number_of k) refl
 
       by : (o : Option ℕ) → number_of own ≡ o
-          → numbered_at (with_number t (shelf_of own) (number_of own) l) (shelf_of k) (number_of k) ≡ cond
-          (eq_by_cmp cmp own k) (Some l) (numbered_at t (shelf_of k) (number_of k))
-      by None e = let no : IsSome {T = Option OwnedLink} None = subst (λ o. IsSome (numbered_at t (shelf_of own) o)) e
+          → link_by_number (with_number t (shelf_of own) (number_of own) l) (shelf_of k) (number_of k) ≡ cond
+          (eq_by_cmp cmp own k) (Some l) (link_by_number t (shelf_of k) (number_of k))
+      by None e = let no : IsSome {T = Option OwnedLink} None = subst
+          (λ o. IsSome (link_by_number t (shelf_of own) o)) e
           some in cc
       by (Some n) e =
-          ap (λ o. numbered_at (with_number t (shelf_of own) o l) (shelf_of k) (number_of k)) e
+          ap (λ o. link_by_number (with_number t (shelf_of own) o l) (shelf_of k) (number_of k)) e
           ∙ inner n e (eq_by_cmp cmp own k) refl

@@ -12,18 +12,20 @@ use Rattle.oe_requests.specs.declared.requests.Request.{Request}
 use Rattle.oe_requests.specs.declared.replies.Reply.{Reply}
 use Rattle.oe_log.specs.declared.heads.SegmentOwner.{SegmentOwner}
 use Rattle.oe_log.specs.Log.{SegmentLog, Open as OpenSegment, TerminalState, Committed as CommitSegment, idle}
-use Rattle.oe_log.specs.Log.{active_at, count_at, total_count, commits_of, with_active, sealed, with_newest, reopened}
+use Rattle.oe_log.specs.Log.{active_at, count_at, total_count, commits_of, with_active, after_seal, with_newest}
+use Rattle.oe_log.specs.Log.{with_reopening}
 use Rattle.oe_log.proofs.StateFacts.{known}
 use Rattle.oe_undo.specs.declared.holders.Link.{Link}
 use Rattle.oe_undo.specs.declared.holders.Holder.{Holder}
 use Rattle.oe_undo.specs.declared.holders.Holder.TheVariants.{Open, At}
-use Rattle.oe_undo.specs.Held.{held, of_key, horizon, is_later}
-use Rattle.oe_undo.specs.Chains.{IsForgotten, IsEnd, IsChain, AreChained, holder_sealed, holder_reopened, with_holder}
+use Rattle.oe_undo.specs.Held.{all_held, of_key, horizon, is_later}
+use Rattle.oe_undo.specs.Chains.{IsForgotten, IsEnd, IsChain, AreChained, holder_after_seal, holder_after_reopening}
+use Rattle.oe_undo.specs.Chains.{with_holder}
 use Rattle.oe_undo.specs.Laws.{IsWhole}
 use Rattle.oe_undo.proofs.CallFacts as calls
 use Rattle.oe_undo.specs.declared.links.OwnedLink.{OwnedLink}
-use Rattle.oe_undo.specs.Owners.{moments_of, holder_of, followed, IsOwner, AreOwned}
-use Rattle.oe_undo.specs.Undo.{unended}
+use Rattle.oe_undo.specs.Owners.{moments_of, holder_of, link_by_now, IsOwner, AreOwned}
+use Rattle.oe_undo.specs.Undo.{link_above}
 
 less_one : (n : ℕ) → suc n - 1 ≡ n
 less_one n = omega arith
@@ -171,7 +173,7 @@ made_holder u n made =
 -- where links' transactions are by another log, the links are followed so
 pub followed_by : (f : Holder → Holder) (u w : SegmentLog) (l : Option OwnedLink)
     → ((x : OwnedLink) → l ≡ Some x → holder_of w x.owner ≡ option_map f (holder_of u x.owner))
-    → followed w l ≡ with_holder f (followed u l)
+    → link_by_now w l ≡ with_holder f (link_by_now u l)
 followed_by f u w None each = refl
 followed_by f u w (Some x) each =
     ap (λ (o : Option Holder). option_map {T = Holder} (λ h. record { address = x.address; holder = h }) o)
@@ -184,7 +186,7 @@ followed_by f u w (Some x) each =
     go (Some h) = refl
 
 pub followed_same : (u w : SegmentLog) (l : Option OwnedLink) → ((n : SegmentOwner) → holder_of w n ≡ holder_of u n)
-    → followed w l ≡ followed u l
+    → link_by_now w l ≡ link_by_now u l
 followed_same u w None each = refl
 followed_same u w (Some x) each =
     ap (λ (o : Option Holder). option_map {T = Holder} (λ h. record { address = x.address; holder = h }) o)
@@ -225,7 +227,7 @@ total_kept u t a = calls.total_same u t (record { count = count_at u t; active =
 -- a link that is followed is no end
 no_end : (u : SegmentLog) (x : OwnedLink) (t i : ℕ) (b : Bool) (o : Option ℕ) → length u.committed ≤ total_count u
     → slice_get (moments_of t (total_count u) u.committed) i ≡ o
-    → unended (horizon u)
+    → link_above (horizon u)
     (option_map {T = Holder} (λ h. record { address = x.address; holder = h })
     (cond b (Some (Open t)) (option_map At o)))
     ≡ option_map {T = Holder} (λ h. record { address = x.address; holder = h })
@@ -238,7 +240,7 @@ no_end u x t i false (Some m) few e =
     (lt-ltb (horizon u) m high)
 
 pub followed_unended : (u : SegmentLog) (l : Option OwnedLink) → length u.committed ≤ total_count u
-    → unended (horizon u) (followed u l) ≡ followed u l
+    → link_above (horizon u) (link_by_now u l) ≡ link_by_now u l
 followed_unended u None few = refl
 followed_unended u (Some x) few =
     no_end u x x.owner.terminal (count_at u x.owner.terminal - x.owner.number)
@@ -251,12 +253,12 @@ pub chained_anew : (u : SegmentLog) (old new : Key → Option Link) → IsWhole 
     → ((k : Key) → (new k ≡ old k) ⊎ (IsEnd (horizon u) (old k) × (new k ≡ None))) → AreChained u new
 chained_anew u old new whole c same k =
     elim (same k) [
-      | inl e ↦ subst (λ l. IsChain (horizon u) l (of_key k (held u))) (sym e) (c k)
-      | inr ends ↦ subst (λ l. IsChain (horizon u) l (of_key k (held u))) (sym ends.1)
+      | inl e ↦ subst (λ l. IsChain (horizon u) l (of_key k (all_held u))) (sym e) (c k)
+      | inr ends ↦ subst (λ l. IsChain (horizon u) l (of_key k (all_held u))) (sym ends.1)
           (subst (IsChain (horizon u) None) (sym (calls.ends u old k whole c ends.0)) tt)
     ]
 
-unended_as : (h : ℕ) (l : Option Link) → (unended h l ≡ l) ⊎ (IsEnd h l × (unended h l ≡ None))
+unended_as : (h : ℕ) (l : Option Link) → (link_above h l ≡ l) ⊎ (IsEnd h l × (link_above h l ≡ None))
 unended_as h None = inl refl
 unended_as h (Some l) = go l.holder refl
   where
@@ -275,14 +277,14 @@ unended_as h (Some l) = go l.holder refl
         ]
 
 pub not_ended : (h : ℕ) (a : RecordAddress) (m : ℕ) → h < m
-    → unended h (Some (record { address = a; holder = At m })) ≡ Some (record { address = a; holder = At m })
+    → link_above h (Some (record { address = a; holder = At m })) ≡ Some (record { address = a; holder = At m })
 not_ended h a m later = cond-true (nat_lt h m) (Some (record { address = a; holder = At m })) None (lt-ltb h m later)
 
 pub ended : (h : ℕ) (a : RecordAddress) (m : ℕ) → m ≤ h
-    → unended h (Some (record { address = a; holder = At m })) ≡ None
+    → link_above h (Some (record { address = a; holder = At m })) ≡ None
 ended h a m done = cond-false (nat_lt h m) (Some (record { address = a; holder = At m })) None (le-ltb h m done)
 
-pub unended_or_end : (h : ℕ) (l x : Option Link) → x ≡ unended h l → (x ≡ l) ⊎ (IsEnd h l × (x ≡ None))
+pub unended_or_end : (h : ℕ) (l x : Option Link) → x ≡ link_above h l → (x ≡ l) ⊎ (IsEnd h l × (x ≡ None))
 unended_or_end h l x e =
     elim (unended_as h l) [
       | inl same ↦ inl (e ∙ same)
@@ -291,13 +293,13 @@ unended_or_end h l x e =
 
 -- ---- a commit
 
-kept_sealed : (t m : ℕ) (x : Option ℕ) → option_map At x ≡ option_map (holder_sealed t m) (option_map At x)
+kept_sealed : (t m : ℕ) (x : Option ℕ) → option_map At x ≡ option_map (holder_after_seal t m) (option_map At x)
 kept_sealed t m None = refl
 kept_sealed t m (Some v) = refl
 
 module _ (u : SegmentLog) (t : ℕ) (o : OpenSegment) (q : Request) (y : Reply) (is : active_at u t ≡ Some o) where
   abbrev after : SegmentLog
-  after = sealed u t q y
+  after = after_seal u t q y
 
   abbrev next : ℕ
   next = suc (total_count u)
@@ -344,7 +346,7 @@ module _ (u : SegmentLog) (t : ℕ) (o : OpenSegment) (q : Request) (y : Reply) 
   sealed_active s ne = ap (λ (z : TerminalState). z.active) (state_there s ne)
 
   own_sealed : (n : SegmentOwner) → IsOwner u n → n.terminal ≡ t
-      → holder_of after n ≡ option_map (holder_sealed t next) (holder_of u n)
+      → holder_of after n ≡ option_map (holder_after_seal t next) (holder_of u n)
   own_sealed n k e =
       let c = sealed_count n.terminal e in
       let few = k.number in
@@ -355,7 +357,7 @@ module _ (u : SegmentLog) (t : ℕ) (o : OpenSegment) (q : Request) (y : Reply) 
             ∙ ap (λ i. option_map At (slice_get (moments_of n.terminal (total_count after) after.committed) i)) first
             ∙ ap (λ xs. option_map At (slice_get xs 0)) (sealed_moments n.terminal e)
             ∙ ap Some (sym (cond-true (n.terminal == t) (At next) (Open n.terminal) (eq-eqb n.terminal t e)))
-            ∙ ap (option_map (holder_sealed t next)) (sym (opened_holder u n less))
+            ∙ ap (option_map (holder_after_seal t next)) (sym (opened_holder u n less))
         | inr made ↦
             let later : count_at after n.terminal - n.number ≡ suc (count_at u n.terminal - n.number) =
             omega (arith, c, made) in
@@ -364,11 +366,11 @@ module _ (u : SegmentLog) (t : ℕ) (o : OpenSegment) (q : Request) (y : Reply) 
             ∙ ap (λ xs. option_map At (slice_get xs (suc (count_at u n.terminal - n.number))))
             (sealed_moments n.terminal e)
             ∙ kept_sealed t next (rest n)
-            ∙ ap (option_map (holder_sealed t next)) (sym (made_holder u n made))
+            ∙ ap (option_map (holder_after_seal t next)) (sym (made_holder u n made))
       ]
 
   other_sealed : (n : SegmentOwner) → n.terminal ≢ t
-      → holder_of after n ≡ option_map (holder_sealed t next) (holder_of u n)
+      → holder_of after n ≡ option_map (holder_after_seal t next) (holder_of u n)
   other_sealed n ne =
       let c : count_at after n.terminal ≡ count_at u n.terminal = ap (λ (z : TerminalState). z.count)
       (state_there n.terminal ne) in
@@ -376,27 +378,27 @@ module _ (u : SegmentLog) (t : ℕ) (o : OpenSegment) (q : Request) (y : Reply) 
         | inl less ↦
             opened_holder after n (omega (arith, c, less))
             ∙ ap Some (sym (cond-false (n.terminal == t) (At next) (Open n.terminal) (ne_eqb n.terminal t ne)))
-            ∙ ap (option_map (holder_sealed t next)) (sym (opened_holder u n less))
+            ∙ ap (option_map (holder_after_seal t next)) (sym (opened_holder u n less))
         | inr made ↦
             made_holder after n (omega (arith, c, made))
             ∙ ap (λ i. option_map At
             (slice_get (moments_of n.terminal (total_count after) after.committed) (i - n.number))) c
             ∙ ap (λ xs. option_map At (slice_get xs (count_at u n.terminal - n.number))) (sealed_others n.terminal ne)
             ∙ kept_sealed t next (rest n)
-            ∙ ap (option_map (holder_sealed t next)) (sym (made_holder u n made))
+            ∙ ap (option_map (holder_after_seal t next)) (sym (made_holder u n made))
       ]
 
   pub sealed_chained : (links : Key → Option OwnedLink) → IsWhole u → AreOwned u links
-      → AreChained u (λ k. followed u (links k))
-      → AreChained after (λ k. followed after (links k))
+      → AreChained u (λ k. link_by_now u (links k))
+      → AreChained after (λ k. link_by_now after (links k))
   sealed_chained links whole owned c =
       let by : (n : SegmentOwner) → IsOwner u n
-      → holder_of after n ≡ option_map (holder_sealed t next) (holder_of u n) =
+      → holder_of after n ≡ option_map (holder_after_seal t next) (holder_of u n) =
       (λ n k. elim (cases_eq n.terminal t) [ inl e ↦ own_sealed n k e | inr ne ↦ other_sealed n ne ]) in
-      let all : ◌≡◌ {A = Key → Option Link} (λ k. followed after (links k))
-      (λ k. with_holder (holder_sealed t next) (followed u (links k))) =
-      fun_ext (λ k. followed_by (holder_sealed t next) u after (links k) (λ x e. by x.owner (owned k x e))) in
-      subst (AreChained after) (sym all) (calls.seals u (λ k. followed u (links k)) t o q y whole is c)
+      let all : ◌≡◌ {A = Key → Option Link} (λ k. link_by_now after (links k))
+      (λ k. with_holder (holder_after_seal t next) (link_by_now u (links k))) =
+      fun_ext (λ k. followed_by (holder_after_seal t next) u after (links k) (λ x e. by x.owner (owned k x e))) in
+      subst (AreChained after) (sym all) (calls.seals u (λ k. link_by_now u (links k)) t o q y whole is c)
 
   pub sealed_owned : (links : Key → Option OwnedLink) → AreOwned u links → AreOwned after links
   sealed_owned links owned k x e =
@@ -420,7 +422,7 @@ module _ (u : SegmentLog) (t : ℕ) (o : OpenSegment) (q : Request) (y : Reply) 
 -- ---- a commit opened again
 
 kept_reopened : (t m : ℕ) (x : Option ℕ) → ((v : ℕ) → x ≡ Some v → v < m)
-    → option_map At x ≡ option_map (holder_reopened t m) (option_map At x)
+    → option_map At x ≡ option_map (holder_after_reopening t m) (option_map At x)
 kept_reopened t m None low = refl
 kept_reopened t m (Some v) low =
     let less = low v refl in
@@ -430,7 +432,7 @@ module _ (u : SegmentLog) (c : CommitSegment) (cs : List CommitSegment) (are : u
     (some : 1 ≤ count_at u c.terminal)
     (closed : (t : ℕ) → active_at u t ≡ None) where
   abbrev back : SegmentLog
-  back = reopened u (c ∷ cs)
+  back = with_reopening u (c ∷ cs)
 
   abbrev state : TerminalState
   state = record {
@@ -496,7 +498,7 @@ module _ (u : SegmentLog) (c : CommitSegment) (cs : List CommitSegment) (are : u
       ]
 
   own_back : (n : SegmentOwner) → IsOwner u n → n.terminal ≡ c.terminal
-      → holder_of back n ≡ option_map (holder_reopened c.terminal (total_count u)) (holder_of u n)
+      → holder_of back n ≡ option_map (holder_after_reopening c.terminal (total_count u)) (holder_of u n)
   own_back n k e =
       let count = back_count n.terminal e in
       let made = was_made n k in
@@ -507,11 +509,11 @@ module _ (u : SegmentLog) (c : CommitSegment) (cs : List CommitSegment) (are : u
             ∙ ap (λ s. Some (Open s)) e
             ∙ ap Some (sym (cond-true (total_count u == total_count u) (Open c.terminal) (At (total_count u))
             (eq-eqb (total_count u) (total_count u) refl)))
-            ∙ ap (λ xs. option_map (holder_reopened c.terminal (total_count u)) (option_map At (slice_get xs 0)))
+            ∙ ap (λ xs. option_map (holder_after_reopening c.terminal (total_count u)) (option_map At (slice_get xs 0)))
             (sym (was_moments n.terminal e))
-            ∙ ap (λ i. option_map (holder_reopened c.terminal (total_count u))
+            ∙ ap (λ i. option_map (holder_after_reopening c.terminal (total_count u))
             (option_map At (slice_get (moments_of n.terminal (total_count u) u.committed) i))) (sym first)
-            ∙ ap (option_map (holder_reopened c.terminal (total_count u))) (sym (made_holder u n made))
+            ∙ ap (option_map (holder_after_reopening c.terminal (total_count u))) (sym (made_holder u n made))
         | inr older ↦
             let positive : 1 ≤ count_at u n.terminal = subst (λ s. 1 ≤ count_at u s) (sym e) some in
             let later : count_at u n.terminal - n.number ≡ suc (count_at back n.terminal - n.number) =
@@ -520,15 +522,15 @@ module _ (u : SegmentLog) (c : CommitSegment) (cs : List CommitSegment) (are : u
             ∙ kept_reopened c.terminal (total_count u)
             (slice_get (moments_of n.terminal (total_count back) back.committed) (count_at back n.terminal - n.number))
             (low_back n.terminal (count_at back n.terminal - n.number))
-            ∙ ap (λ xs. option_map (holder_reopened c.terminal (total_count u))
+            ∙ ap (λ xs. option_map (holder_after_reopening c.terminal (total_count u))
             (option_map At (slice_get xs (suc (count_at back n.terminal - n.number))))) (sym (was_moments n.terminal e))
-            ∙ ap (λ i. option_map (holder_reopened c.terminal (total_count u))
+            ∙ ap (λ i. option_map (holder_after_reopening c.terminal (total_count u))
             (option_map At (slice_get (moments_of n.terminal (total_count u) u.committed) i))) (sym later)
-            ∙ ap (option_map (holder_reopened c.terminal (total_count u))) (sym (made_holder u n made))
+            ∙ ap (option_map (holder_after_reopening c.terminal (total_count u))) (sym (made_holder u n made))
       ]
 
   other_back : (n : SegmentOwner) → IsOwner u n → n.terminal ≢ c.terminal
-      → holder_of back n ≡ option_map (holder_reopened c.terminal (total_count u)) (holder_of u n)
+      → holder_of back n ≡ option_map (holder_after_reopening c.terminal (total_count u)) (holder_of u n)
   other_back n k ne =
       let count : count_at back n.terminal ≡ count_at u n.terminal = ap (λ (z : TerminalState). z.count)
       (state_other n.terminal ne) in
@@ -537,26 +539,26 @@ module _ (u : SegmentLog) (c : CommitSegment) (cs : List CommitSegment) (are : u
       ∙ kept_reopened c.terminal (total_count u)
       (slice_get (moments_of n.terminal (total_count back) back.committed) (count_at back n.terminal - n.number))
       (low_back n.terminal (count_at back n.terminal - n.number))
-      ∙ ap (λ xs. option_map (holder_reopened c.terminal (total_count u))
+      ∙ ap (λ xs. option_map (holder_after_reopening c.terminal (total_count u))
       (option_map At (slice_get xs (count_at back n.terminal - n.number)))) (sym (was_others n.terminal ne))
-      ∙ ap (λ i. option_map (holder_reopened c.terminal (total_count u))
+      ∙ ap (λ i. option_map (holder_after_reopening c.terminal (total_count u))
       (option_map At (slice_get (moments_of n.terminal (total_count u) u.committed) (i - n.number)))) count
-      ∙ ap (option_map (holder_reopened c.terminal (total_count u))) (sym (made_holder u n made))
+      ∙ ap (option_map (holder_after_reopening c.terminal (total_count u))) (sym (made_holder u n made))
 
-  pub back_chained : (links : Key → Option OwnedLink) → AreOwned u links → AreChained u (λ k. followed u (links k))
-      → AreChained back (λ k. followed back (links k))
+  pub back_chained : (links : Key → Option OwnedLink) → AreOwned u links → AreChained u (λ k. link_by_now u (links k))
+      → AreChained back (λ k. link_by_now back (links k))
   back_chained links owned chained =
       let by : (n : SegmentOwner) → IsOwner u n
-      → holder_of back n ≡ option_map (holder_reopened c.terminal (total_count u)) (holder_of u n) =
+      → holder_of back n ≡ option_map (holder_after_reopening c.terminal (total_count u)) (holder_of u n) =
       (λ n k. elim (cases_eq n.terminal c.terminal) [ inl e ↦ own_back n k e | inr ne ↦ other_back n k ne ]) in
-      let all : ◌≡◌ {A = Key → Option Link} (λ k. followed back (links k))
-      (λ k. with_holder (holder_reopened c.terminal (total_count u)) (followed u (links k))) =
-      fun_ext (λ k. followed_by (holder_reopened c.terminal (total_count u)) u back (links k)
+      let all : ◌≡◌ {A = Key → Option Link} (λ k. link_by_now back (links k))
+      (λ k. with_holder (holder_after_reopening c.terminal (total_count u)) (link_by_now u (links k))) =
+      fun_ext (λ k. followed_by (holder_after_reopening c.terminal (total_count u)) u back (links k)
       (λ x e. by x.owner (owned k x e))) in
       subst (AreChained back) (sym all)
-      (subst (λ z. AreChained (reopened u z)
-      (λ k. with_holder (holder_reopened c.terminal (total_count u)) (followed u (links k)))) are
-      (calls.reopens u (λ k. followed u (links k)) c cs whole are some closed chained))
+      (subst (λ z. AreChained (with_reopening u z)
+      (λ k. with_holder (holder_after_reopening c.terminal (total_count u)) (link_by_now u (links k)))) are
+      (calls.reopens u (λ k. link_by_now u (links k)) c cs whole are some closed chained))
 
   pub back_owned : (links : Key → Option OwnedLink) → AreOwned u links → AreOwned back links
   back_owned links owned k x e =
@@ -619,8 +621,8 @@ forgotten_later h k (Open t) le f = f
 forgotten_later h k (At m) le f = omega (arith, le, f)
 
 newest_followed : (u : SegmentLog) (n : ℕ) (l : Option OwnedLink)
-    → (followed (with_newest n u) l ≡ followed u l)
-    ⊎ (IsEnd (total_count u - n) (followed u l) × (followed (with_newest n u) l ≡ None))
+    → (link_by_now (with_newest n u) l ≡ link_by_now u l)
+    ⊎ (IsEnd (total_count u - n) (link_by_now u l) × (link_by_now (with_newest n u) l ≡ None))
 newest_followed u n None = inl refl
 newest_followed u n (Some x) =
     elim (newest_holder u n x.owner) [
@@ -645,17 +647,17 @@ newest_followed u n (Some x) =
         (option_map {T = Holder} (λ h. record { address = x.address; holder = h }) o)) (sym e) (each h e)
 
 pub newest_chained : (u : SegmentLog) (links : Key → Option OwnedLink) (n : ℕ) → IsWhole u → n ≤ length u.committed
-    → AreChained u (λ k. followed u (links k))
-    → AreChained (with_newest n u) (λ k. followed (with_newest n u) (links k))
+    → AreChained u (λ k. link_by_now u (links k))
+    → AreChained (with_newest n u) (λ k. link_by_now (with_newest n u) (links k))
 newest_chained u links n whole few c =
     let size : length (take n u.committed) ≡ n = length-take-le n u.committed few in
     let all = whole.commits in
     let horizon_is : total_count u - n ≡ horizon (with_newest n u) = omega (arith, size) in
     let left : IsWhole (with_newest n u) =
     record { terminals = whole.terminals; commits = omega (arith, size, few, all) } in
-    chained_anew (with_newest n u) (λ k. followed u (links k)) (λ k. followed (with_newest n u) (links k)) left
-    (calls.purges u (λ k. followed u (links k)) n c)
+    chained_anew (with_newest n u) (λ k. link_by_now u (links k)) (λ k. link_by_now (with_newest n u) (links k)) left
+    (calls.purges u (λ k. link_by_now u (links k)) n c)
     (λ k. elim (newest_followed u n (links k)) [
       | inl e ↦ inl e
-      | inr ends ↦ inr (subst (λ h. IsEnd h (followed u (links k))) horizon_is ends.0, ends.1)
+      | inr ends ↦ inr (subst (λ h. IsEnd h (link_by_now u (links k))) horizon_is ends.0, ends.1)
     ])

@@ -7,7 +7,7 @@ use Rattle.std.proofs.lemmas.List.{length-set, length-append, length-replicate, 
 use Rattle.std.proofs.lemmas.List.Sums.{sum_by-cons, sum_by-append, sum_by-set, count_by-le-length}
 use Rattle.std.proofs.lemmas.Option.{none-some, same_Some, slice_get_past}
 use Rattle.oe_undo.specs.Shelf.{spread, content_in}
-use Rattle.oe_undo.specs.ShelfPieces.{stands_at, content_of, numbered, IsEmptyFrom, ArePieces}
+use Rattle.oe_undo.specs.ShelfPieces.{stands_at, content_of, places_by_number, IsEmptyFrom, ArePieces}
 use Rattle.oe_undo.proofs.ByNumberFacts.{by_number_in}
 use Rattle.oe_undo.proofs.SpreadFacts.{padded, content-spread}
 
@@ -83,7 +83,7 @@ module _ {X : Type 0} where
   -- what is read is the content of a place in the list
   pub content_seen : (starts seen : List (Option ℕ)) (met shown : List (Option X)) (count n : ℕ) → seen ≡ starts
       → shown ≡ met → IsEmptyFrom count starts met
-      → content_of seen shown n ≡ content_in (slice_get (numbered count starts met) n)
+      → content_of seen shown n ≡ content_in (slice_get (places_by_number count starts met) n)
   content_seen starts seen met shown count n e f bare =
       ap (λ s. content_of s shown n) e ∙ ap (λ m. content_of starts m n) f
       ∙ by_number_in (content_of starts met) count n bare

@@ -7,13 +7,13 @@ use Rattle.oe_rows.specs.declared.rows.Row.{Row}
 use Rattle.oe_model.specs.Changes.{Record, restore}
 use Rattle.oe_layout.specs.declared.links.RecordAddress.{RecordAddress}
 use Rattle.oe_layout.specs.declared.links.Previous.{Previous}
-use Rattle.oe_log.specs.Records.{Logged, logged, IsAmong, HasAddress, IsRecordAt}
+use Rattle.oe_log.specs.Records.{Logged, log_entry, IsAmong, HasAddress, IsRecordAt}
 use Rattle.oe_log.specs.Log.{SegmentLog}
 use Rattle.oe_undo.specs.declared.holders.Link.{Link}
 use Rattle.oe_undo.specs.Held.{is_later}
 use Rattle.oe_undo.specs.Chains.{link_from}
 use Rattle.oe_undo.specs.Walks.{records_by, leads_later, Walks, Ends, Reads}
-use Rattle.oe_log.specs.Ticks.{ticked}
+use Rattle.oe_log.specs.Ticks.{ticks_with}
 
 -- ---- records at an address
 
@@ -35,7 +35,7 @@ passes a f [] = false
 passes a f (r ∷ rs) = (is_address a r.address && f r.previous) || passes a f rs
 
 passes_among : (a : RecordAddress) (f : Previous → Bool) (p : Previous) (b : Record) (rs : List Logged)
-    → IsAmong (logged a p b) rs → f p ≡ true
+    → IsAmong (log_entry a p b) rs → f p ≡ true
     → passes a f rs ≡ true
 passes_among a f p b [] there e = absurd there
 passes_among a f p b (r ∷ rs) (inl same) e =
@@ -54,7 +54,7 @@ told_passes a f told (r ∷ rs) at e =
     elim (or_cases (is_address a r.address && f r.previous) (passes a f rs) e) [
       | inl q ↦
           let parts = and_parts (is_address a r.address) (f r.previous) q in
-          let here : r ≡ logged a r.previous r.before =
+          let here : r ≡ log_entry a r.previous r.before =
           λ i. record {
             address = sym (same_address a r.address parts.0) i;
             previous = r.previous;
@@ -101,7 +101,7 @@ pub record Goes (u : SegmentLog) (m all : ℕ) (past : Option Row) (before : ℕ
   pub left : ℕ
   pub few : left ≤ all
   pub walks : Walks u m l row left past
-  pub counted : ticked now left ≡ ticked before all
+  pub counted : ticks_with now left ≡ ticks_with before all
   pub fits : now < 2 ^ 64
 
 -- the first read of a walk, and what follows it
@@ -110,7 +110,7 @@ record First (u : SegmentLog) (m : ℕ) (l : Link) (row : Option Row) (left : �
   pub record_there : Record
   pub rest : ℕ
   pub one : left ≡ suc rest
-  pub there : IsAmong (logged l.address previous record_there) (records_by u l.holder)
+  pub there : IsAmong (log_entry l.address previous record_there) (records_by u l.holder)
   pub walks : Walks u m (link_from l.holder previous) (restore record_there row) rest past
 
 ticked_on : (top before n now : ℕ) → now ≡ min (before + 1) top → min (now + n) top ≡ min (before + suc n) top
@@ -139,7 +139,7 @@ module _ (u : SegmentLog) (m : ℕ) where
     pub goes_first : (l : Option Link) (row : Option Row) (now : ℕ) → Walks u m l row all past → now ≡ before
         → now < 2 ^ 64 → GoesFrom l row now
     goes_first l row now w e fits =
-        record { left = all; few = omega arith; walks = w; counted = ap (λ z. ticked z all) e; fits = fits }
+        record { left = all; few = omega arith; walks = w; counted = ap (λ z. ticks_with z all) e; fits = fits }
 
     at_link : (o : Option Link) (l : Link) (row : Option Row) (now : ℕ) → o ≡ Some l → GoesFrom o row now
         → GoesFrom (Some l) row now
@@ -156,7 +156,7 @@ module _ (u : SegmentLog) (m : ℕ) where
 
     goes_from : (l : Link) (row : Option Row) (now next : ℕ) (told : Previous × Record)
         → is_later m l.holder ≡ true → GoesFrom (Some l) row now
-        → IsRecordAt (records_by u l.holder) l.address told → next ≡ ticked now 1
+        → IsRecordAt (records_by u l.holder) l.address told → next ≡ ticks_with now 1
         → GoesFrom (link_from l.holder told.0) (restore told.1 row) next
     goes_from l row now next told later g at e =
         let f = first_read l row g.left past later g.walks in
@@ -166,7 +166,7 @@ module _ (u : SegmentLog) (m : ℕ) where
           few = omega (arith, g.few, f.one);
           walks = subst (λ (x : Previous × Record). Walks u m (link_from l.holder x.0) (restore x.1 row) f.rest past)
               (sym same) f.walks;
-          counted = ticked_on (2 ^ 64 - 1) now f.rest next e ∙ ap (ticked now) (sym f.one) ∙ g.counted;
+          counted = ticked_on (2 ^ 64 - 1) now f.rest next e ∙ ap (ticks_with now) (sym f.one) ∙ g.counted;
           fits = omega (arith, e);
         }
 
@@ -176,7 +176,7 @@ module _ (u : SegmentLog) (m : ℕ) where
         → reads_left u m all (link_from l.holder told.0) < reads_left u m all (Some l)
     unfolding reads_left
     fewer_from l row now told later g at =
-        let then = goes_from l row now (ticked now 1) told later g at refl in
+        let then = goes_from l row now (ticks_with now 1) told later g at refl in
         let below = least_below all then.left (λ i. can_end u m (suc i) (Some l))
         (λ i. can_end u m i (link_from l.holder told.0))
         (λ i e. told_passes l.address (λ p. can_end u m i (link_from l.holder p)) told (records_by u l.holder) at e)
@@ -187,7 +187,7 @@ module _ (u : SegmentLog) (m : ℕ) where
     pub goes_on : (o : Option Link) (l : Link) (row left : Option Row) (now next : ℕ) (p : Previous) (b : Record)
         (after : Option Link) → o ≡ Some l
         → is_later m l.holder ≡ true → GoesFrom o row now → IsRecordAt (records_by u l.holder) l.address (p, b)
-        → left ≡ restore b row → next ≡ ticked now 1
+        → left ≡ restore b row → next ≡ ticks_with now 1
         → after ≡ link_from l.holder p → GoesFrom after left next
     goes_on o l row left now next p b after e later g at put tick a =
         subst (λ x. GoesFrom x left next) (sym a)
@@ -204,8 +204,8 @@ module _ (u : SegmentLog) (m : ℕ) where
 
     -- a link to no later holder is the walk's end
     ended : (l : Option Link) (row : Option Row) (n now : ℕ) → leads_later m l ≡ false → Walks u m l row n past
-        → ticked now n ≡ ticked before all → now < 2 ^ 64
-        → (row ≡ past) × (now ≡ ticked before all)
+        → ticks_with now n ≡ ticks_with before all → now < 2 ^ 64
+        → (row ≡ past) × (now ≡ ticks_with before all)
     ended l row _ now e (Ends _ _ _) counted fits = (refl, omega (arith, counted, fits))
     ended _ row _ now e (Reads a h p b _ n _ later there w) counted fits = absurd (both_ways (is_later m h) e later)
 
@@ -214,5 +214,5 @@ module _ (u : SegmentLog) (m : ℕ) where
     finds l row now e g = (ended l row g.left now e g.walks g.counted g.fits).0
 
     pub counts : (l : Option Link) (row : Option Row) (now : ℕ) → leads_later m l ≡ false → GoesFrom l row now
-        → now ≡ ticked before all
+        → now ≡ ticks_with before all
     counts l row now e g = (ended l row g.left now e g.walks g.counted g.fits).1

@@ -12,7 +12,7 @@ use Rattle.oe_log.specs.Stands.{model_records}
 use Rattle.oe_undo.specs.declared.holders.Link.{Link}
 use Rattle.oe_undo.specs.declared.holders.Holder.{Holder}
 use Rattle.oe_undo.specs.declared.holders.Holder.TheVariants.{Open, At}
-use Rattle.oe_undo.specs.Held.{Held, held, of_key, horizon, is_later}
+use Rattle.oe_undo.specs.Held.{Held, all_held, of_key, horizon, is_later}
 
 -- the link that leads to a record
 abbrev pub link_to : Held → Link
@@ -77,30 +77,30 @@ IsChain h l (r ∷ rs) = IsMet l r × IsChain h (link_from r.holder r.logged.pre
 
 -- each key's link leads along all records of the key
 abbrev pub AreChained : SegmentLog → (Key → Option Link) → Type 0
-AreChained u links = (k : Key) → IsChain (horizon u) (links k) (of_key k (held u))
+AreChained u links = (k : Key) → IsChain (horizon u) (links k) (of_key k (all_held u))
 
 -- ---- the walk along a chain
 
 -- the records that are read: they end at the first that is not later than the moment
-abbrev pub walked : ℕ → List Held → List Record
-walked m [] = []
-walked m (r ∷ rs) = cond (is_later m r.holder) (r.logged.before ∷ walked m rs) []
+abbrev pub records_after : ℕ → List Held → List Record
+records_after m [] = []
+records_after m (r ∷ rs) = cond (is_later m r.holder) (r.logged.before ∷ records_after m rs) []
 
 -- ---- links
 
 -- the key's link is this
-abbrev pub linked : (Key → Option Link) → Key → Option Link → Key → Option Link
-linked links k l j = cond (is_key k j) l (links j)
+abbrev pub with_link : (Key → Option Link) → Key → Option Link → Key → Option Link
+with_link links k l j = cond (is_key k j) l (links j)
 
 -- a commit of the terminal at this moment
-abbrev pub holder_sealed : ℕ → ℕ → Holder → Holder
-holder_sealed t m (Open s) = cond (s == t) (At m) (Open s)
-holder_sealed t m (At n) = At n
+abbrev pub holder_after_seal : ℕ → ℕ → Holder → Holder
+holder_after_seal t m (Open s) = cond (s == t) (At m) (Open s)
+holder_after_seal t m (At n) = At n
 
 -- the commit at this moment is the terminal's open transaction again
-abbrev pub holder_reopened : ℕ → ℕ → Holder → Holder
-holder_reopened t m (Open s) = Open s
-holder_reopened t m (At n) = cond (n == m) (Open t) (At n)
+abbrev pub holder_after_reopening : ℕ → ℕ → Holder → Holder
+holder_after_reopening t m (Open s) = Open s
+holder_after_reopening t m (At n) = cond (n == m) (Open t) (At n)
 
 abbrev pub with_holder : (Holder → Holder) → Option Link → Option Link
 with_holder f None = None

@@ -30,8 +30,8 @@ held_commits m [] = []
 held_commits m (c ∷ cs) = held_by (At m) c.records ++ held_commits (m - 1) cs
 
 -- all records of a log
-abbrev pub held : SegmentLog → List Held
-held u = held_open (records_at u) (all_below system terminal_limit) ++ held_commits (total_count u) u.committed
+abbrev pub all_held : SegmentLog → List Held
+all_held u = held_open (records_at u) (all_below system terminal_limit) ++ held_commits (total_count u) u.committed
 
 -- the records of the key
 abbrev pub of_key : Key → List Held → List Held

@@ -13,7 +13,7 @@ use Rattle.oe_undo.specs.declared.links.OwnedLink.{OwnedLink}
 use Rattle.oe_undo.specs.Numbers.{warehouse_number, district_number, customer_number, new_order_number, order_number}
 use Rattle.oe_undo.specs.Numbers.{order_line_number, item_number, stock_number}
 pub use Rattle.oe_undo.specs.Tables.{link_in}
-use Rattle.oe_undo.specs.Tables.{LinkTable, numbered_at, with_number, is_not_above}
+use Rattle.oe_undo.specs.Tables.{LinkTable, link_by_number, with_number, is_not_above}
 
 -- the links by table: of each key that has a place, its link, if it has one
 pub record LinkMaps : Type 0 where
@@ -29,15 +29,16 @@ pub record LinkMaps : Type 0 where
 
 -- what stands at a key: nothing, an empty place, or a link
 abbrev pub place_of : LinkMaps → Key → Option (Option OwnedLink)
-place_of m (key.Warehouse k) = numbered_at m.warehouses 0 (warehouse_number k)
-place_of m (key.District k) = numbered_at m.districts 0 (district_number k)
-place_of m (key.Customer k) = numbered_at m.customers (district_shelf k.warehouse k.district) (customer_number k)
+place_of m (key.Warehouse k) = link_by_number m.warehouses 0 (warehouse_number k)
+place_of m (key.District k) = link_by_number m.districts 0 (district_number k)
+place_of m (key.Customer k) = link_by_number m.customers (district_shelf k.warehouse k.district) (customer_number k)
 place_of m (key.History k) = get m.histories k
-place_of m (key.NewOrder k) = numbered_at m.new_orders (district_shelf k.warehouse k.district) (new_order_number k)
-place_of m (key.Order k) = numbered_at m.orders (district_shelf k.warehouse k.district) (order_number k)
-place_of m (key.OrderLine k) = numbered_at m.order_lines (district_shelf k.warehouse k.district) (order_line_number k)
-place_of m (key.Item k) = numbered_at m.items 0 (item_number k)
-place_of m (key.Stock k) = numbered_at m.stocks k.warehouse (stock_number k)
+place_of m (key.NewOrder k) = link_by_number m.new_orders (district_shelf k.warehouse k.district) (new_order_number k)
+place_of m (key.Order k) = link_by_number m.orders (district_shelf k.warehouse k.district) (order_number k)
+place_of m (key.OrderLine k) = link_by_number m.order_lines (district_shelf k.warehouse k.district)
+    (order_line_number k)
+place_of m (key.Item k) = link_by_number m.items 0 (item_number k)
+place_of m (key.Stock k) = link_by_number m.stocks k.warehouse (stock_number k)
 
 -- the key has a place for a link
 abbrev pub HasPlace : LinkMaps → Key → Type 0

@@ -25,9 +25,9 @@ holder_of u o =
     (option_map At (slice_get (moments_of o.terminal (total_count u) u.committed) (count_at u o.terminal - o.number)))
 
 -- the link with what became of its transaction by now
-abbrev pub followed : SegmentLog → Option OwnedLink → Option Link
-followed u None = None
-followed u (Some l) = option_map (λ h. record { address = l.address; holder = h }) (holder_of u l.owner)
+abbrev pub link_by_now : SegmentLog → Option OwnedLink → Option Link
+link_by_now u None = None
+link_by_now u (Some l) = option_map (λ h. record { address = l.address; holder = h }) (holder_of u l.owner)
 
 -- the transaction that a terminal has open, or begins next
 abbrev pub next_owner : SegmentLog → ℕ → SegmentOwner
@@ -76,6 +76,6 @@ pub record AreMoments (u : SegmentLog) (ms : List MomentList) : Type 0 where
 
 -- the links and the moments beside a log
 pub record IsLinked (u : SegmentLog) (links : Key → Option OwnedLink) (ms : List MomentList) : Type 0 where
-  pub chained : AreChained u (λ k. followed u (links k))
+  pub chained : AreChained u (λ k. link_by_now u (links k))
   pub owned : AreOwned u links
   pub moments : AreMoments u ms

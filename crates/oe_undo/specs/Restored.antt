@@ -15,6 +15,6 @@ has_later m [] = false
 has_later m (r ∷ rs) = cond (is_later m r.holder) true (has_later m rs)
 
 -- the row before the changes of these records, the newest first, by the row that stands
-abbrev pub restored : List Record → Option Row → Option Row
-restored [] now = now
-restored (b ∷ bs) now = restored bs (restore b now)
+abbrev pub row_before : List Record → Option Row → Option Row
+row_before [] now = now
+row_before (b ∷ bs) now = row_before bs (restore b now)

@@ -14,8 +14,8 @@ module _ {X : Type 0} where
   content_of starts met n = option_and_then (λ at. content_in (slice_get met at)) (stands_at starts n)
 
   -- the places, by their numbers
-  abbrev pub numbered : ℕ → List (Option ℕ) → List (Option X) → List (Option X)
-  numbered count starts met = map (content_of starts met) (range_with_len 0 count)
+  abbrev pub places_by_number : ℕ → List (Option ℕ) → List (Option X) → List (Option X)
+  places_by_number count starts met = map (content_of starts met) (range_with_len 0 count)
 
   -- the places of number n and above are empty
   abbrev pub IsEmptyFrom : ℕ → List (Option ℕ) → List (Option X) → Type 0

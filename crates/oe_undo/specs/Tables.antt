@@ -15,9 +15,9 @@ abbrev pub link_in : Option (Option OwnedLink) → Option OwnedLink
 link_in p = content_in p
 
 -- what stands at a number of a shelf; nothing at no number
-abbrev pub numbered_at : LinkTable → ℕ → Option ℕ → Option (Option OwnedLink)
-numbered_at t s None = None
-numbered_at t s (Some n) = place_at t s n
+abbrev pub link_by_number : LinkTable → ℕ → Option ℕ → Option (Option OwnedLink)
+link_by_number t s None = None
+link_by_number t s (Some n) = place_at t s n
 
 -- the place at a number of a shelf has this link, or is empty
 abbrev pub with_number : LinkTable → ℕ → Option ℕ → Option OwnedLink → LinkTable
@@ -33,7 +33,7 @@ is_not_above s (Some n) t None = false
 module _ {K : Type 0} (shelf_of : K → ℕ) (number_of : K → Option ℕ) where
   -- what stands at a key
   abbrev pub key_place : LinkTable → K → Option (Option OwnedLink)
-  key_place t k = numbered_at t (shelf_of k) (number_of k)
+  key_place t k = link_by_number t (shelf_of k) (number_of k)
 
   -- each key of the shelf up to this one has a place, which is empty where there was none
   abbrev pub GivesNumbers : LinkTable → LinkTable → K → Type 0

@@ -5,7 +5,7 @@ use Rattle.oe_rows.specs.declared.rows.Row.{Row}
 use Rattle.oe_model.specs.Changes.{Record, restore}
 use Rattle.oe_layout.specs.declared.links.RecordAddress.{RecordAddress}
 use Rattle.oe_layout.specs.declared.links.Previous.{Previous}
-use Rattle.oe_log.specs.Records.{Logged, logged, IsAmong}
+use Rattle.oe_log.specs.Records.{Logged, log_entry, IsAmong}
 use Rattle.oe_log.specs.Log.{SegmentLog, records_at, committed_records, total_count}
 use Rattle.oe_undo.specs.declared.holders.Link.{Link}
 use Rattle.oe_undo.specs.declared.holders.Holder.{Holder}
@@ -27,6 +27,6 @@ leads_later m (Some l) = is_later m l.holder
 pub data Walks (u : SegmentLog) (m : ℕ) : Option Link → Option Row → ℕ → Option Row → Type 0 where
   Ends : (l : Option Link) (now : Option Row) → leads_later m l ≡ false → Walks u m l now 0 now
   Reads : (a : RecordAddress) (h : Holder) (p : Previous) (b : Record) (now : Option Row) (n : ℕ) (past : Option Row)
-      → is_later m h ≡ true → IsAmong (logged a p b) (records_by u h)
+      → is_later m h ≡ true → IsAmong (log_entry a p b) (records_by u h)
       → Walks u m (link_from h p) (restore b now) n past
       → Walks u m (Some (record { address = a; holder = h })) now (suc n) past

@@ -1,6 +1,6 @@
 //! Commits: their moments, and their segments given up or opened again. No link changes.
 ghost use Rattle.std.specs.Prelude.{◌≡◌, ◌+◌, ◌-◌, ℕ, length, slice_get, option_map, None, IsSome};
-ghost use Rattle.oe_log.specs.Log.{active_at, total_count, owner_of, sealed, with_newest, reopened};
+ghost use Rattle.oe_log.specs.Log.{active_at, total_count, owner_of, after_seal, with_newest, with_reopening};
 
 use crate::undo::Undo;
 use oe_log::{Segment, SegmentOwner};
@@ -21,7 +21,7 @@ impl Undo {
     ) -> Moment
         requires { IsSome (active_at self.old.log segment) }
         ensures sealed { self.new.log
-            ≡ sealed self.old.log segment request.value reply.value }
+            ≡ after_seal self.old.log segment request.value reply.value }
         ensures moment { result ≡ total_count self.old.log + 1 }
         ensures links { self.new.links ≡ self.old.links }
     {
@@ -57,7 +57,7 @@ impl Undo {
         requires { (t : ℕ) → active_at self.old.log t ≡ None }
         ensures segment { result
             ≡ option_map (λ c. c.terminal) (slice_get self.old.log.committed 0) }
-        ensures reopened { self.new.log ≡ reopened self.old.log self.old.log.committed }
+        ensures reopened { self.new.log ≡ with_reopening self.old.log self.old.log.committed }
         ensures links { self.new.links ≡ self.old.links }
     {
         self.is_chained();

@@ -8,12 +8,12 @@ ghost use Rattle.oe_model.specs.Lengths.{record_length};
 ghost use Rattle.oe_layout.specs.Records.{record_of_lent, record_of_own, IsOfLayout};
 ghost use Rattle.oe_layout.specs.declared.links.Previous.TheVariants.{Nothing};
 ghost use Rattle.oe_log.specs.Records.{newest_of};
-ghost use Rattle.oe_log.specs.Log.{IsFull, active_at, records_at, popped};
+ghost use Rattle.oe_log.specs.Log.{IsFull, active_at, records_at, without_newest};
 ghost use Rattle.oe_undo.specs.Chains.{link_from, previous_of, IsAlone};
 ghost use Rattle.oe_undo.specs.Held.{is_later};
 ghost use Rattle.oe_undo.specs.Links.{place_of};
 ghost use Rattle.oe_undo.specs.declared.holders.Holder.TheVariants.{Open};
-ghost use Rattle.oe_undo.specs.Undo.{seen, HasPushed, IsUnpushed, GivesBack};
+ghost use Rattle.oe_undo.specs.Undo.{link_seen, HasPushed, IsUnpushed, GivesBack};
 
 use crate::holders::{Link, previous_of};
 use crate::links::OwnedLink;
@@ -67,7 +67,7 @@ impl Undo {
             (record_key (record_of_lent lent.old.record)) }
         requires layout { IsOfLayout self.old.log.layout (record_of_lent lent.old.record) }
         ensures linked { link_from (Open segment) lent.new.previous
-            ≡ seen self.old (record_key (record_of_lent lent.old.record)) }
+            ≡ link_seen self.old (record_key (record_of_lent lent.old.record)) }
         ensures record { lent.new.record ≡ lent.old.record }
         ensures pushed { OnOk result
             (HasPushed self.old self.new segment lent.new.previous
@@ -135,7 +135,7 @@ impl Undo {
     #[inline(never)]
     pub fn pop(&mut self, segment: Segment)
         requires { IsSome (active_at self.old.log segment) }
-        ensures log { self.new.log ≡ popped self.old.log segment }
+        ensures log { self.new.log ≡ without_newest self.old.log segment }
         ensures links { GivesBack self.old self.new segment (records_at self.old.log segment) }
     {
         let _taken = self.take_newest(segment);
@@ -147,7 +147,7 @@ impl Undo {
         requires { IsSome (active_at self.old.log segment) }
         ensures newest { option_map record_of_own result
             ≡ option_map (λ x. x.1) (newest_of (records_at self.old.log segment)) }
-        ensures log { self.new.log ≡ popped self.old.log segment }
+        ensures log { self.new.log ≡ without_newest self.old.log segment }
         ensures links { GivesBack self.old self.new segment (records_at self.old.log segment) }
     {
         self.is_chained();

@@ -29,11 +29,11 @@ pub(crate) struct PlaceShelf<T> {
 impl<T> Model for PlaceShelf<T> {
     ghost use Rattle.std.specs.Prelude.{List, Option};
     ghost use Rattle.std.specs.Prelude.{◌≤◌, ◌*◌, length, vec_capacity};
-    ghost use Rattle.oe_undo.specs.ShelfPieces.{ArePieces, IsEmptyFrom, numbered};
+    ghost use Rattle.oe_undo.specs.ShelfPieces.{ArePieces, IsEmptyFrom, places_by_number};
 
     ghost Value = { List (Option T) };
 
-    ghost view = { λ s. numbered s.count s.starts.items s.met.items };
+    ghost view = { λ s. places_by_number s.count s.starts.items s.met.items };
 
     ghost invariant = { λ s. ArePieces s.starts.items s.met.items
         × IsEmptyFrom s.count s.starts.items s.met.items

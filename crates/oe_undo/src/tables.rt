@@ -4,7 +4,7 @@ ghost use Rattle.std.specs.Prelude.{◌≡◌, None, IsSome, Option, OnOk, OnErr
 ghost use Rattle.std.specs.Borrow.{sem};
 ghost use Rattle.std.specs.Option.{option_copied_mut};
 ghost use Rattle.oe_undo.specs.declared.links.OwnedLink.{OwnedLink};
-ghost use Rattle.oe_undo.specs.Tables.{numbered_at, link_in, SetsNumber, GivesNumbers, InsertsNumber};
+ghost use Rattle.oe_undo.specs.Tables.{link_by_number, link_in, SetsNumber, GivesNumbers, InsertsNumber};
 ghost use Rattle.oe_undo.specs.TablesLend.{lends_number};
 
 use crate::links::OwnedLink;
@@ -15,7 +15,7 @@ use oe_values::NoMemory;
 /// Gives the link of a key, if it has one.
 #[inline(always)]
 pub(crate) fn link_in<K: NumberedKey>(links: &Places<OwnedLink>, key: &K) -> Option<OwnedLink>
-    ensures { result ≡ link_in (numbered_at links.now (K.shelf_of key.now) (K.number_of key.now)) }
+    ensures { result ≡ link_in (link_by_number links.now (K.shelf_of key.now) (K.number_of key.now)) }
 {
     links.content(key.shelf(), key.number())
 }
@@ -29,7 +29,7 @@ pub(crate) fn place_in<'a, K: NumberedKey>(
     ensures* writes_back { sem 𝓛
         (lends_number links.entry (K.shelf_of key.now) (K.number_of key.now) result) }
     ensures place { option_copied_mut result
-        ≡ numbered_at links.old (K.shelf_of key.now) (K.number_of key.now) }
+        ≡ link_by_number links.old (K.shelf_of key.now) (K.number_of key.now) }
 {
     links.place_mut(key.shelf(), key.number())
 }
@@ -39,9 +39,9 @@ pub(crate) fn reach<K: NumberedKey>(links: &mut Places<OwnedLink>, key: &K) -> R
     ensures given { OnOk result
         (GivesNumbers K.shelf_of K.number_of links.old links.new key.now) }
     ensures own { OnOk result
-        (IsSome (numbered_at links.new (K.shelf_of key.now) (K.number_of key.now))) }
+        (IsSome (link_by_number links.new (K.shelf_of key.now) (K.number_of key.now))) }
     ensures no_place { OnErr result
-        (numbered_at links.old (K.shelf_of key.now) (K.number_of key.now) ≡ None) }
+        (link_by_number links.old (K.shelf_of key.now) (K.number_of key.now) ≡ None) }
     ensures err { OnErr result (links.new ≡ links.old) }
 {
     links.reach(key.shelf(), key.number())
@@ -50,7 +50,7 @@ pub(crate) fn reach<K: NumberedKey>(links: &mut Places<OwnedLink>, key: &K) -> R
 /// Sets the link in a key's place.
 #[inline(always)]
 pub(crate) fn set<K: NumberedKey>(links: &mut Places<OwnedLink>, key: &K, link: Option<OwnedLink>)
-    requires { IsSome (numbered_at links.old (K.shelf_of key.now) (K.number_of key.now)) }
+    requires { IsSome (link_by_number links.old (K.shelf_of key.now) (K.number_of key.now)) }
     ensures { SetsNumber K.cmp K.shelf_of K.number_of links.old links.new key.now link }
 {
     let place = place_in(links, key).unwrap();

@@ -3,14 +3,14 @@
 ghost use Rattle.std.specs.Prelude.{◌≡◌, ◌<◌, [], None, IsSome, IfSome, IfOk, OnOk, OnErr};
 ghost use Rattle.oe_rows.specs.declared.keys.Key.{Key};
 ghost use Rattle.oe_rows.specs.declared.keys.Key.TheVariants.{History};
-ghost use Rattle.oe_log.specs.Log.{count_at, active_at, records_at, no_segments, opened, dropped};
+ghost use Rattle.oe_log.specs.Log.{count_at, active_at, records_at, no_segments, with_segment, without_segment};
 ghost use Rattle.oe_undo.specs.declared.holders.Holder.TheVariants.{Open};
 ghost use Rattle.oe_undo.specs.Held.{horizon};
 ghost use Rattle.oe_undo.specs.Chains.{link_from, AreChained};
 ghost use Rattle.oe_undo.specs.Laws.{IsWhole};
 ghost use Rattle.oe_undo.specs.Links.{place_of, HasPlace, no_links, GivesPlaces, GivesUpLink};
-ghost use Rattle.oe_undo.specs.Owners.{followed, holder_of, AreMoments, IsMade, IsOwner};
-ghost use Rattle.oe_undo.specs.Undo.{seen, unended};
+ghost use Rattle.oe_undo.specs.Owners.{link_by_now, holder_of, AreMoments, IsMade, IsOwner};
+ghost use Rattle.oe_undo.specs.Undo.{link_seen, link_above};
 
 use crate::holders::{Holder, Link};
 use crate::links::{Links, OwnedLink};
@@ -83,7 +83,7 @@ pub(crate) fn followed_in(
     link: Option<OwnedLink>,
 ) -> Option<Link>
     requires { AreMoments segments.now moments.now }
-    ensures { result ≡ followed segments.now link }
+    ensures { result ≡ link_by_now segments.now link }
 {
     let link = link?;
     let holder = holder_in(segments, moments, &link.owner)?;
@@ -129,7 +129,7 @@ impl Undo {
     /// Gives the link of a key to its newest record, if it has a record.
     #[inline(always)]
     pub fn link(&self, key: &Key) -> Option<Link>
-        ensures { result ≡ seen self.now key.now }
+        ensures { result ≡ link_seen self.now key.now }
     {
         followed_in(&self.segments, &self.moments, self.links.link(key))
     }
@@ -149,7 +149,7 @@ impl Undo {
     #[inline(always)]
     pub fn is_chained(&self)
         ensures whole { IsWhole self.now.log }
-        ensures chained { AreChained self.now.log (seen self.now) }
+        ensures chained { AreChained self.now.log (link_seen self.now) }
     {
         self.segments.terminals_are();
         let _horizon = self.segments.horizon();
@@ -172,7 +172,7 @@ impl Undo {
     pub fn give_up_history(&mut self, key: &HistoryKey)
         ensures log { self.new.log ≡ self.old.log }
         ensures links { GivesUpLink self.old.links self.new.links (History key.now) }
-        ensures seen { (k : Key) → seen self.new k ≡ seen self.old k }
+        ensures seen { (k : Key) → link_seen self.new k ≡ link_seen self.old k }
     {
         self.links.give_up_history(key)
     }
@@ -183,7 +183,7 @@ impl Undo {
     pub fn open_segment(&mut self, terminal: Terminal) -> Result<Segment, NoMemory>
         requires closed { active_at self.old.log terminal ≡ None }
         requires counted { count_at self.old.log terminal < 4_294_967_295 }
-        ensures opened { OnOk result (self.new.log ≡ opened self.old.log terminal) }
+        ensures opened { OnOk result (self.new.log ≡ with_segment self.old.log terminal) }
         ensures segment { IfOk result (λ s. s ≡ terminal) }
         ensures links { self.new.links ≡ self.old.links }
         ensures err { OnErr result (self.new ≡ self.old) }
@@ -196,7 +196,7 @@ impl Undo {
     pub fn drop_segment(&mut self, segment: Segment)
         requires open { IsSome (active_at self.old.log segment) }
         requires empty { records_at self.old.log segment ≡ [] }
-        ensures log { self.new.log ≡ dropped self.old.log segment }
+        ensures log { self.new.log ≡ without_segment self.old.log segment }
         ensures links { self.new.links ≡ self.old.links }
     {
         self.segments.drop_segment(segment)
@@ -207,8 +207,8 @@ impl Undo {
     pub(crate) fn owned(&self, segment: Segment, previous: Previous) -> Option<OwnedLink>
         requires open { IsSome (active_at self.now.log segment) }
         requires made { IsMade self.now.log (link_from (Open segment) previous) }
-        ensures followed { followed self.now.log result
-            ≡ unended (horizon self.now.log) (link_from (Open segment) previous) }
+        ensures followed { link_by_now self.now.log result
+            ≡ link_above (horizon self.now.log) (link_from (Open segment) previous) }
         ensures owner { IfSome result (λ l. IsOwner self.now.log l.owner) }
     {
         self.is_chained();

@@ -2,10 +2,10 @@
 //! segment, and tells where the next one lies. No table is read, and nothing takes memory.
 ghost use Rattle.std.specs.Prelude.{◌≡◌, ◌≤◌};
 ghost use Rattle.oe_log.specs.Records.{HasAddress, IsRecordAt};
-ghost use Rattle.oe_undo.specs.Held.{held, of_key, horizon, count_later};
-ghost use Rattle.oe_undo.specs.Restored.{later_of, has_later, restored};
+ghost use Rattle.oe_undo.specs.Held.{all_held, of_key, horizon, count_later};
+ghost use Rattle.oe_undo.specs.Restored.{later_of, has_later, row_before};
 ghost use Rattle.oe_undo.specs.Walks.{records_by};
-ghost use Rattle.oe_log.specs.Ticks.{ticked};
+ghost use Rattle.oe_log.specs.Ticks.{ticks_with};
 
 use crate::holders::{Holder, Link};
 use crate::undo::Undo;
@@ -21,7 +21,7 @@ impl Undo {
         requires { HasAddress (records_by self.now.log link.now.holder) link.now.address }
         ensures record { IsRecordAt (records_by self.now.log link.now.holder) link.now.address
             (result.0, result.1) }
-        ensures ticks { ticks.new ≡ ticked ticks.old 1 }
+        ensures ticks { ticks.new ≡ ticks_with ticks.old 1 }
     {
         match &link.holder {
             Holder::Open(terminal) => self.segments.linked_at(*terminal, link.address, ticks),
@@ -38,7 +38,7 @@ impl Undo {
     /// kept. It looks at the key's link alone, and reads no record.
     pub fn has_later(&self, key: &Key, moment: Moment) -> bool
         requires { horizon self.now.log ≤ moment }
-        ensures { result ≡ has_later moment (of_key key.now (held self.now.log)) }
+        ensures { result ≡ has_later moment (of_key key.now (all_held self.now.log)) }
     {
         self.is_chained();
         match self.link(key) {
@@ -60,9 +60,9 @@ impl Undo {
     ) -> Option<Row>
         requires { horizon self.now.log ≤ moment }
         ensures row { result
-            ≡ restored (later_of moment (of_key key.now (held self.now.log))) now }
+            ≡ row_before (later_of moment (of_key key.now (all_held self.now.log))) now }
         ensures ticks { ticks.new
-            ≡ ticked ticks.old (count_later moment (of_key key.now (held self.now.log))) }
+            ≡ ticks_with ticks.old (count_later moment (of_key key.now (all_held self.now.log))) }
     {
         self.is_chained();
         let _known = ticks.records();

@@ -27,8 +27,8 @@ use Rattle.oe_log.specs.Log.{records_at, total_count}
 use Rattle.oe_log.proofs.StandsFacts.{totals}
 use Rattle.oe_undo.specs.declared.holders.Holder.{Holder}
 use Rattle.oe_undo.specs.declared.holders.Holder.TheVariants as holder
-use Rattle.oe_undo.specs.Held.{Held, held_by, held_open, held_commits, held, of_key, horizon, is_later}
-use Rattle.oe_undo.specs.Restored.{later_of, has_later, restored}
+use Rattle.oe_undo.specs.Held.{Held, held_by, held_open, held_commits, all_held, of_key, horizon, is_later}
+use Rattle.oe_undo.specs.Restored.{later_of, has_later, row_before}
 use Rattle.oe_undo.specs.Laws.{IsWhole}
 use Rattle.oe_undo.proofs.ChainWalkFacts.{of_key-append, none_later, has_none}
 use Rattle.oe_log.specs.Moments.{newest, IsKeptMoment}
@@ -40,31 +40,31 @@ history cs = map (λ c. model_records c.records) cs
 -- the records of one terminal's open transaction after another's
 abbrev opens_restored : Key → (ℕ → List Record) → List ℕ → Option Row → Option Row
 opens_restored k f [] v = v
-opens_restored k f (t ∷ ts) v = opens_restored k f ts (theory.restored system k (f t) v)
+opens_restored k f (t ∷ ts) v = opens_restored k f ts (theory.row_before system k (f t) v)
 
 module _ (k : Key) (m : ℕ) where
   -- what a later holder has is put back
   held_restored : (h : Holder) (rs : List Logged) (rest : List Held) (v : Option Row) → is_later m h ≡ true
-      → restored (later_of m (of_key k (held_by h rs) ++ rest)) v
-      ≡ restored (later_of m rest) (theory.restored system k (model_records rs) v)
+      → row_before (later_of m (of_key k (held_by h rs) ++ rest)) v
+      ≡ row_before (later_of m rest) (theory.row_before system k (model_records rs) v)
   held_restored h [] rest v e = refl
   held_restored h (r ∷ rs) rest v e = go (is_key k (record_key r.before)) (λ x. held_restored h rs rest x e)
     where
       go : (c : Bool)
-          → ((x : Option Row) → restored (later_of m (of_key k (held_by h rs) ++ rest)) x
-          ≡ restored (later_of m rest) (theory.restored system k (model_records rs) x))
-          → restored (later_of m (cond c (record { logged = r; holder = h } ∷ of_key k (held_by h rs))
+          → ((x : Option Row) → row_before (later_of m (of_key k (held_by h rs) ++ rest)) x
+          ≡ row_before (later_of m rest) (theory.row_before system k (model_records rs) x))
+          → row_before (later_of m (cond c (record { logged = r; holder = h } ∷ of_key k (held_by h rs))
           (of_key k (held_by h rs)) ++ rest)) v
-          ≡ restored (later_of m rest) (theory.restored system k (model_records rs) (cond c (restore r.before v) v))
+          ≡ row_before (later_of m rest) (theory.row_before system k (model_records rs) (cond c (restore r.before v) v))
       go true i = rw e (i (restore r.before v))
       go false i = i v
 
   commits_restored : (n : ℕ) (cs : List CommitSegment) (v : Option Row) → length cs ≤ n
-      → restored (later_of m (of_key k (held_commits n cs))) v
-      ≡ theory.restored_commits system k (take (n - m) (history cs)) v
+      → row_before (later_of m (of_key k (held_commits n cs))) v
+      ≡ theory.row_before_commits system k (take (n - m) (history cs)) v
   commits_restored n [] v h = at (n - m)
     where
-      at : (j : ℕ) → v ≡ theory.restored_commits system k (take {A = List Record} j []) v
+      at : (j : ℕ) → v ≡ theory.row_before_commits system k (take {A = List Record} j []) v
       at zero = refl
       at (suc j) = refl
   commits_restored n (c ∷ cs) v h =
@@ -74,67 +74,68 @@ module _ (k : Key) (m : ℕ) where
       rest = of_key k (held_commits (n - 1) cs)
 
       go : (b : Bool) → nat_lt m n ≡ b
-          → ((x : Option Row) → restored (later_of m (of_key k (held_commits (n - 1) cs))) x
-          ≡ theory.restored_commits system k (take (n - 1 - m) (history cs)) x)
-          → restored (later_of m (of_key k (held_commits n (c ∷ cs)))) v
-          ≡ theory.restored_commits system k (take (n - m) (history (c ∷ cs))) v
+          → ((x : Option Row) → row_before (later_of m (of_key k (held_commits (n - 1) cs))) x
+          ≡ theory.row_before_commits system k (take (n - 1 - m) (history cs)) x)
+          → row_before (later_of m (of_key k (held_commits n (c ∷ cs)))) v
+          ≡ theory.row_before_commits system k (take (n - m) (history (c ∷ cs))) v
       go true e i =
           let lt = ltb-true m n e in
           let one : n - m ≡ suc (n - 1 - m) = omega (arith, lt) in
-          ap (λ xs. restored (later_of m xs) v)
+          ap (λ xs. row_before (later_of m xs) v)
           (of_key-append k (held_by (holder.At n) c.records) (held_commits (n - 1) cs))
           ∙ held_restored (holder.At n) c.records (of_key k (held_commits (n - 1) cs)) v e
-          ∙ i (theory.restored system k (model_records c.records) v)
-          ∙ ap (λ j. theory.restored_commits system k (take j (history (c ∷ cs))) v) (sym one)
+          ∙ i (theory.row_before system k (model_records c.records) v)
+          ∙ ap (λ j. theory.row_before_commits system k (take j (history (c ∷ cs))) v) (sym one)
       go false e i =
           let le = ltb-false m n e in
           let none : n - m ≡ 0 = omega (arith, le) in
-          ap (λ bs. restored bs v) (none_later m k n (c ∷ cs) le)
-          ∙ ap (λ j. theory.restored_commits system k (take j (history (c ∷ cs))) v) (sym none)
+          ap (λ bs. row_before bs v) (none_later m k n (c ∷ cs) le)
+          ∙ ap (λ j. theory.row_before_commits system k (take j (history (c ∷ cs))) v) (sym none)
 
   open_restored : (f : ℕ → List Logged) (ts : List ℕ) (rest : List Held) (v : Option Row)
-      → restored (later_of m (of_key k (held_open f ts ++ rest))) v
-      ≡ restored (later_of m (of_key k rest)) (opens_restored k (λ t. model_records (f t)) ts v)
+      → row_before (later_of m (of_key k (held_open f ts ++ rest))) v
+      ≡ row_before (later_of m (of_key k rest)) (opens_restored k (λ t. model_records (f t)) ts v)
   open_restored f [] rest v = refl
   open_restored f (t ∷ ts) rest v =
-      ap (λ xs. restored (later_of m (of_key k xs)) v)
+      ap (λ xs. row_before (later_of m (of_key k xs)) v)
       (append_assoc (held_by (holder.Open t) (f t)) (held_open f ts) rest)
-      ∙ ap (λ xs. restored (later_of m xs) v)
+      ∙ ap (λ xs. row_before (later_of m xs) v)
       (of_key-append k (held_by (holder.Open t) (f t)) (held_open f ts ++ rest))
       ∙ held_restored (holder.Open t) (f t) (of_key k (held_open f ts ++ rest)) v refl
-      ∙ open_restored f ts rest (theory.restored system k (model_records (f t)) v)
+      ∙ open_restored f ts rest (theory.row_before system k (model_records (f t)) v)
 
 -- open transactions of terminals below n: those of others do not matter
 same_open : (n : ℕ) (f g : ℕ → List Record) (k : Key) (v : Option Row) → ((t : ℕ) → t < n → f t ≡ g t)
-    → theory.restored_open system k f (all_below system n) v ≡ theory.restored_open system k g (all_below system n) v
+    → theory.row_before_open system k f (all_below system n) v
+    ≡ theory.row_before_open system k g (all_below system n) v
 same_open zero f g k v same = refl
 same_open (suc n) f g k v same =
-    same_open n (set n [] f) (set n [] g) k (theory.restored system k (f n) v) (λ t below.
+    same_open n (set n [] f) (set n [] g) k (theory.row_before system k (f n) v) (λ t below.
     let ne : t ≢ n = λ e. omega (arith, e, below) in
     let up : t < suc n = omega (arith, below) in
     set_other n [] f t ne ∙ same t up ∙ sym (set_other n [] g t ne))
-    ∙ ap (λ bs. theory.restored_open system k (set n [] g) (all_below system n) (theory.restored system k bs v))
+    ∙ ap (λ bs. theory.row_before_open system k (set n [] g) (all_below system n) (theory.row_before system k bs v))
     (same n (omega arith))
 
 opens_are : (n : ℕ) (f : ℕ → List Record) (k : Key) (v : Option Row)
-    → theory.restored_open system k f (all_below system n) v ≡ opens_restored k f (all_below system n) v
+    → theory.row_before_open system k f (all_below system n) v ≡ opens_restored k f (all_below system n) v
 opens_are zero f k v = refl
 opens_are (suc n) f k v =
-    same_open n (set n [] f) f k (theory.restored system k (f n) v) (λ t below.
+    same_open n (set n [] f) f k (theory.row_before system k (f n) v) (λ t below.
     let ne : t ≢ n = λ e. omega (arith, e, below) in
     set_other n [] f t ne)
-    ∙ opens_are n f k (theory.restored system k (f n) v)
+    ∙ opens_are n f k (theory.row_before system k (f n) v)
 
 row_is : (u : SegmentLog) (m : ℕ) (k : Key) (r : Rows) → length u.committed ≤ total_count u → newest u ≡ total_count u
-    → row_at (version_of system (without_slots r u) m) k ≡ restored (later_of m (of_key k (held u))) (row_at r k)
+    → row_at (version_of system (without_slots r u) m) k ≡ row_before (later_of m (of_key k (all_held u))) (row_at r k)
 row_is u m k r few all =
     let back : List (List Record) = take (newest u - m) (undo_of u).history in
     let opens : Option Row = opens_restored k (undo_of u).active (all_below system terminal_limit) (row_at r k) in
     at_restored_commits system laws back (newest_version system (without_slots r u)) k
-    ∙ ap (theory.restored_commits system k back)
+    ∙ ap (theory.row_before_commits system k back)
     (at_restored_open system laws (undo_of u).active (all_below system terminal_limit) r k
     ∙ opens_are terminal_limit (undo_of u).active k (row_at r k))
-    ∙ ap (λ n. theory.restored_commits system k (take (n - m) (undo_of u).history) opens) all
+    ∙ ap (λ n. theory.row_before_commits system k (take (n - m) (undo_of u).history) opens) all
     ∙ sym (commits_restored k m (total_count u) u.committed opens few)
     ∙ sym (open_restored k m (records_at u) (all_below system terminal_limit)
     (held_commits (total_count u) u.committed) (row_at r k))
@@ -152,17 +153,18 @@ module _ (u : SegmentLog) (m : ℕ) (whole : IsWhole u) where
 
   -- what a walk along the key's records leaves of the row that stands
   pub row_found : (ts : tables.Places) (k : Key) (now v : Option Row)
-      → v ≡ restored (later_of m (of_key k (held u))) now → now ≡ row_at (rows ts) k → v ≡ row_at (version ts u m) k
+      → v ≡ row_before (later_of m (of_key k (all_held u))) now → now ≡ row_at (rows ts) k → v
+      ≡ row_at (version ts u m) k
   row_found ts k now v walked stands =
-      walked ∙ ap (λ x. restored (later_of m (of_key k (held u))) x) stands
+      walked ∙ ap (λ x. row_before (later_of m (of_key k (all_held u))) x) stands
       ∙ sym (row_is u m k (rows ts) whole.commits newest_is)
 
   -- a key without a later record has the row that stands
-  pub unchanged : (ts : tables.Places) (k : Key) → has_later m (of_key k (held u)) ≡ false
+  pub unchanged : (ts : tables.Places) (k : Key) → has_later m (of_key k (all_held u)) ≡ false
       → row_at (version ts u m) k ≡ row_at (rows ts) k
   unchanged ts k none =
       row_is u m k (rows ts) whole.commits newest_is
-      ∙ ap (λ bs. restored bs (row_at (rows ts) k)) (has_none m (of_key k (held u)) none)
+      ∙ ap (λ bs. row_before bs (row_at (rows ts) k)) (has_none m (of_key k (all_held u)) none)
 
 -- WHERE NOTHING IS PUT BACK
 

@@ -77,8 +77,8 @@ lines_stand ts k =
     (kept_at order_line_total exact_order_line (rows ts).order_lines (own k))
 
 -- what is told of lines with their keys
-abbrev told : List (OrderLineKey × OrderLine) → List StatusLine
-told es = map (λ e. status_line e.1) es
+abbrev status_lines : List (OrderLineKey × OrderLine) → List StatusLine
+status_lines es = map (λ e. status_line e.1) es
 
 module _ (ts : tables.Places) (u : SegmentLog) (m : ℕ) (k : OrderKey) where
   abbrev past : FinMap order_line_cmp OrderLine
@@ -86,7 +86,7 @@ module _ (ts : tables.Places) (u : SegmentLog) (m : ℕ) (k : OrderKey) where
 
   -- what is left of a walk over the lines that stand leads from those told so far to all, and their numbers leave room
   pub record Fills (lines : List StatusLine) (es : List (OrderLineKey × OrderLine)) : Type 0 where
-    pub rest : lines ++ told (rows_at past es) ≡ told (lines_of k past)
+    pub rest : lines ++ status_lines (rows_at past es) ≡ status_lines (lines_of k past)
     pub stand : EachOf (λ e. get (rows ts).order_lines e.0 ≡ Some e.1) es
     pub bound : ℕ
     pub few : length lines ≤ bound
@@ -94,7 +94,7 @@ module _ (ts : tables.Places) (u : SegmentLog) (m : ℕ) (k : OrderKey) where
 
   pub starts : Stand ts u → Fills [] (lines_of k (rows ts).order_lines)
   starts h = record {
-    rest = ap told (lines_are ts u m k h);
+    rest = ap status_lines (lines_are ts u m k h);
     stand = lines_stand ts k;
     bound = 0;
     few = omega arith;
@@ -119,7 +119,7 @@ module _ (ts : tables.Places) (u : SegmentLog) (m : ℕ) (k : OrderKey) where
       → Fills lines (e ∷ es) → option_map status_line (get past e.0) ≡ None
       → Fills lines es
   skips lines e es f absent = record {
-    rest = sym (ap (λ v. lines ++ told (cons_option (option_map (λ x. (e.0, x)) v) (rows_at past es)))
+    rest = sym (ap (λ v. lines ++ status_lines (cons_option (option_map (λ x. (e.0, x)) v) (rows_at past es)))
         (mapped_absent status_line (get past e.0) absent)) ∙ f.rest;
     stand = f.stand.1;
     bound = e.0.number;
@@ -130,11 +130,11 @@ module _ (ts : tables.Places) (u : SegmentLog) (m : ℕ) (k : OrderKey) where
 
   one_more : (lines : List StatusLine) (k : OrderLineKey) (rest : List (OrderLineKey × OrderLine)) (l : StatusLine)
       (v : Option OrderLine) → option_map status_line v ≡ Some l
-      → (lines ++ l ∷ []) ++ told rest ≡ lines ++ told (cons_option (option_map (λ x. (k, x)) v) rest)
+      → (lines ++ l ∷ []) ++ status_lines rest ≡ lines ++ status_lines (cons_option (option_map (λ x. (k, x)) v) rest)
   one_more lines k rest l None e = let no : ⊥ = cc in absurd no
   one_more lines k rest l (Some x) e =
       let same : status_line x ≡ l = some_inj (status_line x) l e in
-      append_assoc lines (l ∷ []) (told rest) ∙ ap (λ z. lines ++ z ∷ told rest) (sym same)
+      append_assoc lines (l ∷ []) (status_lines rest) ∙ ap (λ z. lines ++ z ∷ status_lines rest) (sym same)
 
   pub takes : (lines : List StatusLine) (e : OrderLineKey × OrderLine) (es : List (OrderLineKey × OrderLine))
       (l : StatusLine) → Fills lines (e ∷ es) → option_map status_line (get past e.0) ≡ Some l
@@ -149,5 +149,5 @@ module _ (ts : tables.Places) (u : SegmentLog) (m : ℕ) (k : OrderKey) where
   }
 
   pub ends : (lines : List StatusLine) (es : List (OrderLineKey × OrderLine)) → es ≡ [] → Fills lines es
-      → lines ≡ told (lines_of k past)
-  ends lines es e f = sym (append-nil lines) ∙ sym (ap (λ xs. lines ++ told (rows_at past xs)) e) ∙ f.rest
+      → lines ≡ status_lines (lines_of k past)
+  ends lines es e f = sym (append-nil lines) ∙ sym (ap (λ xs. lines ++ status_lines (rows_at past xs)) e) ∙ f.rest

@@ -16,7 +16,7 @@ use Rattle.oe_rows.specs.declared.rows.Row.TheVariants as row
 use Rattle.oe_rows.proofs.KeyFacts.{district_total, exact_district, customer_total, exact_customer}
 use Rattle.oe_model.specs.Keys.{district_of_customer, customer_in}
 use Rattle.oe_model.specs.Rows.{row_at}
-use Rattle.oe_model.specs.Choice.{named, namesakes, comes_before, middle}
+use Rattle.oe_model.specs.Choice.{first_name_of, namesakes, comes_before, middle}
 use Rattle.oe_model.specs.Locks.{first_if_named}
 use Rattle.oe_model.proofs.MapFacts.{is_same}
 use Rattle.oe_model.proofs.EntryFacts.{EachOf, each_of, kept_at}
@@ -75,7 +75,7 @@ module _ (h : DistrictKey) where
 
   module _ (last : List ℕ) where
     abbrev take_name : Entry → Option (List ℕ × ℕ)
-    take_name e = named h last e.0 e.1
+    take_name e = first_name_of h last e.0 e.1
 
     -- who is of another district has no name here
     in_group : (es : List Entry) → filter_map take_name (filter (λ e. is_in e.0) es) ≡ filter_map take_name es
@@ -92,7 +92,7 @@ module _ (h : DistrictKey) where
             (Some (e.1.name.first, e.0.customer)) None) (filter_map take_name es)) t)
 
     own_name : (k : CustomerKey) (x : Customer) → is_in k ≡ true
-        → option_map (λ first. (first, k.customer)) (first_if_named last (Some x)) ≡ named h last k x
+        → option_map (λ first. (first, k.customer)) (first_if_named last (Some x)) ≡ first_name_of h last k x
     own_name k x t =
         by (eq_by_cmp (slice_cmp nat_cmp) x.name.last last)
         ∙ sym (ap (λ b. cond {A = Option (List ℕ × ℕ)} (b && eq_by_cmp (slice_cmp nat_cmp) x.name.last last)

@@ -4,8 +4,8 @@ ghost use Rattle.std.specs.Prelude.{◌≡◌, is_some};
 ghost use Rattle.std.specs.FinMap.{get};
 ghost use Rattle.oe_model.specs.Rows.{row_at};
 ghost use Rattle.oe_store.specs.Places.{rows};
-ghost use Rattle.oe_undo.specs.Held.{held, of_key, count_later};
-ghost use Rattle.oe_log.specs.Ticks.{ticked};
+ghost use Rattle.oe_undo.specs.Held.{all_held, of_key, count_later};
+ghost use Rattle.oe_log.specs.Ticks.{ticks_with};
 ghost use Rattle.oe_versions.specs.Versions.{rows_of};
 
 use crate::moments::Version;
@@ -87,7 +87,7 @@ impl<'a> Version<'a> {
     pub fn row_counted(&self, key: &Key, ticks: &mut Ticks) -> Option<Row>
         ensures row { result ≡ row_at (rows_of self.now) key.now }
         ensures ticks { ticks.new
-            ≡ ticked ticks.old (count_later self.now.moment (of_key key.now (held self.now.log))) }
+            ≡ ticks_with ticks.old (count_later self.now.moment (of_key key.now (all_held self.now.log))) }
     {
         self.undo.is_chained();
         let now = row_now(self.tables(), key);

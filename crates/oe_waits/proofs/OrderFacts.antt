@@ -293,8 +293,8 @@ module _ (k : ℕ) (f : ℕ → ℕ → ℕ → Name) (n : ℕ)
 -- texts in their order
 
 -- those of at most n letters and one letter more before them
-abbrev begun : ℕ → ℕ → List (List ℕ)
-begun n i = map (λ t. (31 + i) ∷ t) (texts_within n)
+abbrev texts_from : ℕ → ℕ → List (List ℕ)
+texts_from n i = map (λ t. (31 + i) ∷ t) (texts_within n)
 
 few_printable : (b : ℕ) → IsPrintable b → b - 31 ≤ printable_bytes
 unfolding printable_bytes
@@ -304,10 +304,10 @@ texts_ordered : (n : ℕ) → IsOrdered is_before (texts_within n)
 texts_ordered zero = (λ t m. absurd m, tt)
 texts_ordered (suc n) = (
   λ t m.
-      let p = listed (begun n) printable_bytes t m in
+      let p = listed (texts_from n) printable_bytes t m in
       let q = of_map (λ u. (31 + p.0) ∷ u) (texts_within n) t p.3 in
       ap (is_before []) q.2,
-  ordered_lists is_before (begun n) printable_bytes
+  ordered_lists is_before (texts_from n) printable_bytes
       (λ i. ordered_map is_before is_before (λ t. (31 + i) ∷ t) (λ t u h. rest_before (31 + i) t u h) (texts_within n)
       (texts_ordered n))
       (λ i j t u less m k.
@@ -325,7 +325,7 @@ text_stands zero (b ∷ t) short are = let no : ⊥ = omega (arith, short) in ab
 text_stands (suc n) (b ∷ t) short are =
     let first = All-head IsPrintable b t are in
     let same : 31 + (b - 31) ≡ b = omega (arith, first) in
-    inr (on_lists (begun n) printable_bytes (b - 31) (b ∷ t) (omega (arith, first)) (few_printable b first)
+    inr (on_lists (texts_from n) printable_bytes (b - 31) (b ∷ t) (omega (arith, first)) (few_printable b first)
     (subst (λ c. Stands (b ∷ t) (map (λ u. c ∷ u) (texts_within n))) (sym same)
     (stands_map (λ u. b ∷ u) t (texts_within n)
     (text_stands n t (omega (arith, short)) (All-tail IsPrintable b t are)))))

@@ -14,7 +14,7 @@ use Rattle.oe_rows.specs.declared.locks.Name.{Name}
 use Rattle.oe_requests.specs.declared.refusals.Refusal.{Refusal}
 use Rattle.oe_model.specs.System.{system, ask, terminal_limit}
 use Rattle.oe_model.proofs.SystemLaws.{laws}
-use Rattle.oe_engine.specs.Programs.{wanted}
+use Rattle.oe_engine.specs.Programs.{lock_asked}
 use Rattle.oe_core.specs.Asks.{wanted_of, wanted_by, held_of, held_by}
 use Rattle.oe_waits.specs.Knots.{Chain}
 use Rattle.oe_waits.specs.Waits.{is_kept_out, waits_for, last_terminal, waits, Waiting_is_busy, Waits_are_chains}
@@ -79,7 +79,7 @@ asking : (w : World system) (t : ℕ) (h : Hold Name) → wanted_by w t ≡ Some
 asking w t h e = at_open (w.active t) refl e
   where
     at_ask : (o : Open system) → w.active t ≡ Some o → (a : Ask Name Refusal)
-        → ask (tx_of system t o) o.now.position (tables system w) ≡ a → wanted a ≡ Some h → Asking w t h
+        → ask (tx_of system t o) o.now.position (tables system w) ≡ a → lock_asked a ≡ Some h → Asking w t h
     at_ask o is (Stop x) a e = absurd (some_none _ (sym e))
     at_ask o is Plain a e = absurd (some_none _ (sym e))
     at_ask o is (Take n m) a e =

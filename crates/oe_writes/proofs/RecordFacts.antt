@@ -28,7 +28,7 @@ use Rattle.oe_change.specs.declared.writes.Write.TheVariants.{BadCredit, Custome
 use Rattle.oe_change.specs.declared.writes.Write.TheVariants.{DeliveryDate}
 use Rattle.oe_change.specs.declared.writes.Write.TheVariants.{InsertHistory, InsertNewOrder, InsertOrder}
 use Rattle.oe_change.specs.declared.writes.Write.TheVariants.{InsertOrderLine, DeleteNewOrder}
-use Rattle.oe_change.specs.Writes.{written}
+use Rattle.oe_change.specs.Writes.{change_of}
 use Rattle.oe_writes.specs.Records.{record_of_write}
 
 -- inserts and deletes have the same record in each layout
@@ -90,7 +90,7 @@ the_row None h = cc
 the_row (Some x) h = refl
 
 -- where the tables accept the change that a write is, the record that goes before it is that of the change
-pub write_records : (l : Layout) (w : Write) (c : Change) (r : Rows) → written w r ≡ Some c → Accepts c r
+pub write_records : (l : Layout) (w : Write) (c : Change) (r : Rows) → change_of w r ≡ Some c → Accepts c r
     → record_of_write l w r ≡ Some (record_on system l c r)
 write_records l (WarehouseYtd k y) c r e a = update l r _ c e
 write_records l (DistrictYtd k y) c r e a = update l r _ c e
@@ -131,7 +131,7 @@ no_row : {A B : Type 0} (g : A → B) (o : Option A) → option_map g o ≡ None
 no_row g None e = refl
 no_row g (Some x) e = cc
 
-pub unrecorded : (l : Layout) (w : Write) (r : Rows) → record_of_write l w r ≡ None → written w r ≡ None
+pub unrecorded : (l : Layout) (w : Write) (r : Rows) → record_of_write l w r ≡ None → change_of w r ≡ None
 unrecorded l (WarehouseYtd k y) r e = no_row _ _ e
 unrecorded l (DistrictYtd k y) r e = no_row _ _ e
 unrecorded l (NextOrder k n) r e = no_row _ _ e
@@ -152,7 +152,7 @@ a_row : {A B : Type 0} (g : A → B) (o : Option A) → IsSome (option_map g o) 
 a_row g None h = h
 a_row g (Some x) h = refl
 
-pub recorded : (l : Layout) (w : Write) (r : Rows) → IsSome (record_of_write l w r) → IsSome (written w r)
+pub recorded : (l : Layout) (w : Write) (r : Rows) → IsSome (record_of_write l w r) → IsSome (change_of w r)
 recorded l (WarehouseYtd k y) r h = a_row _ _ h
 recorded l (DistrictYtd k y) r h = a_row _ _ h
 recorded l (NextOrder k n) r h = a_row _ _ h

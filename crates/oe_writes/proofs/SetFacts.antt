@@ -21,7 +21,7 @@ use Rattle.oe_rows.proofs.KeyFacts.{exact_customer, order_total, exact_order, or
 use Rattle.oe_rows.proofs.KeyFacts.{stock_total, exact_stock}
 use Rattle.oe_model.specs.Keys.{supply_of_line}
 use Rattle.oe_model.specs.Meets.{Accepts, Meets}
-use Rattle.oe_model.specs.Changes.{Change, changed, key_of, UpdateWarehouse, UpdateDistrict, UpdateCustomer}
+use Rattle.oe_model.specs.Changes.{Change, rows_after, key_of, UpdateWarehouse, UpdateDistrict, UpdateCustomer}
 use Rattle.oe_model.specs.Changes.{UpdateOrder, UpdateOrderLine, UpdateStock}
 use Rattle.oe_store.specs.Places.{Places, rows, HasPlace, SamePlaces, AddsPlace}
 use Rattle.oe_store.proofs.PlaceFacts.{place_of_row}
@@ -43,7 +43,7 @@ adds_own old new k same had q = (
 -- a row that is there is changed to what is made of it
 module _ (old new : Places) (same : SamePlaces old new) where
   made : {A : Type 0} (f : A → Change) (o : Option A) → IsSome (option_map f o)
-      → ((x : A) → o ≡ Some x → Accepts (f x) (rows old) × (rows new ≡ changed (f x) (rows old))
+      → ((x : A) → o ≡ Some x → Accepts (f x) (rows old) × (rows new ≡ rows_after (f x) (rows old))
       × HasPlace old (key_of (f x)))
       → IsSomeAnd (option_map f o) (λ c. IsApplied c old new)
   made f None some h = absurd (no some)
@@ -62,7 +62,7 @@ module _ (old new : Places) (same : SamePlaces old new) where
   pub warehouse_made : (k : WarehouseKey) (f : Warehouse → Warehouse)
       → IsSome (option_map (λ x. UpdateWarehouse k (f x)) (get (rows old).warehouses k))
       → ((x : Warehouse) → get (rows old).warehouses k ≡ Some x
-      → rows new ≡ changed (UpdateWarehouse k (f x)) (rows old))
+      → rows new ≡ rows_after (UpdateWarehouse k (f x)) (rows old))
       → IsSomeAnd (option_map (λ x. UpdateWarehouse k (f x)) (get (rows old).warehouses k))
       (λ c. IsApplied c old new)
   warehouse_made k f some set =
@@ -71,7 +71,8 @@ module _ (old new : Places) (same : SamePlaces old new) where
 
   pub district_made : (k : DistrictKey) (f : District → District)
       → IsSome (option_map (λ x. UpdateDistrict k (f x)) (get (rows old).districts k))
-      → ((x : District) → get (rows old).districts k ≡ Some x → rows new ≡ changed (UpdateDistrict k (f x)) (rows old))
+      → ((x : District) → get (rows old).districts k ≡ Some x → rows new
+      ≡ rows_after (UpdateDistrict k (f x)) (rows old))
       → IsSomeAnd (option_map (λ x. UpdateDistrict k (f x)) (get (rows old).districts k))
       (λ c. IsApplied c old new)
   district_made k f some set =
@@ -80,7 +81,8 @@ module _ (old new : Places) (same : SamePlaces old new) where
 
   pub customer_made : (k : CustomerKey) (f : Customer → Customer)
       → IsSome (option_map (λ x. UpdateCustomer k (f x)) (get (rows old).customers k))
-      → ((x : Customer) → get (rows old).customers k ≡ Some x → rows new ≡ changed (UpdateCustomer k (f x)) (rows old))
+      → ((x : Customer) → get (rows old).customers k ≡ Some x → rows new
+      ≡ rows_after (UpdateCustomer k (f x)) (rows old))
       → IsSomeAnd (option_map (λ x. UpdateCustomer k (f x)) (get (rows old).customers k))
       (λ c. IsApplied c old new)
   customer_made k f some set =
@@ -90,7 +92,7 @@ module _ (old new : Places) (same : SamePlaces old new) where
   -- its customer stays
   pub order_made : (k : OrderKey) (f : Order → Order) → ((x : Order) → (f x).customer ≡ x.customer)
       → IsSome (option_map (λ x. UpdateOrder k (f x)) (get (rows old).orders k))
-      → ((x : Order) → get (rows old).orders k ≡ Some x → rows new ≡ changed (UpdateOrder k (f x)) (rows old))
+      → ((x : Order) → get (rows old).orders k ≡ Some x → rows new ≡ rows_after (UpdateOrder k (f x)) (rows old))
       → IsSomeAnd (option_map (λ x. UpdateOrder k (f x)) (get (rows old).orders k))
       (λ c. IsApplied c old new)
   order_made k f customer some set =
@@ -102,7 +104,7 @@ module _ (old new : Places) (same : SamePlaces old new) where
       → ((x : OrderLine) → supply_of_line (f x) ≡ supply_of_line x) → Meets (rows old)
       → IsSome (option_map (λ x. UpdateOrderLine k (f x)) (get (rows old).order_lines k))
       → ((x : OrderLine) → get (rows old).order_lines k ≡ Some x
-      → rows new ≡ changed (UpdateOrderLine k (f x)) (rows old))
+      → rows new ≡ rows_after (UpdateOrderLine k (f x)) (rows old))
       → IsSomeAnd (option_map (λ x. UpdateOrderLine k (f x)) (get (rows old).order_lines k))
       (λ c. IsApplied c old new)
   order_line_made k f supply schema some set =
@@ -119,7 +121,7 @@ module _ (old new : Places) (same : SamePlaces old new) where
 
   pub stock_made : (k : StockKey) (f : Stock → Stock)
       → IsSome (option_map (λ x. UpdateStock k (f x)) (get (rows old).stocks k))
-      → ((x : Stock) → get (rows old).stocks k ≡ Some x → rows new ≡ changed (UpdateStock k (f x)) (rows old))
+      → ((x : Stock) → get (rows old).stocks k ≡ Some x → rows new ≡ rows_after (UpdateStock k (f x)) (rows old))
       → IsSomeAnd (option_map (λ x. UpdateStock k (f x)) (get (rows old).stocks k))
       (λ c. IsApplied c old new)
   stock_made k f some set =

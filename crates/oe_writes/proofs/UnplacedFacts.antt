@@ -23,7 +23,7 @@ use Rattle.oe_change.specs.declared.writes.Write.TheVariants.{BadCredit, Custome
 use Rattle.oe_change.specs.declared.writes.Write.TheVariants.{DeliveryDate}
 use Rattle.oe_change.specs.declared.writes.Write.TheVariants.{InsertHistory, InsertNewOrder, InsertOrder}
 use Rattle.oe_change.specs.declared.writes.Write.TheVariants.{InsertOrderLine, DeleteNewOrder}
-use Rattle.oe_change.specs.Writes.{key_written, written}
+use Rattle.oe_change.specs.Writes.{key_written, change_of}
 use Rattle.oe_store.specs.Places.{Places, rows, HasPlace}
 use Rattle.oe_store.proofs.PlaceFacts.{place_of_row}
 use Rattle.oe_writes.specs.Made.{RefusesWrite}
@@ -55,7 +55,7 @@ pub write_unplaced : (w : Write) (s : Places) → ((k : HistoryKey) (x : History
     → ((k : NewOrderKey) → w ≢ InsertNewOrder k)
     → ((k : OrderKey) (x : Order) → w ≢ InsertOrder k x)
     → ((k : OrderLineKey) (x : OrderLine) → w ≢ InsertOrderLine k x)
-    → IsSome (written w (rows s)) → (HasPlace s (key_written w) → ⊥) → RefusesWrite w s (NoSuchRow (key_written w))
+    → IsSome (change_of w (rows s)) → (HasPlace s (key_written w) → ⊥) → RefusesWrite w s (NoSuchRow (key_written w))
 write_unplaced (InsertHistory k x) s h n o l there none = absurd (h k x refl)
 write_unplaced (InsertNewOrder k) s h n o l there none = absurd (n k refl)
 write_unplaced (InsertOrder k x) s h n o l there none = absurd (o k x refl)
@@ -81,7 +81,7 @@ write_unplaced (DeliveryDate k t) s h n o l there none =
 write_unplaced (DeleteNewOrder k) s h n o l there none = ((refl, refl, no_row s (key.NewOrder k) none), tt)
 
 -- so does a plain write, which inserts none
-pub plain_unplaced : (w : Write) (s : Places) → IsPlain w → IsSome (written w (rows s))
+pub plain_unplaced : (w : Write) (s : Places) → IsPlain w → IsSome (change_of w (rows s))
     → (HasPlace s (key_written w) → ⊥) → RefusesWrite w s (NoSuchRow (key_written w))
 plain_unplaced w s plain =
     write_unplaced w s

@@ -6,7 +6,7 @@ use Rattle.oe_rows.specs.declared.layouts.Layout.{Layout}
 use Rattle.oe_model.specs.Changes.{Change}
 use Rattle.oe_model.specs.System.{system}
 use Rattle.oe_change.specs.declared.writes.Write.{Write}
-use Rattle.oe_change.specs.Writes.{written}
+use Rattle.oe_change.specs.Writes.{change_of}
 use Rattle.oe_store.specs.Places.{Places, rows}
 use Rattle.oe_change.specs.Applies.{Applies, Refuses, IsFirst}
 
@@ -20,8 +20,8 @@ IsRefused c s e = Refuses c s e × IsFirst c (rows s) e
 
 -- the write is a change of these rows, which is accepted and made
 abbrev pub IsMade : Write → Places → Places → Type 0
-IsMade w old new = IsSomeAnd (written w (rows old)) (λ c. IsApplied c old new)
+IsMade w old new = IsSomeAnd (change_of w (rows old)) (λ c. IsApplied c old new)
 
 -- why the tables refuse the change that a write is
 abbrev pub RefusesWrite : Write → Places → Refusal → Type 0
-RefusesWrite w s e = IsSomeAnd (written w (rows s)) (λ c. IsRefused c s e)
+RefusesWrite w s e = IsSomeAnd (change_of w (rows s)) (λ c. IsRefused c s e)

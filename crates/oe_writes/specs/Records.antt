@@ -9,7 +9,7 @@ use Rattle.oe_model.specs.System.{system}
 use Rattle.oe_change.specs.declared.writes.Write.{Write}
 use Rattle.oe_change.specs.declared.writes.Write.TheVariants.{InsertHistory, InsertNewOrder, InsertOrder}
 use Rattle.oe_change.specs.declared.writes.Write.TheVariants.{InsertOrderLine, DeleteNewOrder}
-use Rattle.oe_change.specs.Writes.{written}
+use Rattle.oe_change.specs.Writes.{change_of}
 
 -- the record of a write to these rows, which goes before it: of an insert and a delete by the key alone, and of an
 -- update that of its change, where the row is there
@@ -19,4 +19,4 @@ record_of_write l (InsertNewOrder k) r = Some (InsertedNewOrder k None)
 record_of_write l (InsertOrder k x) r = Some (InsertedOrder k None)
 record_of_write l (InsertOrderLine k x) r = Some (InsertedOrderLine k None)
 record_of_write l (DeleteNewOrder k) r = Some (DeletedNewOrder k (Some (record {})))
-record_of_write l w r = option_map (λ c. record_on system l c r) (written w r)
+record_of_write l w r = option_map (λ c. record_on system l c r) (change_of w r)

@@ -1,6 +1,6 @@
 //! Rows changed where they lie, once their records are pushed. Nothing can fail.
 ghost use Rattle.std.specs.Prelude.{◌≡◌, IsSome, IfErr, OnOk, OnErr};
-ghost use Rattle.oe_change.specs.Writes.{written};
+ghost use Rattle.oe_change.specs.Writes.{change_of};
 ghost use Rattle.oe_change.specs.declared.writes.Write.TheVariants as writes;
 ghost use Rattle.oe_store.specs.Places.{rows};
 ghost use Rattle.oe_writes.specs.Made.{IsMade, RefusesWrite};
@@ -19,7 +19,7 @@ pub(crate) fn set_names(
     last: &Text<0, 16>,
     first: &Text<0, 16>,
 ) -> Result<(), Refusal>
-    requires { IsSome (written (writes.CustomerNames key.now last.now first.now)
+    requires { IsSome (change_of (writes.CustomerNames key.now last.now first.now)
         (rows tables.old)) }
     ensures made { OnOk result (IsMade (writes.CustomerNames key.now last.now first.now)
         tables.old tables.new) }

@@ -4,7 +4,7 @@
 ghost use Rattle.std.specs.Prelude.{◌≡◌, false, IsSome, option_map, IfErr, OnOk, OnErr};
 ghost use Rattle.oe_rows.specs.declared.layouts.Layout.{Layout};
 ghost use Rattle.oe_change.specs.declared.writes.Write.{Write};
-ghost use Rattle.oe_change.specs.Writes.{key_written, written};
+ghost use Rattle.oe_change.specs.Writes.{key_written, change_of};
 ghost use Rattle.oe_layout.specs.Records.{record_of_lent};
 ghost use Rattle.oe_store.specs.Places.{rows, HasPlace};
 ghost use Rattle.oe_writes.specs.Asks.{ask_of};
@@ -43,14 +43,14 @@ pub trait OneWrite {
 
     /// Sets its columns in their row's place, or inserts or deletes its row; refused as `write`.
     fn set(&self, tables: &mut Tables) -> Result<(), Refusal>
-        requires { IsSome (written (write self.now) (rows tables.old)) }
+        requires { IsSome (change_of (write self.now) (rows tables.old)) }
         ensures made { OnOk result (IsMade (write self.now) tables.old tables.new) }
         ensures refused { IfErr result (RefusesWrite (write self.now) tables.old) }
         ensures unchanged { OnErr result (tables.new ≡ tables.old) };
 
     /// Says why it is refused where its key has no place, and memory for one was refused.
     fn unplaced(&self, tables: &Tables) -> Refusal
-        requires there { IsSome (written (write self.now) (rows tables.now)) }
+        requires there { IsSome (change_of (write self.now) (rows tables.now)) }
         requires unplaced { HasPlace tables.now (key_written (write self.now)) → ⊥ }
         ensures { RefusesWrite (write self.now) tables.now result };
 
@@ -78,7 +78,7 @@ pub trait PlainWrite {
 
     /// Sets its columns, or deletes its row, as `OneWrite` does.
     fn set(&self, tables: &mut Tables) -> Result<(), Refusal>
-        requires { IsSome (written (plain self.now) (rows tables.old)) }
+        requires { IsSome (change_of (plain self.now) (rows tables.old)) }
         ensures made { OnOk result (IsMade (plain self.now) tables.old tables.new) }
         ensures refused { IfErr result (RefusesWrite (plain self.now) tables.old) }
         ensures unchanged { OnErr result (tables.new ≡ tables.old) };

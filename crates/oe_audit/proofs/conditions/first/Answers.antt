@@ -3,18 +3,18 @@ use Rattle.std.specs.Prelude.{find}
 use Rattle.oe_rows.specs.declared.keys.Key.TheVariants as key
 use Rattle.oe_rows.specs.declared.keys.WarehouseKey.{WarehouseKey}
 use Rattle.oe_rows.specs.declared.warehouses.Warehouse.{Warehouse}
-use Rattle.oe_model.specs.Audits.{Verdict, judged, passes_1}
+use Rattle.oe_model.specs.Audits.{Verdict, verdict_of, passes_1}
 use Rattle.oe_model.specs.Rows.{Rows}
-use Rattle.oe_audit.specs.AsOf.{rows_then, stood}
+use Rattle.oe_audit.specs.AsOf.{rows_then, entries_then}
 use Rattle.oe_audit.proofs.StoodFacts.{warehouses_are}
 use Rattle.oe_audit.proofs.conditions.first.Goals as goal
 
-abbrev told : Rows → List (WarehouseKey × Warehouse) → Verdict
-told r es = judged key.Warehouse (option_map (λ e. e.0) (find (λ e. not (passes_1 r e.0 e.1)) es))
+abbrev verdict_in : Rows → List (WarehouseKey × Warehouse) → Verdict
+verdict_in r es = verdict_of key.Warehouse (option_map (λ e. e.0) (find (λ e. not (passes_1 r e.0 e.1)) es))
 
 pub loop-key-init : goal.loop-key-init
 loop-key-init c =
     let past : Rows = rows_then c.args.tables.now c.args.when.now in
-    ap (λ (es : List (WarehouseKey × Warehouse)). told past (stood c.args.when.now past.warehouses es))
+    ap (λ (es : List (WarehouseKey × Warehouse)). verdict_in past (entries_then c.args.when.now past.warehouses es))
     (c.into_iter-key-iterator.ensures.into_iter_gives ∙ c.warehouses-key-items.ensures)
-    ∙ ap (told past) (sym (warehouses_are c.args.tables.now c.args.when.now c.requires))
+    ∙ ap (verdict_in past) (sym (warehouses_are c.args.tables.now c.args.when.now c.requires))

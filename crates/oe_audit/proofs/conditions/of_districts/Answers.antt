@@ -4,29 +4,29 @@ use Rattle.std.specs.FinMap.{entries}
 use Rattle.oe_rows.specs.declared.keys.Key.TheVariants as key
 use Rattle.oe_rows.specs.declared.keys.DistrictKey.{DistrictKey}
 use Rattle.oe_rows.specs.declared.districts.District.{District}
-use Rattle.oe_model.specs.Audits.{Verdict, judged, verdict}
+use Rattle.oe_model.specs.Audits.{Verdict, verdict_of, verdict}
 use Rattle.oe_model.specs.Rows.{Rows}
 use Rattle.oe_audit.specs.declared.conditions.DistrictCondition.{DistrictCondition}
 use Rattle.oe_audit.specs.declared.conditions.DistrictCondition.TheVariants as of_districts
-use Rattle.oe_audit.specs.AsOf.{rows_then, stood, passes, model_condition}
+use Rattle.oe_audit.specs.AsOf.{rows_then, entries_then, passes, model_condition}
 use Rattle.oe_audit.proofs.DistrictFacts.{agrees}
 use Rattle.oe_audit.proofs.StoodFacts.{districts_are}
 use Rattle.oe_audit.proofs.conditions.of_districts.Goals as goal
 
-abbrev told : DistrictCondition → Rows → List (DistrictKey × District) → Verdict
-told n r es = judged key.District (option_map (λ e. e.0) (find (λ e. not (passes n r e.0 e.1.next_order)) es))
+abbrev verdict_in : DistrictCondition → Rows → List (DistrictKey × District) → Verdict
+verdict_in n r es = verdict_of key.District (option_map (λ e. e.0) (find (λ e. not (passes n r e.0 e.1.next_order)) es))
 
-told_is : (n : DistrictCondition) (r : Rows) → told n r (entries r.districts) ≡ verdict (model_condition n) r
+told_is : (n : DistrictCondition) (r : Rows) → verdict_in n r (entries r.districts) ≡ verdict (model_condition n) r
 told_is of_districts.Second r = refl
 told_is of_districts.Third r = refl
-told_is of_districts.Fourth r = λ i. judged key.District
+told_is of_districts.Fourth r = λ i. verdict_of key.District
     (option_map (λ e. e.0) (find (λ (e : DistrictKey × District). not (sym (agrees r e.0) i)) (entries r.districts)))
 
 pub loop-key-init : goal.loop-key-init
 loop-key-init c =
     let past : Rows = rows_then c.args.tables.now c.args.when.now in
-    ap (λ (es : List (DistrictKey × District)). told c.args.condition.now past
-    (stood c.args.when.now past.districts es)) (c.into_iter-key-iterator.ensures.into_iter_gives
+    ap (λ (es : List (DistrictKey × District)). verdict_in c.args.condition.now past
+    (entries_then c.args.when.now past.districts es)) (c.into_iter-key-iterator.ensures.into_iter_gives
     ∙ c.districts-key-items.ensures)
-    ∙ ap (told c.args.condition.now past) (sym (districts_are c.args.tables.now c.args.when.now c.requires))
+    ∙ ap (verdict_in c.args.condition.now past) (sym (districts_are c.args.tables.now c.args.when.now c.requires))
     ∙ told_is c.args.condition.now past

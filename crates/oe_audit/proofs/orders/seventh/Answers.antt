@@ -3,18 +3,18 @@ use Rattle.std.specs.Prelude.{find}
 use Rattle.oe_rows.specs.declared.keys.Key.TheVariants as key
 use Rattle.oe_rows.specs.declared.keys.OrderLineKey.{OrderLineKey}
 use Rattle.oe_rows.specs.declared.orders.OrderLine.{OrderLine}
-use Rattle.oe_model.specs.Audits.{Verdict, judged, passes_7}
+use Rattle.oe_model.specs.Audits.{Verdict, verdict_of, passes_7}
 use Rattle.oe_model.specs.Rows.{Rows}
-use Rattle.oe_audit.specs.AsOf.{rows_then, stood}
+use Rattle.oe_audit.specs.AsOf.{rows_then, entries_then}
 use Rattle.oe_audit.proofs.StoodFacts.{all_lines_are}
 use Rattle.oe_audit.proofs.orders.seventh.Goals as goal
 
-abbrev told : Rows → List (OrderLineKey × OrderLine) → Verdict
-told r es = judged key.OrderLine (option_map (λ e. e.0) (find (λ e. not (passes_7 r e.0 e.1)) es))
+abbrev verdict_in : Rows → List (OrderLineKey × OrderLine) → Verdict
+verdict_in r es = verdict_of key.OrderLine (option_map (λ e. e.0) (find (λ e. not (passes_7 r e.0 e.1)) es))
 
 pub loop-key-init : goal.loop-key-init
 loop-key-init c =
     let past : Rows = rows_then c.args.tables.now c.args.when.now in
-    ap (λ (es : List (OrderLineKey × OrderLine)). told past (stood c.args.when.now past.order_lines es))
+    ap (λ (es : List (OrderLineKey × OrderLine)). verdict_in past (entries_then c.args.when.now past.order_lines es))
     (c.into_iter-key-iterator.ensures.into_iter_gives ∙ c.order_lines-key-items.ensures)
-    ∙ ap (told past) (sym (all_lines_are c.args.tables.now c.args.when.now c.requires))
+    ∙ ap (verdict_in past) (sym (all_lines_are c.args.tables.now c.args.when.now c.requires))

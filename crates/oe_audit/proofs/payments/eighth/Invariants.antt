@@ -1,14 +1,14 @@
 use Rattle.std.proofs.Common.{◌≡◌, option_map, not}
 use Rattle.std.specs.Prelude.{find}
 use Rattle.oe_rows.specs.declared.keys.Key.TheVariants as key
-use Rattle.oe_model.specs.Audits.{Eighth, judged, passes_8, verdict}
-use Rattle.oe_audit.specs.AsOf.{rows_then, stood}
+use Rattle.oe_model.specs.Audits.{Eighth, verdict_of, passes_8, verdict}
+use Rattle.oe_audit.specs.AsOf.{rows_then, entries_then}
 use Rattle.oe_audit.proofs.payments.eighth.Given as goal
 
 -- the first row that failed is among those that are left
 abbrev pub invariant-loop-key : goal.invariant-loop-key
 invariant-loop-key l =
-    judged key.Warehouse (option_map (λ e. e.0)
+    verdict_of key.Warehouse (option_map (λ e. e.0)
     (find (λ e. not (passes_8 (rows_then l.tables l.when) e.0 e.1))
-    (stood l.when (rows_then l.tables l.when).warehouses l.key-iterator)))
+    (entries_then l.when (rows_then l.tables l.when).warehouses l.key-iterator)))
     ≡ verdict Eighth (rows_then l.tables l.when)

@@ -3,18 +3,18 @@ use Rattle.std.specs.Prelude.{find}
 use Rattle.oe_rows.specs.declared.keys.Key.TheVariants as key
 use Rattle.oe_rows.specs.declared.keys.DistrictKey.{DistrictKey}
 use Rattle.oe_rows.specs.declared.districts.District.{District}
-use Rattle.oe_model.specs.Audits.{Verdict, judged, passes_9}
+use Rattle.oe_model.specs.Audits.{Verdict, verdict_of, passes_9}
 use Rattle.oe_model.specs.Rows.{Rows}
-use Rattle.oe_audit.specs.AsOf.{rows_then, stood}
+use Rattle.oe_audit.specs.AsOf.{rows_then, entries_then}
 use Rattle.oe_audit.proofs.StoodFacts.{districts_are}
 use Rattle.oe_audit.proofs.payments.ninth.Goals as goal
 
-abbrev told : Rows → List (DistrictKey × District) → Verdict
-told r es = judged key.District (option_map (λ e. e.0) (find (λ e. not (passes_9 r e.0 e.1)) es))
+abbrev verdict_in : Rows → List (DistrictKey × District) → Verdict
+verdict_in r es = verdict_of key.District (option_map (λ e. e.0) (find (λ e. not (passes_9 r e.0 e.1)) es))
 
 pub loop-key-init : goal.loop-key-init
 loop-key-init c =
     let past : Rows = rows_then c.args.tables.now c.args.when.now in
-    ap (λ (es : List (DistrictKey × District)). told past (stood c.args.when.now past.districts es))
+    ap (λ (es : List (DistrictKey × District)). verdict_in past (entries_then c.args.when.now past.districts es))
     (c.into_iter-key-iterator.ensures.into_iter_gives ∙ c.districts-key-items.ensures)
-    ∙ ap (told past) (sym (districts_are c.args.tables.now c.args.when.now c.requires))
+    ∙ ap (verdict_in past) (sym (districts_are c.args.tables.now c.args.when.now c.requires))

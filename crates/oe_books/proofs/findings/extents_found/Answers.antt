@@ -2,7 +2,7 @@ use Rattle.std.specs.Prelude.{nat_eq}
 use Rattle.std.specs.Ordering.{nat_cmp}
 use Rattle.oe_ledgers.specs.Keys.{district_cmp, same_district, same_stock, stock_cmp}
 use Rattle.oe_checks.specs.Schema.{orders_without_gap, ten_districts}
-use Rattle.oe_checks.specs.Sizes.{customers_each, stocked}
+use Rattle.oe_checks.specs.Sizes.{customers_each, stock_apart}
 use Rattle.oe_books.proofs.findings.extents_found.Goals as goal
 
 pub returns-in-Districts : goal.returns-in-Districts
@@ -13,7 +13,7 @@ returns-in-Districts c given t h =
 
 pub returns-in-Stocks : goal.returns-in-Stocks
 returns-in-Stocks c given t h =
-    rw c.in-Stocks.is (c.listed-in-Stocks.ensures stock_cmp same_stock (stocked t.warehouses t.items t.stocks)
+    rw c.in-Stocks.is (c.listed-in-Stocks.ensures stock_cmp same_stock (stock_apart t.warehouses t.items t.stocks)
     (c.stocked.ensures t.warehouses t.items t.stocks h.books.warehouses.kept h.few.warehouses h.books.items.kept
     h.few.items h.books.stocks.kept h.few.stocks))
 

@@ -1,5 +1,5 @@
 use Rattle.std.proofs.Common.{◌∙◌}
-use Rattle.oe_checks.specs.Comparing.{repeated}
+use Rattle.oe_checks.specs.Comparing.{repeats_apart}
 use Rattle.oe_ledgers.proofs.ItemsFigures.{item_rows-kept}
 use Rattle.oe_checks.proofs.FindingFacts.{if_ok, alike_of_one}
 use Rattle.std.proofs.Common.{subst, sym}
@@ -16,6 +16,6 @@ pub returns : goal.returns
 returns c of_items kept_of_items few_of_items =
     if_ok c.findings.result c.findings.ensures (λ found all. record {
       ordered = all.ordered;
-      exact = λ k. all.exact k ∙ alike_of_one repeated
+      exact = λ k. all.exact k ∙ alike_of_one repeats_apart
           (item_rows-kept of_items c.args.items.now kept_of_items few_of_items k);
     })

@@ -1,5 +1,5 @@
 use Rattle.std.proofs.Common.{◌∙◌}
-use Rattle.oe_checks.specs.Comparing.{orphaned}
+use Rattle.oe_checks.specs.Comparing.{orphans_apart}
 use Rattle.oe_ledgers.proofs.OrderLinesFigures.{lines_of_order-kept}
 use Rattle.oe_ledgers.proofs.OrdersFigures.{order_rows-kept}
 use Rattle.oe_checks.proofs.FindingFacts.{if_ok, alike_of_two}
@@ -9,7 +9,7 @@ pub returns : goal.returns
 returns c of_lines of_orders kept_of_lines few_of_lines kept_of_orders few_of_orders =
     if_ok c.findings.result c.findings.ensures (λ found all. record {
       ordered = all.ordered;
-      exact = λ k. all.exact k ∙ alike_of_two orphaned
+      exact = λ k. all.exact k ∙ alike_of_two orphans_apart
           (lines_of_order-kept of_lines c.args.lines.now kept_of_lines few_of_lines k)
           (order_rows-kept of_orders c.args.orders.now kept_of_orders few_of_orders k);
     })

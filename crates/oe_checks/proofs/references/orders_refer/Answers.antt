@@ -1,5 +1,5 @@
 use Rattle.std.proofs.Common.{◌∙◌}
-use Rattle.oe_checks.specs.Comparing.{orphaned}
+use Rattle.oe_checks.specs.Comparing.{orphans_apart}
 use Rattle.oe_ledgers.proofs.OrdersFigures.{orders_of_customer-kept}
 use Rattle.oe_ledgers.proofs.CustomersFigures.{customer_rows-kept}
 use Rattle.oe_checks.proofs.FindingFacts.{if_ok, alike_of_two}
@@ -9,7 +9,7 @@ pub returns : goal.returns
 returns c of_orders of_customers kept_of_orders few_of_orders kept_of_customers few_of_customers =
     if_ok c.findings.result c.findings.ensures (λ found all. record {
       ordered = all.ordered;
-      exact = λ k. all.exact k ∙ alike_of_two orphaned
+      exact = λ k. all.exact k ∙ alike_of_two orphans_apart
           (orders_of_customer-kept of_orders c.args.orders.now kept_of_orders few_of_orders k)
           (customer_rows-kept of_customers c.args.customers.now kept_of_customers few_of_customers k);
     })

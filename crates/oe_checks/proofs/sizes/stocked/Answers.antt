@@ -12,7 +12,7 @@ use Rattle.oe_ledgers.specs.Sums.{stocks_joined, warehouses_joined}
 use Rattle.oe_ledgers.proofs.WarehousesFigures.{warehouse_rows-kept}
 use Rattle.oe_ledgers.proofs.ItemsFigures.{item_rows-kept}
 use Rattle.oe_ledgers.proofs.StocksFigures.{stock_rows-kept}
-use Rattle.oe_checks.specs.Sizes.{unstocked, all_missing}
+use Rattle.oe_checks.specs.Sizes.{missing_stock, all_missing}
 use Rattle.oe_checks.proofs.FindingFacts.{if_ok, alike_of_three}
 use Rattle.oe_checks.proofs.SizeFacts.{unstocked-mapped, all-missing}
 use Rattle.oe_checks.proofs.sizes.stocked.Goals as goal
@@ -34,7 +34,7 @@ returns c ws its ss kept_ws few_ws kept_is few_is kept_ss few_ss =
           (λ (s : StockSums). pos s.rows)
           (total nat_eq warehouses_joined warehouses k.warehouse) (total nat_eq counts_joined items k.item)
           (total same_stock stocks_joined stocks k)
-          ∙ alike_of_three unstocked (warehouse_rows-kept ws c.args.warehouses.now kept_ws few_ws k.warehouse)
+          ∙ alike_of_three missing_stock (warehouse_rows-kept ws c.args.warehouses.now kept_ws few_ws k.warehouse)
           (item_rows-kept its c.args.items.now kept_is few_is k.item)
           (stock_rows-kept ss c.args.stocks.now kept_ss few_ss k);
     })

@@ -1,6 +1,6 @@
 use Rattle.std.proofs.Common.{◌∙◌, ap, refl}
 use Rattle.oe_fields.specs.Parting.{Line, fields_of}
-use Rattle.oe_columns.specs.Headings.{named}
+use Rattle.oe_columns.specs.Headings.{column_place}
 use Rattle.oe_columns.proofs.HeadingFacts.{named_first, named_last, stepped, shorter}
 use Rattle.oe_columns.proofs.headings.find_name.Goals as goal
 
@@ -35,5 +35,5 @@ returns-in-None c =
     let text = i.text ∙ ap (λ (l : Line). l.text) c.new-fields.ensures in
     named_last c.args.name.now (fields_of c.loop-text.fields.format c.loop-text.fields.text) c.loop-text.seen
     c.loop-text.fields.place c.in-None.ensures.value i.so_far
-    ∙ ap (λ f. named c.args.name.now (fields_of f c.loop-text.fields.text)) i.format
-    ∙ ap (λ t. named c.args.name.now (fields_of c.args.format t)) text
+    ∙ ap (λ f. column_place c.args.name.now (fields_of f c.loop-text.fields.text)) i.format
+    ∙ ap (λ t. column_place c.args.name.now (fields_of c.args.format t)) text

@@ -6,7 +6,7 @@ use Rattle.oe_rows.specs.declared.locks.Name.TheVariants as name
 use Rattle.oe_requests.specs.declared.requests.Request.TheVariants as request
 use Rattle.oe_model.specs.Keys.{order_of_line, order_in, line_in}
 use Rattle.oe_model.specs.Changes.{UpdateOrderLine}
-use Rattle.oe_model.specs.Delivery.{dated}
+use Rattle.oe_model.specs.Delivery.{with_date}
 use Rattle.oe_model.specs.Positions.{DeliveryLine, InDelivery}
 use Rattle.oe_engine.specs.View.{view_of}
 use Rattle.oe_engine.specs.Programs.{GoesOn}
@@ -35,8 +35,8 @@ returns-in-Ok c =
     subst (λ l. GoesOn c.args.engine.now c.args.tx.now (request.Delivery c.args.request.now)
     (InDelivery c.args.request.now (line_position c.args.remainder.now))
     c.put_held.new.engine (InDelivery c.args.request.now (line_position l))) (sym c.pass.ensures)
-    (c.in-Ok.ensures.does (UpdateOrderLine c.line.result (dated c.args.request.now.stamp c.in-Some.row.now))
-    (ap (option_map (λ z. UpdateOrderLine c.line.result (dated c.args.request.now.stamp z)))
+    (c.in-Ok.ensures.does (UpdateOrderLine c.line.result (with_date c.args.request.now.stamp c.in-Some.row.now))
+    (ap (option_map (λ z. UpdateOrderLine c.line.result (with_date c.args.request.now.stamp z)))
     (found (goal.at.returns-in-Ok c).After-put_held))
     (request.Delivery c.args.request.now) (InDelivery c.args.request.now (line_position c.args.remainder.now))
     (InDelivery c.args.request.now
@@ -49,8 +49,8 @@ returns-in-Ok c =
 
 pub returns-in-Err : goal.returns-in-Err
 returns-in-Err c = (
-  c.in-Err.ensures.does (UpdateOrderLine c.line.result (dated c.args.request.now.stamp c.in-Some.row.now))
-      (ap (option_map (λ z. UpdateOrderLine c.line.result (dated c.args.request.now.stamp z)))
+  c.in-Err.ensures.does (UpdateOrderLine c.line.result (with_date c.args.request.now.stamp c.in-Some.row.now))
+      (ap (option_map (λ z. UpdateOrderLine c.line.result (with_date c.args.request.now.stamp z)))
       (found (goal.at.returns-in-Err c).After-put_held))
       (request.Delivery c.args.request.now) (InDelivery c.args.request.now (line_position c.args.remainder.now))
       (InDelivery c.args.request.now

@@ -4,7 +4,7 @@ use Rattle.oe_store.specs.Numbered.{AreNumbered}
 use Rattle.oe_store.specs.Places.{rows}
 use Rattle.oe_versions.specs.Versions.{rows_of}
 use Rattle.oe_enquiry.specs.declared.items.Sold.{Sold}
-use Rattle.oe_enquiry.specs.Level.{is_short, items_sold, listed, HaveQuantities}
+use Rattle.oe_enquiry.specs.Level.{is_short, items_sold, list_with, HaveQuantities}
 use Rattle.oe_enquiry.proofs.RecentFacts.{lists_all, numbers_past}
 use Rattle.oe_enquiry.proofs.SoldFacts.{Lists, all_listed, lists_part, taken_have}
 use Rattle.oe_enquiry.proofs.LevelFacts.{are_low, none_low}
@@ -23,7 +23,7 @@ loop-init c =
     let v = c.args.version.now in
     let q = c.args.query.now in
     let p = is_short q (rows_of v) in
-    let all = listed p [] (items_sold q.district c.args.next (rows_of v).order_lines) in
+    let all = list_with p [] (items_sold q.district c.args.next (rows_of v).order_lines) in
     subst (λ is. Lists v q.district.warehouse p all is c.recent_lines-walk.result 0) (sym c.new-items.ensures)
     (subst (λ es. Lists v q.district.warehouse p all [] es 0)
     (sym (c.recent_lines-walk.ensures
@@ -44,11 +44,11 @@ loop-preserved c =
     let q = c.args.query.now in
     let p = is_short q (rows_of v) in
     lists_part v q.district.warehouse p
-    (listed p [] (items_sold q.district c.args.next (rows_of v).order_lines)) c.loop.items c.list_short.new.items
+    (list_with p [] (items_sold q.district c.args.next (rows_of v).order_lines)) c.loop.items c.list_short.new.items
     c.loop.walk c.take_sold-sold.new.walk c.take_sold-sold.result c.loop.counter c.loop.invariant
     c.take_sold-sold.ensures.sold c.take_sold-sold.ensures.standing c.take_sold-sold.ensures.taken
     c.take_sold-sold.ensures.most
-    (c.list_short.ensures.items ∙ ap (λ (ss : List Sold). listed p c.loop.items (map (λ s. s.item) ss))
+    (c.list_short.ensures.items ∙ ap (λ (ss : List Sold). list_with p c.loop.items (map (λ s. s.item) ss))
     c.as_slice.ensures.value)
     (subst (λ (ss : List Sold). length c.list_short.new.items ≤ length c.loop.items + length ss)
     c.as_slice.ensures.value c.list_short.ensures.few)
@@ -59,5 +59,5 @@ returns c =
     let q = c.args.query.now in
     let p = is_short q (rows_of v) in
     are_low q (rows_of v) c.args.next c.loop.items
-    (all_listed v q.district.warehouse p (listed p [] (items_sold q.district c.args.next (rows_of v).order_lines))
+    (all_listed v q.district.warehouse p (list_with p [] (items_sold q.district c.args.next (rows_of v).order_lines))
     c.loop.items c.loop.walk c.loop.counter c.loop.invariant c.loop-test.false)

@@ -1,7 +1,7 @@
 use Rattle.std.proofs.Common.{length, ap, ◌∙◌, [], unwrap_or}
 use Rattle.oe_audit_report.specs.declared.report.Counts.{Counts}
 use Rattle.oe_audit_report.specs.Report.{failing}
-use Rattle.oe_books.specs.Facts.{parted}
+use Rattle.oe_books.specs.Facts.{facts_by_table}
 use Rattle.oe_file_audit.specs.Reading.{facts_of, prints_of}
 use Rattle.oe_file_audit.proofs.AuditFacts.{are_of, all_hold, some_fails}
 use Rattle.oe_file_audit.proofs.audits.report.Goals as goal
@@ -11,7 +11,8 @@ returns-in-Ok-write_report g c earlier rows ready asked compares =
     let results = c.in-Ok.results in (
       results,
       are_of c.args.options.now earlier rows c.args.settled.now ready c.args.asked asked results
-          (c.in-Ok.ensures c.args.options.now.initial (parted (facts_of rows)) ready (prints_of (unwrap_or earlier []))
+          (c.in-Ok.ensures c.args.options.now.initial (facts_by_table (facts_of rows)) ready
+          (prints_of (unwrap_or earlier []))
           (prints_of rows) compares),
       c.in-Ok-write_report.ensures,
       all_hold results c.counted.result.failing (ap (λ (n : Counts). n.failing) c.counted.ensures.is
@@ -23,7 +24,8 @@ returns-in-Ok-2 g c earlier rows ready asked compares =
     let results = c.in-Ok.results in (
       results,
       are_of c.args.options.now earlier rows c.args.settled.now ready c.args.asked asked results
-          (c.in-Ok.ensures c.args.options.now.initial (parted (facts_of rows)) ready (prints_of (unwrap_or earlier []))
+          (c.in-Ok.ensures c.args.options.now.initial (facts_by_table (facts_of rows)) ready
+          (prints_of (unwrap_or earlier []))
           (prints_of rows) compares),
       c.in-Ok-2.ensures,
       some_fails results c.counted.result.failing (ap (λ (n : Counts). n.failing) c.counted.ensures.is
@@ -35,7 +37,8 @@ returns g c earlier rows ready asked compares =
     let results = c.in-Ok.results in (
       results,
       are_of c.args.options.now earlier rows c.args.settled.now ready c.args.asked asked results
-          (c.in-Ok.ensures c.args.options.now.initial (parted (facts_of rows)) ready (prints_of (unwrap_or earlier []))
+          (c.in-Ok.ensures c.args.options.now.initial (facts_by_table (facts_of rows)) ready
+          (prints_of (unwrap_or earlier []))
           (prints_of rows) compares),
       c.in-Err-write_report.ensures,
     )

@@ -1,6 +1,6 @@
 use Rattle.std.proofs.Common.{◌≡◌, ◌==◌, [], length, true, false, sym, ◌∙◌}
 use Rattle.std.proofs.lemmas.Bool.{eq-eqb, eqb-true}
-use Rattle.oe_file_serial.specs.Files.{unended}
+use Rattle.oe_file_serial.specs.Files.{last_line_fault}
 use Rattle.oe_file_serial.proofs.BadFacts.{none_bad, unended_bad}
 use Rattle.oe_file_serial.proofs.lines.bad_last.Goals as goal
 
@@ -16,7 +16,7 @@ returns-then-is_empty c =
 pub returns : goal.returns
 returns c =
     let some : (length c.args.input.now == 0) ≡ false = sym c.is_empty.ensures ∙ c.if-is_empty.false in (
-      unended 1 c.args.input.now,
+      last_line_fault 1 c.args.input.now,
       unended_bad c.args.kind c.args.input.now c.requires
           (λ e.
           let same : true ≡ false = sym (eq-eqb (length c.args.input.now) 0 e) ∙ some in

@@ -1,6 +1,6 @@
 use Rattle.std.proofs.Common.{◌≡◌, ℕ, ◌+◌, List, [], ◌∷◌, ◌++◌, length, refl, sym, ap, subst, ◌∙◌, append_assoc, arith}
 use Rattle.std.proofs.lemmas.List.{append-nil, length-append}
-use Rattle.oe_file_serial.specs.Files.{Untold, Shows, unended, lines_of, last_of}
+use Rattle.oe_file_serial.specs.Files.{Untold, Shows, last_line_fault, lines_of, last_of}
 use Rattle.oe_file_serial.proofs.LineFacts.{next_line, no_line}
 use Rattle.oe_file_serial.proofs.BadFacts.{untold_then}
 use Rattle.oe_file_serial.specs.declared.reasons.BadLine.{BadLine}
@@ -42,9 +42,9 @@ returns c =
     let lines = c.args.lines.now in
     let length_none = ap length none.0 in
     let number : c.loop-line.number ≡ length (lines_of lines) + 2 = omega (arith, i.number, length_none) in
-    let same : unended c.loop-line.number left ≡ unended (length (lines_of lines) + 2) (last_of lines) =
-    ap (λ (k : ℕ). unended k left) number
-    ∙ ap (unended (length (lines_of lines) + 2)) (sym (i.last ∙ none.1)) in (
+    let same : last_line_fault c.loop-line.number left ≡ last_line_fault (length (lines_of lines) + 2) (last_of lines) =
+    ap (λ (k : ℕ). last_line_fault k left) number
+    ∙ ap (last_line_fault (length (lines_of lines) + 2)) (sym (i.last ∙ none.1)) in (
       d.0,
       subst (Untold 2 (lines_of lines)) (append-nil d.0)
           (d.2 [] (subst (λ (ls : List (List ℕ)). Untold c.loop-line.number ls []) (sym none.0) refl)),

@@ -1,6 +1,6 @@
 use Rattle.std.proofs.Common.{length}
 use Rattle.oe_texts.specs.Dump.{count_line}
-use Rattle.oe_io.specs.Dump.{row_lines, shown}
+use Rattle.oe_io.specs.Dump.{row_lines, in_64_bits}
 use Rattle.oe_io.proofs.Streaming.{cut_more}
 use Rattle.oe_io.proofs.dumps.dump_rows.Goals as goal
 
@@ -8,4 +8,4 @@ pub returns-in-Err : goal.returns-in-Err
 returns-in-Err g c =
     cut_more (g.W.Outlet.sink c.args.to.now) (g.W.Outlet.sink c.lines.new.to) c.args.out.now.items
     (row_lines g.R.DumpedRow.columns c.args.walk)
-    (count_line (shown (length c.args.walk))) c.in-Err.ensures.stream
+    (count_line (in_64_bits (length c.args.walk))) c.in-Err.ensures.stream

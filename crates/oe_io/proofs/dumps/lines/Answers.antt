@@ -1,7 +1,7 @@
 use Rattle.std.proofs.Common.{◌+◌, ◌++◌, [], length, ap, sym, ◌∙◌, arith}
 use Rattle.std.proofs.lemmas.List.{append-nil}
 use Rattle.oe_texts.specs.Column.{line_of}
-use Rattle.oe_io.specs.Dump.{row_lines, shown}
+use Rattle.oe_io.specs.Dump.{row_lines, in_64_bits}
 use Rattle.oe_io.proofs.Streaming.{sent_none, sent_then, sent_cut, sent_as, sent_waits, cut_as, cut_more}
 use Rattle.oe_io.proofs.DumpFacts.{shown_start, shown_step, shown_end, lines_step}
 use Rattle.oe_io.proofs.dumps.lines.Goals as goal
@@ -52,7 +52,7 @@ loop-key-preserved g c =
         sent.2 ∙ lines_step g.R.DumpedRow.columns sent.0 c.in-Some.key.now c.in-Some.row.now c.loop-key.key-iterator
             c.next.new.self c.in-Some.ensures.steps,
       );
-      count = c.loop-key.invariant.count ∙ ap (λ es. shown (length es + c.loop-key.count)) c.in-Some.ensures.steps
+      count = c.loop-key.invariant.count ∙ ap (λ es. in_64_bits (length es + c.loop-key.count)) c.in-Some.ensures.steps
           ∙ shown_step (length c.next.new.self) c.loop-key.count c.saturating_add-count.result
           c.saturating_add-count.ensures;
       fits = omega (arith, c.saturating_add-count.ensures);

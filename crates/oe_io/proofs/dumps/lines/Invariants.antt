@@ -1,5 +1,5 @@
 use Rattle.std.proofs.Common.{◌≡◌, ℕ, ◌+◌, ◌-◌, ◌^◌, ◌≤◌, List, ◌++◌, length}
-use Rattle.oe_io.specs.Dump.{row_lines, shown}
+use Rattle.oe_io.specs.Dump.{row_lines, in_64_bits}
 use Rattle.oe_io.specs.Ports.{Sent}
 use Rattle.oe_io.proofs.dumps.lines.Given as goal
 
@@ -9,6 +9,6 @@ invariant-loop-key g l = record {
   sent : (text : List ℕ) × Sent (g.W.Outlet.sink l.initial.to) l.initial.out.items (g.W.Outlet.sink l.to) l.out.items
       text
       × (row_lines g.R.DumpedRow.columns l.fn.walk ≡ text ++ row_lines g.R.DumpedRow.columns l.key-iterator);
-  count : shown (length l.fn.walk) ≡ shown (length l.key-iterator + l.count);
+  count : in_64_bits (length l.fn.walk) ≡ in_64_bits (length l.key-iterator + l.count);
   fits : l.count ≤ 2 ^ 64 - 1;
 }

@@ -1,6 +1,6 @@
 use Rattle.std.proofs.Common.{◌≡◌, ◌∙◌, None, refl, sym, ap, arith}
 use Rattle.oe_rows.specs.declared.keys.Key.TheVariants.{Customer}
-use Rattle.oe_undo.specs.Undo.{seen}
+use Rattle.oe_undo.specs.Undo.{link_seen}
 use Rattle.oe_undo.specs.Walks.{leads_later}
 use Rattle.oe_index.specs.Numbers.{name_number}
 use Rattle.oe_journal.specs.Forgetting.{tells_name}
@@ -11,14 +11,15 @@ use Rattle.oe_journal.proofs.forgetting.had_later.Goals as goal
 
 pub loop-link-init : goal.loop-link-init
 loop-link-init c =
-    let link : c.link-link.result ≡ seen c.args.undo.now (Customer c.args.key.now) = c.link-link.ensures in
-    let walks = chains_are_walked c.args.undo.now.log (seen c.args.undo.now) (Customer c.args.key.now) c.args.moment
+    let link : c.link-link.result ≡ link_seen c.args.undo.now (Customer c.args.key.now) = c.link-link.ensures in
+    let walks = chains_are_walked c.args.undo.now.log (link_seen c.args.undo.now)
+    (Customer c.args.key.now) c.args.moment
     None c.is_chained.ensures.whole c.is_chained.ensures.chained c.requires in (
       (
         None,
         goes_first _ _ _ _ _ _ _ _ (rw link walks) c.new-ticks.ensures (omega (arith, c.records-known.ensures)),
       ),
-      asks_first c.args.undo.now.log c.args.moment (name_number c.args.last.now) (seen c.args.undo.now)
+      asks_first c.args.undo.now.log c.args.moment (name_number c.args.last.now) (link_seen c.args.undo.now)
           (Customer c.args.key.now) c.link-link.result c.is_chained.ensures.whole c.is_chained.ensures.chained link,
     )
 

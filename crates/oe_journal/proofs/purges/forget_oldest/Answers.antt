@@ -2,7 +2,7 @@ use Rattle.std.proofs.Common.{◌≡◌, ◌-◌, ◌+◌, ◌∙◌, refl, sym,
 use Rattle.oe_log.specs.Log.{SegmentLog, with_newest}
 use Rattle.oe_log.specs.Stands.{undo_of}
 use Rattle.oe_undo.specs.Chains.{IsEnd}
-use Rattle.oe_undo.specs.Undo.{seen}
+use Rattle.oe_undo.specs.Undo.{link_seen}
 use Rattle.oe_journal.specs.GivesUp.{GivesUpDeleted}
 use Rattle.oe_journal.proofs.PurgeFacts.{none_forgotten, left_are, ends_there, one_forgotten, ForgetsOldest}
 use Rattle.oe_journal.proofs.purges.forget_oldest.Goals as goal
@@ -24,7 +24,7 @@ loop-preserved c =
     let less : all - c.loop.counter - 1 ≡ all - (c.loop.counter + 1) = omega arith in
     let at : c.kept-oldest.result - 1 ≡ all - c.loop.counter - 1 = omega (arith, c.kept-oldest.ensures, kept, many) in
     let ends = ends_there c.calls_keep_chains.ensures c.ends_without_records.ensures c.args.undo.now.log c.loop.undo.log
-    (seen c.loop.undo) c.args.moment
+    (link_seen c.loop.undo) c.args.moment
     (all - c.args.count) (all - c.loop.counter) (omega arith) (omega arith) c.requires.last c.loop.invariant.0.log
     c.is_chained.ensures.whole c.is_chained.ensures.chained in (
       subst (ForgetsOldest c.args.tables.now c.give_up_deleted.new.tables c.args.undo.now.log
@@ -32,7 +32,7 @@ loop-preserved c =
           (subst (λ u. ForgetsOldest c.args.tables.now c.give_up_deleted.new.tables c.args.undo.now.log u
           (all - c.args.count) (all - c.loop.counter - 1)) (sym c.drop_oldest-owner.ensures.dropped)
           (one_forgotten c.args.tables.now c.loop.tables c.give_up_deleted.new.tables c.args.undo.now.log
-          c.loop.undo.log (λ k. IsEnd c.args.moment (seen c.loop.undo k))
+          c.loop.undo.log (λ k. IsEnd c.args.moment (link_seen c.loop.undo k))
           (all - c.args.count) (all - c.loop.counter) (c.kept-oldest.result - 1) (omega arith) (omega arith) at ends
           c.give_up_deleted.ensures.rows
           c.give_up_deleted.ensures.places

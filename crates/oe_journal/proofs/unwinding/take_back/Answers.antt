@@ -5,9 +5,9 @@ use Rattle.oe_layout.specs.Records.{record_of_own}
 use Rattle.oe_log.specs.Log.{active_at, records_at}
 use Rattle.oe_log.proofs.StateFacts.{some_of}
 use Rattle.oe_undo.specs.Held.{horizon}
-use Rattle.oe_undo.specs.Undo.{seen}
+use Rattle.oe_undo.specs.Undo.{link_seen}
 use Rattle.oe_model.specs.Changes.{record_key}
-use Rattle.oe_journal.specs.Identity.{led_back}
+use Rattle.oe_journal.specs.Identity.{links_behind}
 use Rattle.oe_journal.specs.Named.{PutsBack}
 use Rattle.oe_journal.proofs.LinkedFacts.{none_stay, then_stay, links_stay}
 use Rattle.oe_journal.proofs.LedFacts.{horizon_kept, led_on, led_alike}
@@ -23,8 +23,8 @@ loop-init c =
           (begins c.args.tables.now c.args.undo.now.log c.args.segment c.args.count c.requires.enough c.requires.places
           c.requires.unwinds),
       none_stay c.args.tables.now c.args.undo.now.links,
-      λ k. ap (λ n. led_back (horizon c.args.undo.now.log) c.args.segment
-          (take n (records_at c.args.undo.now.log c.args.segment)) (seen c.args.undo.now) k) (sym all),
+      λ k. ap (λ n. links_behind (horizon c.args.undo.now.log) c.args.segment
+          (take n (records_at c.args.undo.now.log c.args.segment)) (link_seen c.args.undo.now) k) (sym all),
     )
 
 pub take_newest-requires : goal.take_newest-requires
@@ -73,10 +73,10 @@ loop-preserved c =
           (horizon_kept c.args.undo.now.log c.loop.undo.log c.args.segment (records_at c.loop.undo.log c.args.segment)
           c.loop.invariant.0.log)
           (sym c.in-Some.ensures.newest) c.take_newest.ensures.log c.take_newest.ensures.links
-          (subst (λ n. (k : Key) → led_back (horizon c.args.undo.now.log) c.args.segment
-          (take n (records_at c.loop.undo.log c.args.segment)) (seen c.loop.undo) k
-          ≡ led_back (horizon c.args.undo.now.log) c.args.segment
-          (take c.args.count (records_at c.args.undo.now.log c.args.segment)) (seen c.args.undo.now) k) one_less
+          (subst (λ n. (k : Key) → links_behind (horizon c.args.undo.now.log) c.args.segment
+          (take n (records_at c.loop.undo.log c.args.segment)) (link_seen c.loop.undo) k
+          ≡ links_behind (horizon c.args.undo.now.log) c.args.segment
+          (take c.args.count (records_at c.args.undo.now.log c.args.segment)) (link_seen c.args.undo.now) k) one_less
           c.loop.invariant.2) k,
     )
 
@@ -92,5 +92,6 @@ returns-clause-back c =
 pub returns-clause-seen : goal.returns-clause-seen
 returns-clause-seen c = λ k.
     let none : 0 ≡ c.args.count - c.loop.counter = omega arith in
-    ap (λ n. led_back (horizon c.args.undo.now.log) c.args.segment (take n (records_at c.loop.undo.log c.args.segment))
-    (seen c.loop.undo) k) none ∙ c.loop.invariant.2 k
+    ap (λ n. links_behind (horizon c.args.undo.now.log) c.args.segment
+    (take n (records_at c.loop.undo.log c.args.segment))
+    (link_seen c.loop.undo) k) none ∙ c.loop.invariant.2 k

@@ -4,7 +4,7 @@ use Rattle.oe_theory.specs.World.{World}
 use Rattle.oe_model.specs.System.{system}
 use Rattle.oe_core.specs.Core.{world_of}
 use Rattle.oe_waits.specs.Waits.{last_terminal}
-use Rattle.oe_load.specs.Picks.{holders_of, followed}
+use Rattle.oe_load.specs.Picks.{holders_of, waits_end}
 use Rattle.oe_load.proofs.PickFacts.{ends, comes_back, goes_on, all_are}
 use Rattle.oe_load.proofs.picks.followed.Goals as goal
 
@@ -16,7 +16,7 @@ returns-in-None c =
     let k = c.loop.counter in
     let below : k < 64 = search rules in
     let left : last_terminal - k ≡ suc (last_terminal - (k + 1)) = omega (arith, below, all_are) in
-    sym (ap (λ n. followed w named t n c.loop.at) left
+    sym (ap (λ n. waits_end w named t n c.loop.at) left
     ∙ ends w named t (last_terminal - (k + 1)) c.loop.at (sym c.holder_of.ensures ∙ c.in-None.is))
     ∙ c.loop.invariant
 
@@ -28,7 +28,7 @@ returns-then-eq c =
     let k = c.loop.counter in
     let below : k < 64 = search rules in
     let left : last_terminal - k ≡ suc (last_terminal - (k + 1)) = omega (arith, below, all_are) in
-    sym (ap (λ n. followed w named t n c.loop.at) left
+    sym (ap (λ n. waits_end w named t n c.loop.at) left
     ∙ comes_back w named t (last_terminal - (k + 1)) c.loop.at c.in-Some.holder
     (sym c.holder_of.ensures ∙ c.in-Some.is) (eq-eqb c.in-Some.holder t (search rules)))
     ∙ c.loop.invariant
@@ -41,7 +41,7 @@ loop-preserved c =
     let k = c.loop.counter in
     let below : k < 64 = search rules in
     let left : last_terminal - k ≡ suc (last_terminal - (k + 1)) = omega (arith, below, all_are) in
-    sym (ap (λ n. followed w named t n c.loop.at) left
+    sym (ap (λ n. waits_end w named t n c.loop.at) left
     ∙ goes_on w named t (last_terminal - (k + 1)) c.loop.at c.in-Some.holder
     (sym c.holder_of.ensures ∙ c.in-Some.is) (ne_eqb c.in-Some.holder t (search rules)))
     ∙ c.loop.invariant
@@ -52,4 +52,4 @@ returns c =
     let named : ℕ → Option ℕ = holders_of c.args.holders.now in
     let all : c.loop.counter ≡ 64 = omega arith in
     let done : last_terminal - c.loop.counter ≡ 0 = omega (arith, all, all_are) in
-    sym (ap (λ n. followed w named c.args.terminal n c.loop.at) done) ∙ c.loop.invariant
+    sym (ap (λ n. waits_end w named c.args.terminal n c.loop.at) done) ∙ c.loop.invariant

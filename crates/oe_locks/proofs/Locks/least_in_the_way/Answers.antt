@@ -1,5 +1,5 @@
 use Rattle.std.proofs.Common.{◌≡◌, ◌<◌, length, arith, true, ap, ◌∙◌}
-use Rattle.oe_locks.specs.Held.{held, go_together}
+use Rattle.oe_locks.specs.Held.{mode_held, go_together}
 use Rattle.oe_locks.proofs.HeldFacts.{held-at, within-rest, free-rest, not_false, not_true}
 use Rattle.oe_locks.proofs.SetFacts.{size-less}
 use Rattle.oe_locks.proofs.Locks.least_in_the_way.Goals as goal
@@ -22,7 +22,7 @@ loop-other-preserved c =
     omega (arith, c.at.ensures.size, c.at.ensures.high) in
     let at =
     held-at c.self.inside.held c.in-Some.other c.at.result.now room c.at.ensures.value c.args.name.now in
-    let free : go_together c.args.mode (held c.self.inside.held c.in-Some.other c.args.name.now) ≡ true =
+    let free : go_together c.args.mode (mode_held c.self.inside.held c.in-Some.other c.args.name.now) ≡ true =
     ap (go_together c.args.mode) at ∙ not_false _ c.if-conflicts.ensures in
     record {
       within = within-rest c.self.inside.held c.args.others c.loop-other.left c.without-left.result c.in-Some.other

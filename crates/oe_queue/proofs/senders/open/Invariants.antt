@@ -1,7 +1,7 @@
 use Rattle.std.proofs.Common.{◌≡◌, ℕ, ◌+◌, vec_len, [], Some, slice_get}
 use Rattle.crossbeam_channel.specs.Claims.{view as known, IsSeatAt}
 use Rattle.crossbeam_channel.specs.Ends.{sends_on}
-use Rattle.oe_queue.specs.Ends.{TheSender, hand_of, unused}
+use Rattle.oe_queue.specs.Ends.{TheSender, hand_of, new_sender}
 use Rattle.oe_queue.specs.declared.rules.Knowledge.TheVariants.{Taking}
 use Rattle.oe_queue.proofs.senders.open.Given as goal
 
@@ -11,4 +11,4 @@ invariant-loop-number l = IsSeatAt (sends_on l.end) l.pass × (known l.pass ≡ 
     × ((hand_of (known l.pass)).told ≡ [])
     × (vec_len l.senders ≡ l.number)
     × ((k : ℕ) (s : TheSender) → slice_get l.senders.items k ≡ Some s
-    → s ≡ unused (record { table = l.pass.table_id; key = l.pass.me.0.of }) (k + 1))
+    → s ≡ new_sender (record { table = l.pass.table_id; key = l.pass.me.0.of }) (k + 1))

@@ -4,7 +4,7 @@ use Rattle.oe_rows.specs.declared.customers.Customer.{Customer}
 use Rattle.oe_requests.specs.declared.requests.Request.TheVariants as request
 use Rattle.oe_model.specs.Changes.{UpdateCustomer}
 use Rattle.oe_model.specs.Positions.{RenameNew, RenameEnd, InRename}
-use Rattle.oe_model.specs.Rename.{renamed}
+use Rattle.oe_model.specs.Rename.{with_new_name}
 use Rattle.oe_engine.specs.View.{view_of}
 use Rattle.oe_rename.proofs.StageFacts.{may_set, names_written, names_set}
 use Rattle.oe_rename.proofs.stages.set_names.Goals.{After-put_under}
@@ -27,7 +27,7 @@ pub returns-in-Ok : goal.returns-in-Ok
 returns-in-Ok c =
     let q = c.args.request.now in
     let (y, here) = found (goal.at.returns-in-Ok c).After-put_under in
-    c.in-Ok.ensures.does (UpdateCustomer q.customer (renamed q y))
+    c.in-Ok.ensures.does (UpdateCustomer q.customer (with_new_name q y))
     (names_written q c.args.tx.now c.args.engine.now y here c.as_text.result c.as_text-2.result c.as_text.ensures
     c.as_text-2.ensures)
     (request.Rename q) (InRename q (RenameNew c.args.last)) (InRename q (RenameEnd c.args.last))
@@ -38,7 +38,7 @@ pub returns-in-Err : goal.returns-in-Err
 returns-in-Err c =
     let q = c.args.request.now in
     let (y, here) = found (goal.at.returns-in-Err c).After-put_under in (
-      c.in-Err.ensures.does (UpdateCustomer q.customer (renamed q y))
+      c.in-Err.ensures.does (UpdateCustomer q.customer (with_new_name q y))
           (names_written q c.args.tx.now c.args.engine.now y here c.as_text.result c.as_text-2.result c.as_text.ensures
           c.as_text-2.ensures)
           (request.Rename q) (InRename q (RenameNew c.args.last)) (InRename q (RenameEnd c.args.last))

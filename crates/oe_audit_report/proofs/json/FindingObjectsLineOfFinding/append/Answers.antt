@@ -1,6 +1,6 @@
 use Rattle.std.proofs.Common.{◌≡◌, ℕ, List, ◌++◌, ap, ◌∙◌, append_assoc}
 use Rattle.std.specs.Prelude.{codes, decimal}
-use Rattle.oe_audit_report.specs.Texts.{joined}
+use Rattle.oe_audit_report.specs.Texts.{comma_list}
 use Rattle.oe_audit_report.specs.Json.{figures_json}
 use Rattle.oe_audit_report.proofs.json.FindingObjectsLineOfFinding.append.Goals as goal
 
@@ -14,6 +14,6 @@ returns c =
     let figures = figures_json c.args.self.now.is_money c.args.finding.now in
     let key = c.as_slice.result.now in
     c.figures.ensures
-    ∙ ap (λ o. o ++ figures) (c.listed.ensures.items ∙ ap (λ o. o ++ joined decimal key) c.text.ensures.items)
-    ∙ regroup out front (joined decimal key) figures
-    ∙ ap (λ k. out ++ ((front ++ joined decimal k) ++ figures)) c.as_slice.ensures.value
+    ∙ ap (λ o. o ++ figures) (c.listed.ensures.items ∙ ap (λ o. o ++ comma_list decimal key) c.text.ensures.items)
+    ∙ regroup out front (comma_list decimal key) figures
+    ∙ ap (λ k. out ++ ((front ++ comma_list decimal k) ++ figures)) c.as_slice.ensures.value

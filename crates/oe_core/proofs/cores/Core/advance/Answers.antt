@@ -3,7 +3,7 @@ use Rattle.std.specs.Prelude.{IsSome, IfSome}
 use Rattle.oe_theory.specs.Next.{Advance, More, Committed}
 use Rattle.oe_engine.specs.View.{view_of}
 use Rattle.oe_engine.specs.View as engine
-use Rattle.oe_engine.specs.Calls.{committed}
+use Rattle.oe_engine.specs.Calls.{after_commit}
 use Rattle.oe_engine.specs.Programs.{reply_at}
 use Rattle.oe_requests.specs.declared.steps.Step.TheVariants as step
 use Rattle.oe_core.specs.Core.{Moves, last_reply, reply_left, in_slot}
@@ -105,10 +105,10 @@ committed_now c =
     ready.0.0 c.commit.result c.next.new.engine c.commit.new.engine _ _ (Some c.next.new.self)
     ready.0.1 ready.1 c.commit.ensures.moment
     (subst (λ o. IfSome o
-    (λ y. view_of c.commit.new.engine ≡ committed c.open_tx-open.result.terminal c.in-Some-at_mut.work.request y
+    (λ y. view_of c.commit.new.engine ≡ after_commit c.open_tx-open.result.terminal c.in-Some-at_mut.work.request y
     (view_of c.next.new.engine))) reply
     (subst (λ (q : Request). IfSome (reply_at c.next.new.self.position)
-    (λ y. view_of c.commit.new.engine ≡ committed c.open_tx-open.result.terminal q y (view_of c.next.new.engine)))
+    (λ y. view_of c.commit.new.engine ≡ after_commit c.open_tx-open.result.terminal q y (view_of c.next.new.engine)))
     (ap (λ (w : WorkState). w.request) c.in-Ready.ensures.left) c.commit.ensures.committed))
     c.commit.ensures.name c.open_tx-open.ensures.after
     refl

@@ -1,6 +1,6 @@
 use Rattle.std.proofs.Common.{refl, ap, ◌∙◌}
 use Rattle.oe_model.specs.System.{ask}
-use Rattle.oe_engine.specs.Programs.{wanted}
+use Rattle.oe_engine.specs.Programs.{lock_asked}
 use Rattle.oe_core.proofs.AskFacts.{none_asks, open_asks}
 use Rattle.oe_core.proofs.MoveFacts.{lent_tx, lent_work}
 use Rattle.oe_core.proofs.cores.Core.wanted.Goals as goal
@@ -16,4 +16,4 @@ returns-in-Some-at c =
     (open_asks _ _ c.self.invariant _ _ _
     (lent_tx c.self.invariant refl c.at.ensures.high c.at.ensures.value c.in-Some.is)
     (lent_work c.self.invariant refl c.at-2.ensures.high c.at-2.ensures.value c.in-Some-at.is)
-    (λ y. c.wanted.ensures y ∙ ap (λ r. wanted (ask y c.in-Some-at.work.position r)) c.tables.ensures))
+    (λ y. c.wanted.ensures y ∙ ap (λ r. lock_asked (ask y c.in-Some-at.work.position r)) c.tables.ensures))

@@ -7,7 +7,7 @@ use Rattle.oe_locks.specs.Held.{HoldsNothing, OthersKeep}
 use Rattle.oe_journal.specs.Linked.{AreLinked}
 use Rattle.oe_engine.specs.View.{view_of, view_from, IsOpen}
 use Rattle.oe_engine.specs.Kept.{IsKept}
-use Rattle.oe_engine.specs.Calls.{committed}
+use Rattle.oe_engine.specs.Calls.{after_commit}
 use Rattle.oe_engine.proofs.LogFacts.{sealed_is}
 use Rattle.oe_engine.specs.Covered.{IsSafe}
 use Rattle.oe_engine.proofs.KeptFacts.{sealed_kept}
@@ -92,5 +92,5 @@ returns-clause-committed c =
     (ap (λ u. view_from c.self.inside.tables u c.release_all.new.self) c.seal-moment.ensures.sealed
     ∙ sealed_is c.self.inside.tables c.self.inside.undo.log c.self.inside.locks c.release_all.new.self
     c.of-segment.result c.args.request.value c.args.reply.value within here own others
-    ∙ ap (λ t. committed t c.args.request.value c.args.reply.value
+    ∙ ap (λ t. after_commit t c.args.request.value c.args.reply.value
     (view_from c.self.inside.tables c.self.inside.undo.log c.self.inside.locks)) same)

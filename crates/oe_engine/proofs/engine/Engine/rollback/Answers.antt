@@ -5,7 +5,7 @@ use Rattle.oe_log.specs.Moments.{newest}
 use Rattle.oe_locks.specs.Held.{HoldsNothing, OthersKeep}
 use Rattle.oe_engine.specs.View.{view_of, view_from, IsOpen}
 use Rattle.oe_engine.specs.Kept.{IsKept}
-use Rattle.oe_engine.specs.Calls.{rolled_back}
+use Rattle.oe_engine.specs.Calls.{after_rollback}
 use Rattle.oe_engine.specs.Covered.{IsSafe}
 use Rattle.oe_engine.proofs.SafeFacts.{safe_rolled_back, newest_unwind}
 use Rattle.oe_engine.proofs.EndFacts.{counted, taken_kept, dropped_kept, none_is_left, rolled_back_is}
@@ -124,5 +124,5 @@ returns-clause-rolled_back c =
     c.self.inside.locks c.release_all.new.self c.of-segment.result c.mark-count.result
     (counted c.self.inside.undo.log c.segments.result.now c.of-segment.result c.mark-count.result c.segments.ensures
     c.mark-count.ensures) within c.take_back.ensures.back own others
-    ∙ ap (λ t. rolled_back t (view_from c.self.inside.tables c.self.inside.undo.log c.self.inside.locks))
+    ∙ ap (λ t. after_rollback t (view_from c.self.inside.tables c.self.inside.undo.log c.self.inside.locks))
     (c.of-segment.ensures ∙ ap (λ x. x.terminal) c.tx.view_is))

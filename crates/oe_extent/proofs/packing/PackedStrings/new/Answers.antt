@@ -1,7 +1,7 @@
 -- Nothing fills no bytes.
 use Rattle.std.proofs.Common.{refl, arith}
 use Rattle.oe_extent.proofs.PackedFacts.{AreStrings-none}
-use Rattle.oe_extent.specs.Strings.{cut}
+use Rattle.oe_extent.specs.Strings.{last_strings}
 use Rattle.oe_extent.proofs.packing.PackedStrings.new.Goals as goal
 
 pub invariant_of-result : goal.invariant_of-result
@@ -12,5 +12,5 @@ invariant_of-result c = record {
 }
 
 pub returns : goal.returns
-unfolding cut
+unfolding last_strings
 returns c = refl

@@ -4,7 +4,7 @@ use Rattle.oe_extent.specs.Free.{FreeExtents}
 use Rattle.oe_extent.specs.Extents.{number_of}
 use Rattle.oe_extent.specs.Ring.{RingStrings}
 use Rattle.oe_extent.specs.Kept.{IsRing}
-use Rattle.oe_extent.proofs.ChangeFacts.{shown}
+use Rattle.oe_extent.proofs.ChangeFacts.{ring_view}
 use Rattle.oe_extent.proofs.SlotFacts.{some_there, pop_here, pop_own}
 use Rattle.oe_extent.proofs.ring.Ring.pop.Goals as goal
 
@@ -52,7 +52,7 @@ returns-in-Some c =
     (deque_capacity c.self.inside.committed - deque_len c.self.inside.committed) c.args.slot c.self.invariant slot
     c.index_mut.result.now c.pop-emptied.new.self (number_of c.in-Some.extent.value) c.index_mut.ensures.value
     c.in-Some.ensures.only c.in-Some.ensures.emptied in
-    let given = ap (λ (f : FreeExtents). shown f (set c.self.inside.active.items c.args.slot c.pop-emptied.new.self)
+    let given = ap (λ (f : FreeExtents). ring_view f (set c.self.inside.active.items c.args.slot c.pop-emptied.new.self)
     c.self.inside.committed.items (deque_capacity c.self.inside.committed - deque_len c.self.inside.committed))
     c.give.ensures in
     rw (← c.self.view_is) (given ∙ now.0.view)

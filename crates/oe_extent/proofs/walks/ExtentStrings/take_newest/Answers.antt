@@ -1,7 +1,7 @@
 -- The newest string, and those before it.
 use Rattle.std.proofs.Common.{◌<◌, ◌∷◌, List, ℕ, length, ap, sym, ◌∙◌, ◌-◌, arith, take}
 use Rattle.std.proofs.lemmas.List.{take_rest}
-use Rattle.oe_extent.specs.Strings.{cut}
+use Rattle.oe_extent.specs.Strings.{last_strings}
 use Rattle.oe_extent.proofs.PackedFacts.{taken_off, long_walk, none_left}
 use Rattle.oe_extent.proofs.walks.ExtentStrings.take_newest.Goals as goal
 
@@ -34,5 +34,5 @@ returns c =
     c.last_size.ensures in
     let start = length c.self.inside.bytes.now - c.last_size.result in
     sym c.self.view_is ∙ t.cuts
-    ∙ ap (λ (x : List ℕ). x ∷ cut (c.self.inside.count - 1) (take start c.self.inside.bytes.now))
+    ∙ ap (λ (x : List ℕ). x ∷ last_strings (c.self.inside.count - 1) (take start c.self.inside.bytes.now))
     (sym (take_rest c.self.inside.bytes.now start))

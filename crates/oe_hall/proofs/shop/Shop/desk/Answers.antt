@@ -1,6 +1,6 @@
 use Rattle.std.proofs.Common.{rules, ◌-◌, Some, List, ap, sym, ◌∙◌, refl, subst, arith}
 use Rattle.oe_history.specs.declared.views.Entry.{Entry}
-use Rattle.oe_hall.specs.Counts.{Tally, untold}
+use Rattle.oe_hall.specs.Counts.{Tally, tally_of}
 use Rattle.oe_hall.specs.Histories.{is_open}
 use Rattle.oe_hall.specs.Desks.{IsBalanced}
 use Rattle.oe_hall.specs.Seats.{ThePlace, waiting}
@@ -33,6 +33,6 @@ invariant_of-result g c =
       ap (λ (p : ThePlace). p.calls.by) is ∙ sym (ap (λ (p : ThePlace). p.seat.terminal) is),
       none_yet _ _ (ap (λ (p : ThePlace). p.calls.seen) is),
       subst (λ (t : Tally). IsBalanced t (is_open c.place.inside.caller.mine)) (sym c.split_one-told.ensures.one)
-          (subst (λ (m : List Entry). IsBalanced (untold 1) (is_open m))
+          (subst (λ (m : List Entry). IsBalanced (tally_of 1) (is_open m))
           (sym (ap (λ (p : ThePlace). p.calls.mine) is)) (refl, omega arith)),
     )

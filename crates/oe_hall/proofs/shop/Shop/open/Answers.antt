@@ -1,9 +1,9 @@
 use Rattle.std.proofs.Common.{ap, ◌∙◌}
 use Rattle.oe_theory.specs.World.{World}
-use Rattle.oe_theory.specs.Theorems.{opened}
+use Rattle.oe_theory.specs.Theorems.{world_at_opening}
 use Rattle.oe_model.specs.System.{system}
 use Rattle.oe_store.specs.Places.{rows}
-use Rattle.oe_hall.specs.Naming.{TheNames, named}
+use Rattle.oe_hall.specs.Naming.{TheNames, names_at_opening}
 use Rattle.oe_hall.proofs.OpenFacts.{horizon_opened, layout_opened, newest_opened, open_count_opened}
 use Rattle.oe_hall.proofs.shop.Shop.open.Goals as goal
 
@@ -26,8 +26,8 @@ over-requires-clause-layout g c =
 
 pub over-requires-clause-names : goal.over-requires-clause-names
 over-requires-clause-names g c =
-    ap (named c.args.seats.names) (c.in_ok-core.ensures
-    ∙ ap (opened system (rows c.args.tables) c.args.extents) c.layout-layout.ensures)
+    ap (names_at_opening c.args.seats.names) (c.in_ok-core.ensures
+    ∙ ap (world_at_opening system (rows c.args.tables) c.args.extents) c.layout-layout.ensures)
     ∙ c.requires.names
 
 pub over-requires-clause-none : goal.over-requires-clause-none

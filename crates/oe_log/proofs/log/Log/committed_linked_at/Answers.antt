@@ -2,7 +2,7 @@
 use Rattle.std.proofs.Common.{◌<◌, [], length, List, get_or, sym, subst}
 use Rattle.oe_extent.specs.declared.extents.Address.{Address}
 use Rattle.oe_extent.specs.Ring as ring
-use Rattle.oe_log.specs.Records.{Logged, HasAddress, IsAmong, logged}
+use Rattle.oe_log.specs.Records.{Logged, HasAddress, IsAmong, log_entry}
 use Rattle.oe_log.specs.Log.{SegmentLog, committed_records}
 use Rattle.oe_log.proofs.CallFacts.{inside, seen_committed}
 use Rattle.oe_log.proofs.KeptFacts.{commit_there}
@@ -36,9 +36,10 @@ linked_record-requires c =
 
 pub returns-clause-record : goal.returns-clause-record
 returns-clause-record c p b k =
-    let seen = subst (λ (v : SegmentLog). IsAmong (logged c.args.address p b)
+    let seen = subst (λ (v : SegmentLog). IsAmong (log_entry c.args.address p b)
     (get_or (committed_records v) c.args.later [])) (sym c.self.view_is) k in
-    let there = subst (λ (rss : List (List Logged)). IsAmong (logged c.args.address p b) (get_or rss c.args.later []))
+    let there = subst (λ (rss : List (List Logged)). IsAmong (log_entry c.args.address p b)
+    (get_or rss c.args.later []))
     (seen_committed c.self.inside.layout (inside c.self.invariant.kept)) seen in
     let stands = subst (λ (a : Address). ring.IsStringAt (get_or c.self.inside.ring.committed c.args.later []) a
     c.committed_at.result.now) c.ring_address-place.ensures c.committed_at.ensures in

@@ -1,7 +1,7 @@
 -- The strings of a commit's segment are its records.
 use Rattle.std.proofs.Common.{◌<◌, ℕ, List, [], length, map, get_or, sym, ap, ◌∙◌, subst}
 use Rattle.std.specs.List.{AllByRecursion}
-use Rattle.oe_layout.specs.Stored.{told, IsStoredRecord}
+use Rattle.oe_layout.specs.Stored.{record_in_bytes, IsStoredRecord}
 use Rattle.oe_log.specs.Records.{Logged}
 use Rattle.oe_log.specs.Log.{SegmentLog}
 use Rattle.oe_log.specs.Stands.{model_records}
@@ -23,7 +23,7 @@ invariant_of-result c =
 pub returns : goal.returns
 returns c =
     rw (← c.self.view_is)
-    (ap (λ (l : List (List ℕ)). map told l) c.committed_strings-strings.ensures
+    (ap (λ (l : List (List ℕ)). map record_in_bytes l) c.committed_strings-strings.ensures
     ∙ told_here c.self.inside.ring.committed c.args.later c.self.invariant.kept.lie.committed_are
     ∙ ap (λ (rss : List (List Logged)). model_records (get_or rss c.args.later []))
     (sym (seen_committed c.self.inside.layout (inside c.self.invariant.kept))))

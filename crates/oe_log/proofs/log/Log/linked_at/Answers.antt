@@ -2,7 +2,7 @@
 use Rattle.std.proofs.Common.{List, [], map, get_or, sym, ap, ◌∙◌, subst}
 use Rattle.oe_extent.specs.declared.extents.Address.{Address}
 use Rattle.oe_extent.specs.Ring as ring
-use Rattle.oe_log.specs.Records.{Logged, HasAddress, IsAmong, logged}
+use Rattle.oe_log.specs.Records.{Logged, HasAddress, IsAmong, log_entry}
 use Rattle.oe_log.specs.Strings.{records_in}
 use Rattle.oe_log.specs.Log.{SegmentLog, records_at}
 use Rattle.oe_log.proofs.CallFacts.{inside, records_are}
@@ -34,11 +34,11 @@ linked_record-requires c =
 
 pub returns-clause-record : goal.returns-clause-record
 returns-clause-record c p b k =
-    let seen = subst (λ (v : SegmentLog). IsAmong (logged c.args.address p b) (records_at v c.args.terminal))
+    let seen = subst (λ (v : SegmentLog). IsAmong (log_entry c.args.address p b) (records_at v c.args.terminal))
     (sym c.self.view_is) k in
     let is = records_are c.self.inside.layout (inside c.self.invariant.kept) c.args.terminal ∙ ap
     (λ t. get_or (map records_in c.self.inside.ring.active) t []) (sym c.get-slot.ensures.value) in
-    let there = subst (λ (rs : List Logged). IsAmong (logged c.args.address p b) rs) is seen in
+    let there = subst (λ (rs : List Logged). IsAmong (log_entry c.args.address p b) rs) is seen in
     let stands = subst (λ (a : Address). ring.IsStringAt (get_or c.self.inside.ring.active c.get-slot.result []) a
     c.at.result.now) c.ring_address-place.ensures c.at.ensures in
     linked_there c.args.address p b c.self.inside.ring.active c.get-slot.result c.at.result.now

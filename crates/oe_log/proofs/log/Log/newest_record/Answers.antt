@@ -1,7 +1,7 @@
 -- The newest string is the newest record's.
 use Rattle.std.proofs.Common.{◌<◌, Some, [], length, get_or, sym, ap, ◌∙◌, arith}
 use Rattle.oe_log.specs.Log as seen
-use Rattle.oe_log.specs.Kept.{stored}
+use Rattle.oe_log.specs.Kept.{log_from}
 use Rattle.oe_log.specs.Records.{newest_of}
 use Rattle.oe_log.proofs.RecordFacts.{newest_stored, newest_is, at_slot, are_at}
 use Rattle.oe_log.proofs.CallFacts.{inside, records_are}
@@ -49,6 +49,6 @@ returns-clause-record c =
     ∙ ap newest_of (sym (at_slot c.self.inside.ring.active c.get-slot.result))
     ∙ ap newest_of (sym (records_are c.self.inside.layout (inside c.self.invariant.kept) c.get-slot.result))
     ∙ ap (λ t. newest_of (seen.records_at
-    (stored c.self.inside.layout c.self.inside.terminals c.self.inside.commits.items c.self.inside.ring) t))
+    (log_from c.self.inside.layout c.self.inside.terminals c.self.inside.commits.items c.self.inside.ring) t))
     (c.get-slot.ensures.value
     ∙ c.terminal-terminal.ensures))

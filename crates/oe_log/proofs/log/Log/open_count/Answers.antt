@@ -1,7 +1,7 @@
 -- As many segments are open as terminals have one.
 use Rattle.std.proofs.Common.{sym, ◌∙◌}
 use Rattle.oe_log.proofs.CallFacts.{inside, opens_is, seen_size}
-use Rattle.oe_log.specs.Kept.{stored}
+use Rattle.oe_log.specs.Kept.{log_from}
 use Rattle.oe_log.proofs.StandsFacts.{slots_counted}
 use Rattle.oe_log.proofs.log.Log.open_count.Goals as goal
 
@@ -12,6 +12,6 @@ pub returns-clause-slots : goal.returns-clause-slots
 returns-clause-slots c =
     rw (← c.self.view_is) (λ slots same.
     sym (opens_is c.self.inside.layout (inside c.self.invariant.kept))
-    ∙ sym (slots_counted (stored c.self.inside.layout c.self.inside.terminals c.self.inside.commits.items
+    ∙ sym (slots_counted (log_from c.self.inside.layout c.self.inside.terminals c.self.inside.commits.items
     c.self.inside.ring) slots
     (seen_size c.self.inside.layout (inside c.self.invariant.kept)) same))

@@ -29,7 +29,7 @@ invariant_of-self c =
     c.at_mut.result.now
     c.pop.new.self
     c.terminal-terminal.ensures c.at.ensures.low c.at.ensures.high c.at_mut.ensures.value some less
-    (c.pop.ensures ∙ ap (ring.popped_at c.self.inside.ring) c.get-slot.ensures.value))
+    (c.pop.ensures ∙ ap (ring.without_string_at c.self.inside.ring) c.get-slot.ensures.value))
     (popped_of _ _ c.self.invariant.layout)
 
 pub returns-then-len-gt0 : goal.returns-then-len-gt0
@@ -49,7 +49,7 @@ returns-then-len-gt0 c =
     c.at_mut.result.now
     c.pop.new.self
     c.terminal-terminal.ensures c.at.ensures.low c.at.ensures.high c.at_mut.ensures.value some less
-    (c.pop.ensures ∙ ap (ring.popped_at c.self.inside.ring) c.get-slot.ensures.value)).view)
+    (c.pop.ensures ∙ ap (ring.without_string_at c.self.inside.ring) c.get-slot.ensures.value)).view)
 
 pub returns-else-len-gt0 : goal.returns-else-len-gt0
 returns-else-len-gt0 c =

@@ -27,7 +27,7 @@ overflow_add-state c =
     c.args.lent.now.previous c.args.lent.now.record c.push-pushed.new.self
     c.at_mut-state.ensures.high c.at_mut-state.ensures.value c.ranges-2.ensures.link c.ranges-2.ensures.record
     (c.in-Ok.ensures.pushed
-    ∙ ap (λ t. ring.pushed_at c.self.inside.ring t c.in-Ok.address
+    ∙ ap (λ t. ring.with_string_at c.self.inside.ring t c.in-Ok.address
     (record_image c.args.lent.now.previous (record_of_lent c.args.lent.now.record))) c.get-slot.ensures.value)
     (omega (arith, c.extents-extents.ensures.used, c.extents-extents.ensures.value)) in
     omega (arith, most)
@@ -44,7 +44,7 @@ invariant_of-self-2 c =
     c.may_delete-state.ensures.before c.may_delete-state.ensures.record c.ranges-2.ensures.link
     c.ranges-2.ensures.record
     (c.in-Ok.ensures.pushed
-    ∙ ap (λ t. ring.pushed_at c.self.inside.ring t c.in-Ok.address
+    ∙ ap (λ t. ring.with_string_at c.self.inside.ring t c.in-Ok.address
     (record_image c.args.lent.now.previous (record_of_lent c.args.lent.now.record))) c.get-slot.ensures.value))
     (pushed_of _ _ _ of c.self.invariant.layout)
 
@@ -60,7 +60,7 @@ returns-clause-pushed c =
     c.may_delete-state.ensures.before c.may_delete-state.ensures.record c.ranges-2.ensures.link
     c.ranges-2.ensures.record
     (c.in-Ok.ensures.pushed
-    ∙ ap (λ t. ring.pushed_at c.self.inside.ring t c.in-Ok.address
+    ∙ ap (λ t. ring.with_string_at c.self.inside.ring t c.in-Ok.address
     (record_image c.args.lent.now.previous (record_of_lent c.args.lent.now.record)))
     c.get-slot.ensures.value)).view)
 

@@ -43,7 +43,7 @@ invariant_of-self-2 c =
     (ap (λ z. z.terminal) (sym c.owner-owner.ensures)) c.at_mut-state.ensures.value closed c.owner-owner.ensures
     c.may_delete-state.ensures c.len-state.ensures refl
     (c.reopen_newest.ensures.reopened
-    ∙ ap (λ t. record (ring.reopened_at c.self.inside.ring t) { room = c.reopen_newest.new.self.room })
+    ∙ ap (λ t. record (ring.after_reopening_at c.self.inside.ring t) { room = c.reopen_newest.new.self.room })
     c.get-slot.ensures.value)
     c.reopen_newest.ensures.room moment refl)
     (reopened_of _ _ c.self.invariant.layout.committed c.self.invariant.layout)
@@ -63,7 +63,7 @@ returns-clause-reopened c =
     (ap (λ z. z.terminal) (sym c.owner-owner.ensures)) c.at_mut-state.ensures.value closed c.owner-owner.ensures
     c.may_delete-state.ensures c.len-state.ensures refl
     (c.reopen_newest.ensures.reopened
-    ∙ ap (λ t. record (ring.reopened_at c.self.inside.ring t) { room = c.reopen_newest.new.self.room })
+    ∙ ap (λ t. record (ring.after_reopening_at c.self.inside.ring t) { room = c.reopen_newest.new.self.room })
     c.get-slot.ensures.value)
     c.reopen_newest.ensures.room moment refl).view
-    ∙ ap (λ (v : SegmentLog). seen.reopened v v.committed) c.self.view_is
+    ∙ ap (λ (v : SegmentLog). seen.with_reopening v v.committed) c.self.view_is

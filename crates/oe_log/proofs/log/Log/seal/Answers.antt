@@ -54,7 +54,7 @@ invariant_of-self c =
     (sym c.take.ensures.value ∙ c.in-Some.is)
     c.take.ensures.after refl refl refl refl c.replace-len.ensures.value
     refl c.replace-len.ensures.after c.push_front_reserved.ensures.items c.push_front_reserved.ensures.capacity
-    (c.seal.ensures.sealed ∙ ap (λ t. record (ring.sealed_at c.self.inside.ring t) { room = c.seal.new.self.room })
+    (c.seal.ensures.sealed ∙ ap (λ t. record (ring.after_seal_at c.self.inside.ring t) { room = c.seal.new.self.room })
     c.get-slot.ensures.value)
     c.seal.ensures.room moment refl (some_opens c.self.inside.layout (inside c.self.invariant.kept) c.args.segment
     some))
@@ -83,7 +83,7 @@ returns-clause-sealed c =
     (sym c.take.ensures.value ∙ c.in-Some.is)
     c.take.ensures.after refl refl refl refl c.replace-len.ensures.value
     refl c.replace-len.ensures.after c.push_front_reserved.ensures.items c.push_front_reserved.ensures.capacity
-    (c.seal.ensures.sealed ∙ ap (λ t. record (ring.sealed_at c.self.inside.ring t) { room = c.seal.new.self.room })
+    (c.seal.ensures.sealed ∙ ap (λ t. record (ring.after_seal_at c.self.inside.ring t) { room = c.seal.new.self.room })
     c.get-slot.ensures.value)
     c.seal.ensures.room moment refl (some_opens c.self.inside.layout (inside c.self.invariant.kept) c.args.segment
     some)).view)

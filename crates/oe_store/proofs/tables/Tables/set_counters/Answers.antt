@@ -1,7 +1,7 @@
 use Rattle.std.proofs.Common.{ap, ◌∙◌}
 use Rattle.oe_rows.specs.Item.{with_counters}
 use Rattle.oe_rows.specs.declared.items.Stock.{Stock}
-use Rattle.oe_model.specs.Changes.{changed, UpdateStock}
+use Rattle.oe_model.specs.Changes.{rows_after, UpdateStock}
 use Rattle.oe_store.specs.Places.{rows}
 use Rattle.oe_store.specs.contracts.tables.Tables.{the_view}
 use Rattle.oe_store.proofs.ColumnFacts.{on_row, row_was, same_row, IsLeft, stock_left}
@@ -26,7 +26,8 @@ invariant_of-self c = (left c).sound
 pub returns-clause-rows : goal.returns-clause-rows
 returns-clause-rows c =
     rw (← c.self.view_is)
-    (λ x found. (left c).rows ∙ ap (λ y. changed (UpdateStock c.args.key.now (set c y)) (rows (the_view c.self.inside)))
+    (λ x found. (left c).rows ∙ ap (λ y. rows_after (UpdateStock c.args.key.now (set c y))
+    (rows (the_view c.self.inside)))
     (same_row c.row_mut.result c.unwrap-stock.result c.unwrap-stock.ensures _ x c.row_mut.ensures.row found))
 
 pub returns-clause-places : goal.returns-clause-places

@@ -1,6 +1,6 @@
 use Rattle.std.proofs.Common.{refl, Some, ap, ◌∙◌}
 use Rattle.oe_rows.specs.declared.orders.OrderLine.{OrderLine}
-use Rattle.oe_model.specs.Changes.{changed, UpdateOrderLine}
+use Rattle.oe_model.specs.Changes.{rows_after, UpdateOrderLine}
 use Rattle.oe_store.specs.Places.{rows}
 use Rattle.oe_store.specs.contracts.tables.Tables.{the_view}
 use Rattle.oe_store.proofs.ColumnFacts.{on_row, row_was, same_row, IsLeft, order_line_left}
@@ -26,7 +26,7 @@ pub returns-clause-rows : goal.returns-clause-rows
 returns-clause-rows c =
     rw (← c.self.view_is)
     (λ x found. (left c).rows
-    ∙ ap (λ y. changed (UpdateOrderLine c.args.key.now (set c y)) (rows (the_view c.self.inside)))
+    ∙ ap (λ y. rows_after (UpdateOrderLine c.args.key.now (set c y)) (rows (the_view c.self.inside)))
     (same_row c.row_mut.result c.unwrap-line.result c.unwrap-line.ensures _ x c.row_mut.ensures.row found))
 
 pub returns-clause-places : goal.returns-clause-places

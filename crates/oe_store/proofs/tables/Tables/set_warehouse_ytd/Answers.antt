@@ -1,6 +1,6 @@
 use Rattle.std.proofs.Common.{ap, ◌∙◌}
 use Rattle.oe_rows.specs.declared.warehouses.Warehouse.{Warehouse}
-use Rattle.oe_model.specs.Changes.{changed, UpdateWarehouse}
+use Rattle.oe_model.specs.Changes.{rows_after, UpdateWarehouse}
 use Rattle.oe_store.specs.Places.{rows}
 use Rattle.oe_store.specs.contracts.tables.Tables.{the_view}
 use Rattle.oe_store.proofs.ColumnFacts.{on_row, row_was, same_row, IsLeft, warehouse_left}
@@ -27,7 +27,7 @@ pub returns-clause-rows : goal.returns-clause-rows
 returns-clause-rows c =
     rw (← c.self.view_is)
     (λ x found. (left c).rows
-    ∙ ap (λ y. changed (UpdateWarehouse c.args.key.now (set c y)) (rows (the_view c.self.inside)))
+    ∙ ap (λ y. rows_after (UpdateWarehouse c.args.key.now (set c y)) (rows (the_view c.self.inside)))
     (same_row c.row_mut.result c.unwrap-warehouse.result c.unwrap-warehouse.ensures _ x c.row_mut.ensures.row
     found))
 

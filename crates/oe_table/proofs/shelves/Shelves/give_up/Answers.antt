@@ -1,5 +1,5 @@
 use Rattle.std.proofs.Common.{[]}
-use Rattle.oe_table.specs.Shelf.{joined}
+use Rattle.oe_table.specs.Shelf.{whole_list}
 use Rattle.oe_table.proofs.ShelvesFacts.{past-shelves, shelf-ascends}
 use Rattle.oe_table.proofs.GivenUpFacts.{none-left, rows-left, shelves-left, places-left}
 use Rattle.oe_table.proofs.shelves.Shelves.give_up.Goals as goal
@@ -7,7 +7,7 @@ use Rattle.oe_table.proofs.shelves.Shelves.give_up.Goals as goal
 pub returns-in_default-clause-places : goal.returns-in_default-clause-places
 returns-in_default-clause-places g c =
     let shelves = c.self.inside.shelves.items in
-    rw (← c.self.view_is) (none-left g.met.K.Ord.total g.met.K.TableKey.exact (joined shelves) c.args.key.now
+    rw (← c.self.view_is) (none-left g.met.K.Ord.total g.met.K.TableKey.exact (whole_list shelves) c.args.key.now
     (past-shelves g.K.Ord.cmp g.K.ShelvedKey.shelf_of g.met.K.TableKey.exact shelves c.args.key.now c.self.invariant
     (rw (← c.shelf-number.ensures.number) c.in_default.ensures.item.3)))
 

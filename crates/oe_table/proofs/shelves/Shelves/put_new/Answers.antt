@@ -1,6 +1,6 @@
 use Rattle.std.proofs.Common.{[], ◌∙◌, ◌≡◌, ◌<◌, Some, List, Option, get_or, length, arith}
 use Rattle.std.proofs.lemmas.List.{get_or_read}
-use Rattle.oe_table.specs.Shelf.{joined, AreShelves}
+use Rattle.oe_table.specs.Shelf.{whole_list, AreShelves}
 use Rattle.oe_table.proofs.ShelvesFacts.{shelves-after, joined-after, past-shelves, shelf-ascends, put-kept, put-places}
 use Rattle.oe_table.proofs.ShelvesFacts.{put-same, put-no_place, put-rows}
 use Rattle.oe_table.proofs.shelves.Shelves.put_new.Goals as goal
@@ -23,7 +23,7 @@ returns-in-Err-clause-err g c =
     let n = c.reach.ensures.padded.0 in
     let after : AreShelves cmp by 0 shelves = shelves-after cmp by c.self.inside.shelves.items shelves n
     c.self.invariant c.reach.ensures.padded.1 in
-    let same : joined shelves ≡ c.args.self.now = joined-after c.self.inside.shelves.items shelves n
+    let same : whole_list shelves ≡ c.args.self.now = joined-after c.self.inside.shelves.items shelves n
     c.reach.ensures.padded.1 ∙ c.self.view_is in
     same
 
@@ -76,7 +76,7 @@ returns-clause-ok g c =
     let n = c.reach.ensures.padded.0 in
     let after : AreShelves cmp by 0 shelves = shelves-after cmp by c.self.inside.shelves.items shelves n
     c.self.invariant c.reach.ensures.padded.1 in
-    let same : joined shelves ≡ c.args.self.now = joined-after c.self.inside.shelves.items shelves n
+    let same : whole_list shelves ≡ c.args.self.now = joined-after c.self.inside.shelves.items shelves n
     c.reach.ensures.padded.1 ∙ c.self.view_is in
     let within : by c.args.key < length shelves =
     omega (arith, c.in_default.ensures.reached, c.shelf-number.ensures.number, c.reach.new.shelves.ok.0) in
@@ -101,7 +101,7 @@ returns-clause-err g c =
     let n = c.reach.ensures.padded.0 in
     let after : AreShelves cmp by 0 shelves = shelves-after cmp by c.self.inside.shelves.items shelves n
     c.self.invariant c.reach.ensures.padded.1 in
-    let same : joined shelves ≡ c.args.self.now = joined-after c.self.inside.shelves.items shelves n
+    let same : whole_list shelves ≡ c.args.self.now = joined-after c.self.inside.shelves.items shelves n
     c.reach.ensures.padded.1 ∙ c.self.view_is in
     let within : by c.args.key < length shelves =
     omega (arith, c.in_default.ensures.reached, c.shelf-number.ensures.number, c.reach.new.shelves.ok.0) in
@@ -121,7 +121,7 @@ returns-clause-no_place g c =
     let n = c.reach.ensures.padded.0 in
     let after : AreShelves cmp by 0 shelves = shelves-after cmp by c.self.inside.shelves.items shelves n
     c.self.invariant c.reach.ensures.padded.1 in
-    let same : joined shelves ≡ c.args.self.now = joined-after c.self.inside.shelves.items shelves n
+    let same : whole_list shelves ≡ c.args.self.now = joined-after c.self.inside.shelves.items shelves n
     c.reach.ensures.padded.1 ∙ c.self.view_is in
     let within : by c.args.key < length shelves =
     omega (arith, c.in_default.ensures.reached, c.shelf-number.ensures.number, c.reach.new.shelves.ok.0) in

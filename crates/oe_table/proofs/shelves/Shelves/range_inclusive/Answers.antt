@@ -1,6 +1,6 @@
 use Rattle.std.specs.BTreeMap.Range.{range_contains}
 use Rattle.std.specs.declared.ops.Bound.TheVariants.{Included}
-use Rattle.oe_table.specs.Shelf.{joined}
+use Rattle.oe_table.specs.Shelf.{whole_list}
 use Rattle.oe_table.proofs.WalkFacts.{live-between}
 use Rattle.std.proofs.Common.{sym, ◌∙◌}
 use Rattle.oe_table.proofs.RangeFacts.{lower-within, upper-within, places-up_to, cuts-up_to, joined-ascends}
@@ -41,7 +41,7 @@ returns g c =
       c.deref-3.ensures.value,
     )
     (live-between g.K.Ord.cmp g.met.K.Ord.total g.met.K.TableKey.exact
-    (range_contains g.K.Ord.cmp (Included c.args.from) (Included c.args.to)) (joined c.self.inside.shelves.items) _
+    (range_contains g.K.Ord.cmp (Included c.args.from) (Included c.args.to)) (whole_list c.self.inside.shelves.items) _
     (joined-ascends g.K.Ord.cmp g.K.ShelvedKey.shelf_of g.met.K.ShelvedKey.ascends 0 c.self.inside.shelves.items
     c.self.invariant)
     (places-up_to g.K.Ord.cmp g.met.K.Ord.total g.K.ShelvedKey.shelf_of g.met.K.ShelvedKey.ascends c.args.from c.args.to

@@ -1,6 +1,6 @@
 use Rattle.std.proofs.Common.{◌∙◌, ◌≡◌, ◌<◌, length, set, ap, arith}
 use Rattle.std.proofs.lemmas.List.{get_or_read}
-use Rattle.oe_table.specs.Shelf.{joined}
+use Rattle.oe_table.specs.Shelf.{whole_list}
 use Rattle.oe_table.proofs.ShelvesFacts.{shelves-after, joined-after, same-shelf}
 use Rattle.oe_table.proofs.shelves.Shelves.reserve.Goals as goal
 
@@ -38,6 +38,6 @@ returns g c =
     let same : set shelves n c.reserve.new.self ≡ shelves =
     same-shelf cmp by g.met.K.TableKey.exact shelves c.index_mut.result.now c.reserve.new.self n
     (get_or_read shelves n c.index_mut.result.now within c.index_mut.ensures.value) c.reserve.ensures in
-    ap joined same
+    ap whole_list same
     ∙ joined-after c.self.inside.shelves.items shelves c.reach.ensures.padded.0 c.reach.ensures.padded.1
     ∙ c.self.view_is

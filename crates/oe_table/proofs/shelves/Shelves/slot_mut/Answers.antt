@@ -1,5 +1,5 @@
 use Rattle.std.proofs.Common.{refl, ◌∙◌, ap, [], List, Option, ◌≡◌, get_or}
-use Rattle.oe_table.specs.Shelf.{joined}
+use Rattle.oe_table.specs.Shelf.{whole_list}
 use Rattle.oe_table.proofs.ShelvesFacts.{past-shelves, slot-on_shelf, shelf-ascends, written-on_shelf, lent-on_shelf}
 use Rattle.oe_table.proofs.ShelvesFacts.{same-shelf, none-written}
 use Rattle.oe_table.proofs.shelves.Shelves.slot_mut.Goals as goal
@@ -13,7 +13,7 @@ returns-in_err-self-inside g c =
         rw c.from_residual.ensures refl,
         (λ w. rw (← c.self.view_is)
             (none-written g.K.Ord.cmp g.K.ShelvedKey.shelf_of g.met.K.TableKey.exact
-            (joined c.self.inside.shelves.items)
+            (whole_list c.self.inside.shelves.items)
             c.args.key.now w none)),
         c.self.view_is,
       ),
@@ -48,7 +48,7 @@ returns g c =
             (written-on_shelf g.K.Ord.cmp g.K.ShelvedKey.shelf_of g.met.K.TableKey.exact c.self.inside.shelves.items
             c.in_ok-self-inside.field-0.now (c.slot_mut.follows.lender w) c.args.key.now w c.self.invariant there
             (c.slot_mut.follows.holds w))),
-        ap joined (same-shelf g.K.Ord.cmp g.K.ShelvedKey.shelf_of g.met.K.TableKey.exact c.self.inside.shelves.items
+        ap whole_list (same-shelf g.K.Ord.cmp g.K.ShelvedKey.shelf_of g.met.K.TableKey.exact c.self.inside.shelves.items
             c.in_ok-self-inside.field-0.now c.slot_mut.follows.lender-at-none c.shelf-number.result
             c.in_ok-self-inside.ensures.item.3.1 c.slot_mut.follows.holds-at-none) ∙ c.self.view_is,
       ),

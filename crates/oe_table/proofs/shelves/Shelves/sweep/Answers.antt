@@ -1,6 +1,6 @@
 use Rattle.std.proofs.Common.{◌∙◌, ap}
 use Rattle.oe_table.specs.Table.{place}
-use Rattle.oe_table.specs.Shelf.{joined}
+use Rattle.oe_table.specs.Shelf.{whole_list}
 use Rattle.oe_table.proofs.TableFacts.{same_rows}
 use Rattle.oe_table.proofs.GivenUpFacts.{row_in-left_of}
 use Rattle.oe_table.proofs.RangeFacts.{joined-ascends}
@@ -15,8 +15,8 @@ invariant_of-self g c = rw c.sweep_each.ensures
 pub returns-clause-places : goal.returns-clause-places
 returns-clause-places g c key =
     let old = c.self.inside.shelves.items in
-    rw (← c.self.view_is) (ap (λ t. place g.K.Ord.cmp t key) (ap joined c.sweep_each.ensures ∙ joined-swept old)
-    ∙ place-swept g.K.Ord.cmp g.met.K.TableKey.exact (joined old)
+    rw (← c.self.view_is) (ap (λ t. place g.K.Ord.cmp t key) (ap whole_list c.sweep_each.ensures ∙ joined-swept old)
+    ∙ place-swept g.K.Ord.cmp g.met.K.TableKey.exact (whole_list old)
     (joined-ascends g.K.Ord.cmp g.K.ShelvedKey.shelf_of g.met.K.ShelvedKey.ascends 0 old c.self.invariant) key)
 
 pub returns-clause-rows : goal.returns-clause-rows

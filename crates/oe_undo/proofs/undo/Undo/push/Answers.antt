@@ -4,9 +4,9 @@ use Rattle.oe_rows.specs.declared.keys.Key.{Key}
 use Rattle.oe_model.specs.Changes.{record_key}
 use Rattle.oe_layout.specs.Records.{record_of_lent, IsOfLayout}
 use Rattle.oe_layout.specs.declared.loans.LentRecord.{LentRecord}
-use Rattle.oe_log.specs.Records.{logged}
+use Rattle.oe_log.specs.Records.{log_entry}
 use Rattle.oe_log.specs.declared.heads.SegmentOwner.{SegmentOwner}
-use Rattle.oe_log.specs.Log.{SegmentLog, pushed}
+use Rattle.oe_log.specs.Log.{SegmentLog, with_record}
 use Rattle.oe_undo.specs.Chains.{IsAlone}
 use Rattle.oe_undo.specs.declared.links.OwnedLink.{OwnedLink}
 use Rattle.oe_undo.specs.Links.{LinkMaps, links_of, HasPlace, SetsLink, LeadsTo}
@@ -137,10 +137,11 @@ returns-clause-pushed c =
     let previous = ap (λ x. x.previous) (c.shared-linked.ensures.value ∙ sym c.shared-linked.follows.holds-at-none) in
     let log =
     c.in-Ok.ensures.pushed
-    ∙ ap (λ p. pushed c.self.inside.segments c.args.segment (logged c.in-Ok.address p (record_of_lent lent.record)))
+    ∙ ap (λ p. with_record c.self.inside.segments c.args.segment
+    (log_entry c.in-Ok.address p (record_of_lent lent.record)))
     previous
-    ∙ ap (λ r. pushed c.self.inside.segments c.args.segment
-    (logged c.in-Ok.address c.shared-linked.follows.lender-at-none.previous (record_of_lent r))) kept
+    ∙ ap (λ r. with_record c.self.inside.segments c.args.segment
+    (log_entry c.in-Ok.address c.shared-linked.follows.lender-at-none.previous (record_of_lent r))) kept
     in
     rw (← c.self.view_is)
     (record { address = c.in-Ok.address; fresh = c.in-Ok.ensures.fresh; log = log; link = linked })

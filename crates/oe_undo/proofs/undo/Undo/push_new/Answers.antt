@@ -4,15 +4,15 @@ use Rattle.oe_rows.specs.declared.keys.Key.{Key}
 use Rattle.oe_model.specs.Changes.{record_key}
 use Rattle.oe_layout.specs.Records.{record_of_lent, IsOfLayout}
 use Rattle.oe_layout.specs.declared.loans.LentRecord.{LentRecord}
-use Rattle.oe_log.specs.Records.{logged}
+use Rattle.oe_log.specs.Records.{log_entry}
 use Rattle.oe_layout.specs.declared.links.Previous.TheVariants.{Nothing}
 use Rattle.oe_log.specs.declared.heads.SegmentOwner.{SegmentOwner}
-use Rattle.oe_log.specs.Log.{SegmentLog, pushed}
+use Rattle.oe_log.specs.Log.{SegmentLog, with_record}
 use Rattle.oe_undo.specs.Chains.{link_from}
 use Rattle.oe_undo.specs.declared.holders.Holder.TheVariants.{Open}
 use Rattle.oe_undo.specs.Links.{LinkMaps, place_of, links_of, link_in, LeadsTo}
 use Rattle.oe_undo.proofs.LeadFacts.{insert_leads}
-use Rattle.oe_undo.specs.Owners.{followed, next_owner, IsLinked}
+use Rattle.oe_undo.specs.Owners.{link_by_now, next_owner, IsLinked}
 use Rattle.oe_undo.proofs.ChainedFacts.{push_linked, push_undone}
 use Rattle.oe_undo.proofs.undo.Undo.push_new.Goals as goal
 
@@ -39,11 +39,11 @@ invariant_of-self-in-Ok-insert c =
     let own : c.key-key.result ≡ record_key (record_of_lent lent.record) =
     c.key-key.ensures ∙ ap (λ x. record_key (record_of_lent x.record)) (first ∙ sym second)
     in
-    let leads : link_from (Open c.args.segment) lent.previous ≡ followed c.self.inside.segments
+    let leads : link_from (Open c.args.segment) lent.previous ≡ link_by_now c.self.inside.segments
     (links_of c.self.inside.links (record_key (record_of_lent lent.record))) =
     ap (λ p. link_from (Open c.args.segment) p) (ap (λ x. x.previous) second ∙ c.lead_from.ensures.previous)
-    ∙ sym (ap (λ (k : Key). followed c.self.inside.segments (links_of c.self.inside.links k)) was
-    ∙ ap (λ o. followed c.self.inside.segments (link_in o)) no_place)
+    ∙ sym (ap (λ (k : Key). link_by_now c.self.inside.segments (links_of c.self.inside.links k)) was
+    ∙ ap (λ o. link_by_now c.self.inside.segments (link_in o)) no_place)
     in
     let none : place_of c.self.inside.links c.key-key.result ≡ None = ap (place_of c.self.inside.links) (own ∙ was)
     ∙ no_place in
@@ -81,8 +81,8 @@ returns-in-Ok-insert-clause-pushed c =
     in
     let log =
     c.in-Ok.ensures.pushed
-    ∙ ap (λ p. pushed segments c.args.segment (logged c.in-Ok.address p (record_of_lent lent.record))) previous
-    ∙ ap (λ r. pushed segments c.args.segment (logged c.in-Ok.address Nothing (record_of_lent r))) kept
+    ∙ ap (λ p. with_record segments c.args.segment (log_entry c.in-Ok.address p (record_of_lent lent.record))) previous
+    ∙ ap (λ r. with_record segments c.args.segment (log_entry c.in-Ok.address Nothing (record_of_lent r))) kept
     in
     rw (← c.self.view_is)
     (record { address = c.in-Ok.address; fresh = c.in-Ok.ensures.fresh; log = log; link = linked })
