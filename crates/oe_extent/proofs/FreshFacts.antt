@@ -11,7 +11,7 @@ use Rattle.oe_extent.proofs.PackedFacts.{length-joined}
 use Rattle.oe_extent.specs.Ring.{Addressed, StandElsewhere, IsFresh}
 use Rattle.oe_extent.specs.Kept.{addressed_in, addressed_of, HaveBytes, FillsUp, ArePacked, times, uses, extent_count}
 use Rattle.oe_extent.specs.Kept.{IsRing}
-use Rattle.oe_extent.proofs.HeldFacts.{times-self, times-cons, free_within, taken_within, free_unused}
+use Rattle.oe_extent.proofs.HeldFacts.{times-self, times-cons, free_unused}
 use Rattle.oe_extent.proofs.ChangeFacts.{ring_view, at_slot}
 
 -- ---- in one list
@@ -59,7 +59,6 @@ have_bytes r (x ∷ xs) f = f.2
 pub record IsBehind (cs : List Contents) (a : Address) : Type 0 where
   pub elsewhere : StandElsewhere a (addressed_of cs)
   pub used : 0 < times a.extent (numbers_of cs)
-  pub offset : a.offset < 4096
 
 -- the next address of its newest extent
 behind_list : (cs : List Contents) (a : Address) → ArePacked cs → 0 < rest_of cs → times a.extent (numbers_of cs) ≤ 1
@@ -74,7 +73,6 @@ behind_list (c ∷ cs) a h some once e =
     record {
       elsewhere = elsewhere_both a (addressed_in c.number c.strings) (addressed_of cs) here (not_among a cs rest);
       used = omega (arith, one, split);
-      offset = omega (arith, offset, some);
     }
 
 -- ---- in all lists
@@ -114,43 +112,30 @@ but_one a (s ∷ ss) (suc t) once some h zero =
 but_one a (s ∷ ss) (suc t) once some h (suc i) =
     but_one a ss t (omega (arith, once, sum_by-cons (λ s. times a.extent (numbers_of s)) s ss)) some h i
 
-pub record Fresh (pool : FreeExtents) (os cs : List (List Contents)) (room : ℕ) (a : Address) : Type 0 where
-  pub fresh : IsFresh (ring_view pool os cs room) a
-  pub extent : a.extent < length pool.is_free
-  pub offset : a.offset < 4096
-
 module _ (pool : FreeExtents) (os cs : List (List Contents)) (room t : ℕ) (r : IsRing pool.is_free os cs)
     (lt : t < length (map addressed_of os)) where
   -- behind the strings of the slot's newest extent
-  pub fresh_here : (x₁ x₂ : List Contents) (a : Address) (size rest : ℕ) → x₁ ≡ get_or os t x₁ → x₂ ≡ get_or os t x₂
-      → rest ≡ rest_of x₁ → size ≤ rest → 0 < size → a ≡ end_of x₂ → Fresh pool os cs room a
-  fresh_here x₁ x₂ a size rest e₁ e₂ er le long ea =
+  pub fresh_here : (z : List Contents) (a : Address) (size : ℕ) → z ≡ get_or os t z → size ≤ rest_of z → 4 ≤ size
+      → a ≡ end_of z → IsFresh (ring_view pool os cs room) a
+  fresh_here z a size e le long ea =
       let x = get_or os t [] in
-      let some : 0 < rest_of x = omega (arith, le, long, er, ap rest_of (at_slot os t lt x₁ e₁)) in
+      let some : 0 < rest_of x = omega (arith, le, long, ap rest_of (at_slot os t lt z e)) in
       let own = some_sum a.extent os t in
       let once = r.held.once a.extent in
       let b = behind_list x a (r.active_packed t) some (omega (arith, once, own))
-      (ea ∙ ap end_of (at_slot os t lt x₂ e₂)) in
+      (ea ∙ ap end_of (at_slot os t lt z e)) in
       record {
-        fresh = record {
-          active = but_one a os t (omega (arith, once)) b.used b.elsewhere;
-          committed = none_has a cs (omega (arith, once, b.used, own));
-        };
-        extent = taken_within pool.is_free a.extent (r.held.taken a.extent (omega (arith, b.used, own)));
-        offset = b.offset;
+        active = but_one a os t (omega (arith, once)) b.used b.elsewhere;
+        committed = none_has a cs (omega (arith, once, b.used, own));
       }
 
 -- at the front of an extent that was free
-pub fresh_other : (pool : FreeExtents) (os cs : List (List Contents)) (room e : ℕ) → IsRing pool.is_free os cs
-    → get_or pool.is_free e false ≡ true
-    → Fresh pool os cs room (record { extent = e; offset = 0 })
-fresh_other pool os cs room e r is_free =
+pub fresh_other : (pool : FreeExtents) (os cs : List (List Contents)) (room e : ℕ) (a : Address)
+    → IsRing pool.is_free os cs → get_or pool.is_free e false ≡ true → a ≡ record { extent = e; offset = 0 }
+    → IsFresh (ring_view pool os cs room) a
+fresh_other pool os cs room e a r is_free ea =
     let unused = free_unused pool.is_free (uses os cs) (extent_count os cs) e r.held is_free in
-    record {
-      fresh = record {
-        active = none_has (record { extent = e; offset = 0 }) os (omega (arith, unused));
-        committed = none_has (record { extent = e; offset = 0 }) cs (omega (arith, unused));
-      };
-      extent = free_within pool.is_free e is_free;
-      offset = omega arith;
+    rw ea record {
+      active = none_has (record { extent = e; offset = 0 }) os (omega (arith, unused));
+      committed = none_has (record { extent = e; offset = 0 }) cs (omega (arith, unused));
     }

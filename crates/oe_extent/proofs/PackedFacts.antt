@@ -126,6 +126,19 @@ IsPacked-push count fill bytes s new end h framed w =
       ap (last_strings (suc count)) front ∙ cut-push count (take fill bytes) s framed,
     )
 
+-- the same where the bytes of a vector were lent to the write as a slice
+pub IsPacked-written : (count fill len : ℕ) (bytes lent s new : List ℕ) (end : ℕ) → IsPacked count fill bytes
+    → IsFramed s → lent ≡ bytes → length lent ≡ len → Writes lent fill s new end
+    → IsPacked (count + 1) end (take len (new ++ drop (length new) bytes))
+    × (last_strings (count + 1) (take end (take len (new ++ drop (length new) bytes))) ≡ s
+    ∷ last_strings count (take fill bytes))
+IsPacked-written count fill len bytes lent s new end h framed e l w =
+    let whole : take len (new ++ drop (length new) bytes) ≡ new =
+    take_at new (drop (length new) bytes) len (w.same_length ∙ l) in
+    let n : count + 1 ≡ suc count = omega arith in
+    rw (n, whole)
+    (IsPacked-push count fill bytes s new end h framed (subst (λ (b : List ℕ). Writes b fill s new end) e w))
+
 -- after the newest string was taken off
 pub record Popped (count fill : ℕ) (bytes : List ℕ) (size : ℕ) : Type 0 where
   pub some : 0 < count

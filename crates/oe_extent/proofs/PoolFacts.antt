@@ -1,10 +1,15 @@
 -- Which extents of a pool are free, and how many.
 use Rattle.std.proofs.Common.{◌≡◌, ℕ, suc, ◌+◌, ◌-◌, ◌<◌, inl, inr, Bool, true, false, cond, List, length, map, get_or}
-use Rattle.std.proofs.Common.{set, Option, None, is_some, refl, sym, ap, subst, ◌∙◌, arith}
-use Rattle.std.proofs.lemmas.List.{get_or-map, get_or_default, length-map, length-set, map-set}
+use Rattle.std.proofs.Common.{set, Option, None, Some, is_some, IfSome, refl, sym, ap, subst, ◌∙◌, arith}
+use Rattle.std.proofs.lemmas.List.{get_or-map, get_or_default, get_or-set_same, get_or-set_other, length-map}
+use Rattle.std.proofs.lemmas.List.{length-set}
+use Rattle.std.proofs.lemmas.List.{map-set}
 use Rattle.std.proofs.lemmas.List.Sums.{sum_by-set}
 use Rattle.std.proofs.lemmas.Bool.{cases_eq}
+use Rattle.std.specs.Global.{Box}
+use Rattle.oe_extent.specs.declared.extents.Extent.{Extent}
 use Rattle.oe_extent.specs.Free.{AllTaken, IsPool}
+use Rattle.oe_extent.specs.Extents.{number_of, LieAtNumbers}
 
 pub some_at : {X : Type 0} (xs : List (Option X)) (i : ℕ) → i < length xs
     → get_or (map is_some xs) i false ≡ is_some (get_or xs i None)
@@ -72,3 +77,24 @@ IsPool-given xs count cursor n x o was p lt at before after =
 pub free_given : {X : Type 0} (xs : List (Option X)) (n m : ℕ) (o : Option X) → n ≡ m → is_some o ≡ true
     → map is_some (set xs n o) ≡ set (map is_some xs) m true
 free_given xs n m o e after = rw (map-set is_some xs n o, after, e) refl
+
+-- where one extent more lies at its number, or one less
+pub LieAtNumbers-set : (es : List (Option (Box Extent))) (n : ℕ) (o : Option (Box Extent)) → LieAtNumbers es
+    → n < length es → IfSome o (λ e. number_of e.value ≡ n) → LieAtNumbers (set es n o)
+LieAtNumbers-set es n o h lt here i = elim (cases_eq i n) [
+  | inl same ↦ subst (λ (k : ℕ). IfSome (get_or (set es n o) k None) (λ e. number_of e.value ≡ k)) (sym same)
+      (subst (λ p. IfSome p (λ e. number_of e.value ≡ n)) (sym (get_or-set_same es n o None lt)) here)
+  | inr other ↦ subst (λ p. IfSome p (λ e. number_of e.value ≡ i)) (sym (get_or-set_other es n i o None other)) (h i)
+]
+
+-- what lies at a number has it
+pub number_there : (es : List (Option (Box Extent))) (n : ℕ) (o : Option (Box Extent)) (b : Box Extent)
+    → LieAtNumbers es → n < length es → o ≡ get_or es n o → Some b ≡ o → number_of b.value ≡ n
+number_there es n o b h lt at is =
+    subst (λ p. IfSome p (λ e. number_of e.value ≡ n)) (sym (is ∙ at ∙ get_or_default es n o None lt)) (h n)
+
+pub LieAtNumbers-given : (es : List (Option (Box Extent))) (n : ℕ) (b : Box Extent) (o : Option (Box Extent))
+    → LieAtNumbers es → n < length (map is_some es) → n ≡ number_of b.value → o ≡ Some b → LieAtNumbers (set es n o)
+LieAtNumbers-given es n b o h lt e is =
+    LieAtNumbers-set es n o h (omega (arith, lt, length-map es is_some))
+    (subst (λ p. IfSome p (λ x. number_of x.value ≡ n)) (sym is) (sym e))

@@ -2,7 +2,7 @@
 use Rattle.std.proofs.Common.{◌≡◌, ℕ, ◌<◌, ◌≤◌, Bool, true, false, cond, List, [], ◌∷◌, length, map, get_or, set, drop}
 use Rattle.std.proofs.Common.{refl, sym, ap, ◌∙◌, subst, arith}
 use Rattle.std.proofs.lemmas.Bool.{le-leb}
-use Rattle.std.proofs.lemmas.List.{length-map, length-set, map-set}
+use Rattle.std.proofs.lemmas.List.{length-map, length-set, map-set, set-get_or}
 use Rattle.oe_extent.specs.declared.extents.Address.{Address}
 use Rattle.oe_extent.specs.Free.{FreeExtents, AllTaken, IsNextFree, without_free_at, with_free_at}
 use Rattle.oe_extent.specs.Extents.{Contents, numbers_of, newest_strings, rest_of, end_of, with_string, LosesString}
@@ -44,17 +44,16 @@ module _ (pool : FreeExtents) (os cs : List (List Contents)) (room t : ℕ) (r :
 
   -- ---- a string more
 
-  pub push_here : (x₁ x₂ x₃ y : List Contents) (s : List ℕ) (a : Address) (size rest : ℕ) → x₁ ≡ get_or os t x₁
-      → x₂ ≡ get_or os t x₂
-      → x₃ ≡ get_or os t x₃
-      → rest ≡ rest_of x₁ → size ≤ rest → size ≡ length s → 4 ≤ length s → a ≡ end_of x₂ → y ≡ with_string s x₃
+  pub push_here : (z y : List Contents) (s : List ℕ) (a : Address) → z ≡ get_or os t z → length s ≤ rest_of z
+      → 4 ≤ length s → a ≡ end_of z → y ≡ with_string s z
       → Stands pool (set os t y) cs room (with_string_at (ring_view pool os cs room) t a s)
-  push_here x₁ x₂ x₃ y s a size rest e₁ e₂ e₃ er le es long ea ey =
+  push_here z y s a e le long ea ey =
       let x = get_or os t [] in
-      let fits : length s ≤ rest_of x = omega (arith, es, le, er, ap rest_of (at_slot os t lt x₁ e₁)) in
+      let at = at_slot os t lt z e in
+      let fits : length s ≤ rest_of x = omega (arith, le, ap rest_of at) in
       let more : More x (with_string s x) (record { address = a; bytes = s }) =
-      more_here s x a (r.active_packed t) fits (omega (arith, long)) (ea ∙ ap end_of (at_slot os t lt x₂ e₂)) in
-      let same : y ≡ with_string s x = ey ∙ ap (with_string s) (at_slot os t lt x₃ e₃) in
+      more_here s x a (r.active_packed t) fits (omega (arith, long)) (ea ∙ ap end_of at) in
+      let same : y ≡ with_string s x = ey ∙ ap (with_string s) at in
       let m : More x y (record { address = a; bytes = s }) =
       subst (λ (l : List Contents). More x l (record { address = a; bytes = s })) (sym same) more in
       record {
@@ -63,48 +62,46 @@ module _ (pool : FreeExtents) (os cs : List (List Contents)) (room t : ℕ) (r :
             (m.strings ∙ ap (λ (l : List Addressed). record { address = a; bytes = s } ∷ l)
             (sym (strings_at_slot os t within))) refl
             (sym (ap (λ (b : Bool). cond b pool (without_free_at pool a.extent))
-            (le-leb (length s) _ (omega (arith, es, le, er, rest_is x₁ e₁)))));
+            (le-leb (length s) _ (omega (arith, le, rest_is z e)))));
       }
 
   -- it goes behind the newest string
-  pub next_here : (x₁ x₂ : List Contents) (a : Address) (size rest n : ℕ) → x₁ ≡ get_or os t x₁ → x₂ ≡ get_or os t x₂
-      → rest ≡ rest_of x₁ → size ≤ rest
-      → size ≡ n → a ≡ end_of x₂ → IsNextAddress (ring_view pool os cs room) t n a
-  next_here x₁ x₂ a size rest n e₁ e₂ er le es ea = record {
-    fits = λ f. ea ∙ ap end_of (at_slot os t lt x₂ e₂) ∙ end_is (get_or os t []) (r.active_packed t)
+  pub next_here : (x : List Contents) (a : Address) (n : ℕ) → x ≡ get_or os t x → n ≤ rest_of x → a ≡ end_of x
+      → IsNextAddress (ring_view pool os cs room) t n a
+  next_here x a n e le ea = record {
+    fits = λ f. ea ∙ ap end_of (at_slot os t lt x e) ∙ end_is (get_or os t []) (r.active_packed t)
         ∙ ap behind (sym (strings_at_slot os t within));
-    other = λ o. absurd (omega (arith, o, es, le, er, rest_is x₁ e₁));
+    other = λ o. absurd (omega (arith, o, le, rest_is x e));
   }
 
   -- or in the next free extent
-  pub next_other : (x : List Contents) (a : Address) (size rest n : ℕ) → x ≡ get_or os t x → rest ≡ rest_of x
-      → rest < size → size ≡ n
-      → IsNextFree pool.is_free pool.cursor a.extent → a.offset ≡ 0 → IsNextAddress (ring_view pool os cs room) t n a
-  next_other x a size rest n e er gt es next front = record {
-    fits = λ f. absurd (omega (arith, f, es, gt, er, rest_is x e));
-    other = λ o. (next, front);
+  pub next_other : (x : List Contents) (a : Address) (n number : ℕ) → x ≡ get_or os t x → rest_of x < n
+      → IsNextFree pool.is_free pool.cursor number → a ≡ record { extent = number; offset = 0 }
+      → IsNextAddress (ring_view pool os cs room) t n a
+  next_other x a n number e gt next ea = rw ea record {
+    fits = λ f. absurd (omega (arith, f, gt, rest_is x e));
+    other = λ o. (next, refl);
   }
 
-  pub fits_here : (x : List Contents) (size rest : ℕ) → x ≡ get_or os t x → rest ≡ rest_of x → size ≤ rest
+  pub fits_here : (x : List Contents) (size : ℕ) → x ≡ get_or os t x → size ≤ rest_of x
       → IsFull (ring_view pool os cs room) t size → ⊥
-  fits_here x size rest e er le f = omega (arith, f.0, rest_is x e, le, er)
+  fits_here x size e le f = omega (arith, f.0, rest_is x e, le)
 
-  pub is_full : (x : List Contents) (size rest : ℕ) → x ≡ get_or os t x → rest ≡ rest_of x → rest < size
+  pub is_full : (x : List Contents) (size : ℕ) → x ≡ get_or os t x → rest_of x < size
       → AllTaken pool.is_free 0 (length pool.is_free) → IsFull (ring_view pool os cs room) t size
-  is_full x size rest e er gt none = (omega (arith, rest_is x e, gt, er), full pool os cs room r none)
+  is_full x size e gt none = (omega (arith, rest_is x e, gt), full pool os cs room r none)
 
-  pub push_other : (x₁ x₂ y : List Contents) (s : List ℕ) (size rest e : ℕ) (new : FreeExtents) → x₁ ≡ get_or os t x₁
-      → x₂ ≡ get_or os t x₂
-      → rest ≡ rest_of x₁ → rest < size → size ≡ length s → length s ≤ 4096 → get_or pool.is_free e false ≡ true
-      → new ≡ without_free_at pool e → y ≡ record { number = e; strings = s ∷ [] } ∷ x₂
+  other_here : (z y : List Contents) (s : List ℕ) (e : ℕ) (new : FreeExtents) → z ≡ get_or os t z
+      → rest_of z < length s → length s ≤ 4096 → get_or pool.is_free e false ≡ true → new ≡ without_free_at pool e
+      → y ≡ record { number = e; strings = s ∷ [] } ∷ z
       → Stands new (set os t y) cs room (with_string_at (ring_view pool os cs room) t
       (record { extent = e; offset = 0 }) s)
-  push_other x₁ x₂ y s size rest e new e₁ e₂ er gt es small is_free now ey =
+  other_here z y s e new ez gt small is_free now ey =
       let x = get_or os t [] in
+      let at = at_slot os t lt z ez in
       let same : y ≡ record { number = e; strings = s ∷ [] } ∷ x = ey
-      ∙ ap (λ (l : List Contents). record { number = e; strings = s ∷ [] } ∷ l) (at_slot os t lt x₂ e₂) in
-      let more = more_new s x e (r.active_packed t) (omega (arith, gt, er, ap rest_of (at_slot os t lt x₁ e₁), es))
-      small in
+      ∙ ap (λ (l : List Contents). record { number = e; strings = s ∷ [] } ∷ l) at in
+      let more = more_new s x e (r.active_packed t) (omega (arith, gt, ap rest_of at)) small in
       let packed : ArePacked y = subst ArePacked (sym same) more.0 in
       let ring = changed_more pool.is_free os cs t e y r within packed is_free (ap numbers_of same) (ap length same) in
       let strings = ap addressed_of same ∙ more.1
@@ -115,8 +112,21 @@ module _ (pool : FreeExtents) (os cs : List (List Contents)) (room t : ℕ) (r :
         ring = subst (λ (f : List Bool). IsRing f (set os t y) cs) (sym free) ring;
         view = view_set new _ y _ strings (ap length free ∙ length-set pool.is_free e false)
             (now ∙ sym (ap (λ (b : Bool). cond b pool (without_free_at pool e))
-            (not_le (length s) _ (omega (arith, gt, es, er, rest_is x₁ e₁)))));
+            (not_le (length s) _ (omega (arith, gt, rest_is z ez)))));
       }
+
+  -- a push that was refused left the slot as it was
+  pub push_other : (x w z y : List Contents) (s : List ℕ) (e : ℕ) (a : Address) (new : FreeExtents) → x ≡ get_or os t x
+      → w ≡ x → z ≡ get_or (set os t w) t z
+      → rest_of x < length s → length s ≤ 4096 → get_or pool.is_free e false ≡ true → new ≡ without_free_at pool e
+      → a ≡ record { extent = e; offset = 0 } → y ≡ record { number = e; strings = s ∷ [] } ∷ z
+      → Stands new (set (set os t w) t y) cs room (with_string_at (ring_view pool os cs room) t a s)
+  push_other x w z y s e a new ex ew ez gt small is_free now ea ey =
+      let kept : set os t w ≡ os = ap (set os t) (ew ∙ ex) ∙ set-get_or os t x in
+      let there : z ≡ get_or os t z = ez ∙ ap (λ (l : List (List Contents)). get_or l t z) kept in
+      let less : rest_of z < length s =
+      omega (arith, gt, ap rest_of (at_slot os t lt x ex), ap rest_of (at_slot os t lt z there)) in
+      rw (kept, ea) (other_here z y s e new there less small is_free now ey)
 
   -- ---- a string less
 

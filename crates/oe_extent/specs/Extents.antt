@@ -1,5 +1,6 @@
 -- Lists of extents as lists of what each extent holds, the newest first.
-use Rattle.std.specs.Prelude.{◌≡◌, ◌==◌, ◌<◌, ℕ, cond, ◌-◌, List, [], ◌∷◌, ◌++◌, length, map, drop, Option, None, Some}
+use Rattle.std.specs.Prelude.{◌≡◌, ◌==◌, ◌<◌, ℕ, cond, ◌-◌, List, [], ◌∷◌, ◌++◌, length, map, drop, Option, None}
+use Rattle.std.specs.Prelude.{Some, get_or, IfSome}
 use Rattle.std.specs.Global.{Box}
 use Rattle.oe_extent.specs.declared.sizes.TheConstants.{EXTENT_BYTES}
 use Rattle.oe_extent.specs.declared.extents.Address.{Address}
@@ -28,9 +29,13 @@ contents_of (Some b) = contents_in b.value
 abbrev pub number_of : Extent → ℕ
 number_of (Extent' number strings older) = number
 
--- the extent has this number, no strings, and none before it
-abbrev pub IsEmptyExtent : ℕ → Extent → Type 0
-IsEmptyExtent n e = contents_in e ≡ record { number = n; strings = [] } ∷ []
+-- the extent has no strings, and none before it
+abbrev pub IsEmptyExtent : Extent → Type 0
+IsEmptyExtent e = contents_in e ≡ record { number = number_of e; strings = [] } ∷ []
+
+-- each of these extents that is there lies at its number
+abbrev pub LieAtNumbers : List (Option (Box Extent)) → Type 0
+LieAtNumbers es = (i : ℕ) → IfSome (get_or es i None) (λ e. number_of e.value ≡ i)
 
 abbrev pub numbers_of : List Contents → List ℕ
 numbers_of cs = map (λ c. c.number) cs

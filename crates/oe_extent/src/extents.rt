@@ -4,27 +4,28 @@
 //! extent in common, and a change of one leaves all others as they are. Only the newest extent gets
 //! strings, behind those that are there. Nothing can be refused, and no call but the making of an
 //! extent takes memory.
-ghost use Rattle.std.specs.Prelude.{◌≡◌, ◌<◌, ◌≤◌, ◌+◌, [], ◌∷◌, length, drop, IfSome, IfNone};
+ghost use Rattle.std.specs.Prelude.{◌≡◌, ◌<◌, ◌≤◌, ◌+◌, [], ◌∷◌, length, drop, IfOk, IfSome, IfNone};
 ghost use Rattle.oe_extent.specs.declared.sizes.TheConstants.{EXTENT_BYTES};
 ghost use Rattle.oe_extent.specs.Strings.{IsFramed, HasOffset, IsStringFrom};
 ghost use Rattle.oe_extent.specs.Extents.{number_of, numbers_of, strings_at, contents_in, newest_strings, rest_of, end_of, first_string, with_string, without_newest, IsEmptyExtent, LosesString, LosesExtent};
 
 use crate::images::Written;
 use crate::packing::PackedStrings;
+use oe_values::numbers::Number;
 use std::alloc::{AllocError, Global};
 use std::marker::Model;
 
 /// Where a string stands: the number of its extent, and the offset of its first byte there.
 #[derive(Clone, Copy, PartialEq, Eq)]
 pub struct Address {
-    pub extent: usize,
-    pub offset: usize,
+    pub extent: Number<0, 4_095>,
+    pub offset: Number<0, 4_095>,
 }
 
 /// An extent with its number among all, and the one before it in its list.
 #[derive(Drop)]
 pub(crate) struct Extent {
-    number: usize,
+    number: Number<0, 4_095>,
     pub(crate) strings: PackedStrings,
     pub(crate) older: Option<Box<Extent>>,
 }
@@ -46,7 +47,9 @@ impl Model for ExtentList {
 
 impl Extent {
     /// Makes an extent of that number, without strings; an error where memory is refused.
-    pub(crate) fn new(alloc: Global, number: usize) -> Result<Box<Extent>, AllocError> {
+    pub(crate) fn new(alloc: Global, number: Number<0, 4_095>) -> Result<Box<Extent>, AllocError>
+        ensures { IfOk result (λ e. number_of e.value ≡ number) }
+    {
         Ok(Box::new(
             alloc,
             Extent {
@@ -59,7 +62,7 @@ impl Extent {
 
     /// Gives its number.
     #[inline]
-    pub(crate) fn number(&self) -> usize
+    pub(crate) fn number(&self) -> Number<0, 4_095>
         ensures { result ≡ number_of self.now }
     {
         self.number
@@ -67,24 +70,25 @@ impl Extent {
 
     /// Gives the string at that offset of the extent with that number, which is this one or one
     /// before it.
-    fn at(&self, number: usize, offset: usize) -> &[u8]
-        requires { HasOffset (strings_at number (contents_in self.now)) offset }
-        ensures { IsStringFrom (strings_at number (contents_in self.now)) offset result.now }
+    fn at(&self, address: Address) -> &[u8]
+        requires { HasOffset (strings_at address.extent (contents_in self.now)) address.offset }
+        ensures { IsStringFrom (strings_at address.extent (contents_in self.now)) address.offset
+            result.now }
     {
-        if self.number == number {
-            return self.strings.at(offset);
+        if self.number == address.extent {
+            return self.strings.at(address.offset.get() as usize);
         }
         match &self.older {
-            Some(older) => older.at(number, offset),
+            Some(older) => older.at(address),
             None => unreachable!(),
         }
     }
 
-    /// Gives the extent with that number, without strings and without one before it.
-    pub(crate) fn cleared(mut self: Box<Extent>, number: usize) -> Box<Extent>
-        ensures { IsEmptyExtent number result.value }
+    /// Gives the extent without strings and without one before it.
+    pub(crate) fn cleared(mut self: Box<Extent>) -> Box<Extent>
+        ensures empty { IsEmptyExtent result.value }
+        ensures number { number_of result.value ≡ number_of self.value }
     {
-        self.number = number;
         self.strings.clear();
         self.older = None;
         self
@@ -100,67 +104,53 @@ impl ExtentList {
         ExtentList { newest: None }
     }
 
-    /// Tells how many bytes are left in its newest extent: 0 to 4,096, and 0 where it has none.
+    /// Appends a string to the newest extent, and answers its address; none exactly where the rest
+    /// of that is too short, or where there is no extent.
     #[inline(always)]
-    pub(crate) fn rest(&self) -> usize
-        ensures { result ≡ rest_of self.now }
-    {
-        match &self.newest {
-            Some(extent) => extent.strings.rest(),
-            None => 0,
-        }
-    }
-
-    /// Gives the address of the next string in its newest extent.
-    #[inline(always)]
-    pub(crate) fn end(&self) -> Address
-        requires { 0 < length self.now }
-        ensures { result ≡ end_of self.now }
-    {
-        match &self.newest {
-            Some(extent) => Address {
-                extent: extent.number,
-                offset: extent.strings.end(),
-            },
-            None => unreachable!(),
-        }
-    }
-
-    /// Appends a string to the newest extent.
-    #[inline(always)]
-    pub(crate) fn push<S: Written>(&mut self, string: &S)
+    pub(crate) fn push<S: Written>(&mut self, string: &S) -> Option<Address>
         requires framed { IsFramed (S.image string.now) }
-        requires rest { length (S.image string.now) ≤ rest_of self.old }
-        ensures { self.new ≡ with_string (S.image string.now) self.old }
+        ensures rest { IfSome result (λ _. length (S.image string.now) ≤ rest_of self.old) }
+        ensures pushed { IfSome result (λ _. self.new ≡ with_string (S.image string.now) self.old) }
+        ensures address { IfSome result (λ a. a ≡ end_of self.old) }
+        ensures none { IfNone result (rest_of self.old < length (S.image string.now)) }
+        ensures same { IfNone result (self.new ≡ self.old) }
     {
         match &mut self.newest {
-            Some(extent) => extent.strings.push(string),
-            None => unreachable!(),
+            Some(extent) => {
+                if string.size() > extent.strings.rest() {
+                    return None;
+                }
+                let number = extent.number;
+                let offset = extent.strings.push(string);
+                Some(Address {
+                    extent: number,
+                    offset,
+                })
+            }
+            None => None,
         }
     }
 
-    /// Adds another extent, as its newest.
-    #[inline]
-    fn add(&mut self, number: usize, extent: Box<Extent>)
-        requires { IsEmptyExtent number extent.value }
-        ensures { self.new ≡ record { number = number; strings = [] } ∷ self.old }
-    {
-        let mut extent = extent;
-        extent.older = self.newest.take();
-        self.newest = Some(extent);
-    }
-
-    /// Appends a string to another extent, which becomes the newest.
+    /// Appends a string to another extent, which becomes the newest, and answers its address.
     #[inline(never)]
     #[tactic(auto, unfolding(crate::specs::Strings::bytes_of_strings))]
-    pub(crate) fn push_new<S: Written>(&mut self, number: usize, extent: Box<Extent>, string: &S)
-        requires fresh { IsEmptyExtent number extent.value }
+    pub(crate) fn push_new<S: Written>(&mut self, extent: Box<Extent>, string: &S) -> Address
+        requires fresh { IsEmptyExtent extent.value }
         requires framed { IsFramed (S.image string.now) }
         requires small { length (S.image string.now) ≤ EXTENT_BYTES }
-        ensures { self.new ≡ first_string number (S.image string.now) ∷ self.old }
+        ensures pushed { self.new
+            ≡ first_string (number_of extent.value) (S.image string.now) ∷ self.old }
+        ensures address { result ≡ record { extent = number_of extent.value; offset = 0 } }
     {
-        self.add(number, extent);
-        self.push(string);
+        let mut extent = extent;
+        let number = extent.number;
+        let front = extent.strings.push(string);
+        extent.older = self.newest.take();
+        self.newest = Some(extent);
+        Address {
+            extent: number,
+            offset: front,
+        }
     }
 
     /// Gives the string at that address, where it stands.
@@ -170,7 +160,7 @@ impl ExtentList {
         ensures { IsStringFrom (strings_at address.extent self.now) address.offset result.now }
     {
         match &self.newest {
-            Some(extent) => extent.at(address.extent, address.offset),
+            Some(extent) => extent.at(address),
             None => unreachable!(),
         }
     }

@@ -3,13 +3,13 @@
 //! refused.
 ghost use Rattle.std.specs.Prelude.{◌≡◌, ◌<◌, ◌≤◌, ◌+◌, [], ◌∷◌, length, drop, IfOk};
 ghost use Rattle.oe_extent.specs.declared.sizes.TheConstants.{EXTENT_BYTES, LENGTH_BYTES};
-ghost use Rattle.oe_extent.specs.Images.{Writes};
 ghost use Rattle.oe_extent.specs.Strings.{last_length, bytes_of_strings, IsFramed, HasOffset, IsStringFrom};
 
 use crate::images::Written;
 use crate::sizes::{EXTENT_BYTES, LENGTH_BYTES};
 use crate::walks::ExtentStrings;
 use byteorder::{BigEndian, ByteOrder};
+use oe_values::numbers::Number;
 use std::alloc::{AllocError, Global};
 use std::marker::Model;
 
@@ -52,15 +52,6 @@ pub(crate) fn last_size(bytes: &[u8]) -> usize
     BigEndian::read_u16(&bytes[bytes.len() - LENGTH_BYTES..]) as usize
 }
 
-/// Writes a string from offset `start` on, and answers the offset behind it.
-#[inline(always)]
-fn write_at<S: Written>(bytes: &mut Vec<u8>, start: usize, string: &S) -> usize
-    requires { start + length (S.image string.now) ≤ length bytes.old.items }
-    ensures { Writes bytes.old.items start (S.image string.now) bytes.new.items result }
-{
-    string.write(bytes, start)
-}
-
 impl PackedStrings {
     /// Takes memory for an extent's bytes, without strings; an error where memory is refused.
     pub(crate) fn new(alloc: Global) -> Result<Self, AllocError>
@@ -97,15 +88,6 @@ impl PackedStrings {
         EXTENT_BYTES - self.fill
     }
 
-    /// Gives the offset at which the next string begins: 0 to 4,096.
-    #[inline(always)]
-    pub(crate) fn end(&self) -> usize
-        ensures value { result ≡ length (bytes_of_strings self.now) }
-        ensures most { result ≤ EXTENT_BYTES }
-    {
-        self.fill
-    }
-
     /// Tells how many strings there are.
     #[inline(always)]
     pub(crate) fn len(&self) -> usize
@@ -114,15 +96,19 @@ impl PackedStrings {
         self.count
     }
 
-    /// Appends a string, which is written where it is to stand.
+    /// Appends a string, which is written where it is to stand, and answers the offset of its first
+    /// byte.
     #[inline(always)]
-    pub(crate) fn push<S: Written>(&mut self, string: &S)
+    pub(crate) fn push<S: Written>(&mut self, string: &S) -> Number<0, 4_095>
         requires framed { IsFramed (S.image string.now) }
         requires room { length (bytes_of_strings self.old) + length (S.image string.now) ≤ EXTENT_BYTES }
-        ensures { self.new ≡ S.image string.now ∷ self.old }
+        ensures pushed { self.new ≡ S.image string.now ∷ self.old }
+        ensures offset { result ≡ length (bytes_of_strings self.old) }
     {
-        self.fill = write_at(&mut self.bytes, self.fill, string);
+        let offset = Number::new(self.fill as u32).unwrap();
+        self.fill = string.write(&mut self.bytes, self.fill);
         self.count += 1;
+        offset
     }
 
     /// Gives the newest string, where it stands.

@@ -10,6 +10,8 @@ ghost use Rattle.oe_extent.specs.Free.{AllTaken, IsFirstFree, IsNextFree, withou
 ghost use Rattle.oe_extent.specs.Extents.{number_of, numbers_of, IsEmptyExtent};
 
 use crate::extents::{Extent, ExtentList};
+use oe_values::ExtentCount;
+use oe_values::numbers::Number;
 use std::alloc::{AllocError, Global};
 use std::marker::Model;
 
@@ -27,12 +29,14 @@ pub(crate) struct Pool {
 impl Model for Pool {
     ghost use Rattle.std.specs.Prelude.{map, is_some};
     ghost use Rattle.oe_extent.specs.Free.{FreeExtents, IsPool};
+    ghost use Rattle.oe_extent.specs.Extents.{LieAtNumbers};
 
     ghost Value = { FreeExtents };
 
     ghost view = { λ p. record { is_free = map is_some p.extents.items; cursor = p.cursor } };
 
-    ghost invariant = { λ p. IsPool (map is_some p.extents.items) p.free_count p.cursor };
+    ghost invariant = { λ p. IsPool (map is_some p.extents.items) p.free_count p.cursor
+        × LieAtNumbers p.extents.items };
 }
 
 /// Gives the least number from `from` up to `to` of a free extent, where there is one.
@@ -66,17 +70,19 @@ fn next_free(extents: &[Option<Box<Extent>>], cursor: usize) -> Option<usize>
 
 impl Pool {
     /// Makes `count` extents, all free, numbered from 0; an error where memory is refused.
-    pub(crate) fn new(alloc: Global, count: usize) -> Result<Pool, AllocError>
+    pub(crate) fn new(alloc: Global, count: ExtentCount) -> Result<Pool, AllocError>
         ensures free { IfOk result (λ p. p.is_free ≡ replicate count true) }
         ensures cursor { IfOk result (λ p. p.cursor ≡ 0) }
     {
-        let mut extents = Vec::with_capacity(alloc, count)?;
+        let count = count.get();
+        let mut extents = Vec::with_capacity(alloc, count as usize)?;
         for number in 0..count {
+            let number = Number::new(number).unwrap();
             extents.push_reserved(Some(Extent::new(alloc, number)?));
         }
         Ok(Pool {
             extents,
-            free_count: count,
+            free_count: count as usize,
             cursor: 0,
             touched: 0,
         })
@@ -90,13 +96,14 @@ impl Pool {
         self.extents.len()
     }
 
-    /// Takes the next free extent from the cursor on, and behind the last from 0 on, and answers it
-    /// with its number. `None` where none is free.
+    /// Takes the next free extent from the cursor on, and behind the last from 0 on. `None` where
+    /// none is free.
     #[inline(never)]
-    pub(crate) fn take(&mut self) -> Option<(usize, Box<Extent>)>
-        ensures next { IfSome result (λ e. IsNextFree self.old.is_free self.old.cursor e.0) }
-        ensures fresh { IfSome result (λ e. IsEmptyExtent e.0 e.1.value) }
-        ensures taken { IfSome result (λ e. self.new ≡ without_free_at self.old e.0) }
+    pub(crate) fn take(&mut self) -> Option<Box<Extent>>
+        ensures next { IfSome result (λ e.
+            IsNextFree self.old.is_free self.old.cursor (number_of e.value)) }
+        ensures fresh { IfSome result (λ e. IsEmptyExtent e.value) }
+        ensures taken { IfSome result (λ e. self.new ≡ without_free_at self.old (number_of e.value)) }
         ensures none { IfNone result (AllTaken self.old.is_free 0 (length self.old.is_free)) }
         ensures same { IfNone result (self.new ≡ self.old) }
     {
@@ -109,7 +116,7 @@ impl Pool {
         self.free_count -= 1;
         self.cursor = found + 1;
         self.touched = extent.strings.touch();
-        Some((found, extent.cleared(found)))
+        Some(extent.cleared())
     }
 
     /// Gives an extent back.
@@ -117,7 +124,7 @@ impl Pool {
         requires { number_of extent.value < length self.old.is_free }
         ensures { self.new ≡ with_free_at self.old (number_of extent.value) }
     {
-        let number = extent.number();
+        let number = extent.number().get() as usize;
         let before = self.extents[number].replace(extent);
         if before.is_none() {
             self.free_count += 1;

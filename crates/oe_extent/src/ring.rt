@@ -16,6 +16,7 @@ use crate::extents::{Address, ExtentList};
 use crate::images::Written;
 use crate::pools::Pool;
 use crate::walks::Strings;
+use oe_values::ExtentCount;
 use std::alloc::{AllocError, Global};
 use std::collections::VecDeque;
 use std::marker::Model;
@@ -67,7 +68,7 @@ fn empty_lists(alloc: Global, count: usize) -> Result<Vec<ExtentList>, AllocErro
 impl Ring {
     /// Makes a ring of `extents` extents and `slots` slots without strings; an error where memory
     /// is refused.
-    pub fn new(alloc: Global, extents: usize, slots: usize) -> Result<Ring, AllocError>
+    pub fn new(alloc: Global, extents: ExtentCount, slots: usize) -> Result<Ring, AllocError>
         ensures { IfOk result (λ r. r ≡ record (no_strings extents slots) { room = r.room }) }
     {
         let pool = Pool::new(alloc, extents)?;
@@ -133,23 +134,14 @@ impl Ring {
         ensures next { IfOk result (IsNextAddress self.old slot (length (S.image string.now))) }
         ensures full { IsErr result ↔ IsFull self.old slot (length (S.image string.now)) }
         ensures fresh { IfOk result (IsFresh self.old) }
-        ensures extent { IfOk result (λ a. a.extent < self.old.extents) }
-        ensures offset { IfOk result (λ a. a.offset < EXTENT_BYTES) }
     {
-        let size = string.size();
-        if size <= self.active[slot].rest() {
-            let address = self.active[slot].end();
-            self.active[slot].push(string);
+        if let Some(address) = self.active[slot].push(string) {
             return Ok(address);
         }
-        let Some((number, extent)) = self.pool.take() else {
+        let Some(extent) = self.pool.take() else {
             return Err(Full);
         };
-        self.active[slot].push_new(number, extent, string);
-        Ok(Address {
-            extent: number,
-            offset: 0,
-        })
+        Ok(self.active[slot].push_new(extent, string))
     }
 
     /// Gives the newest string of a slot, where it stands.

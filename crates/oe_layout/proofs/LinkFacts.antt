@@ -6,11 +6,11 @@ use Rattle.std.proofs.lemmas.Bool.{leb-true, le-leb, eqb-true}
 use Rattle.std.proofs.lemmas.Bool.Decides.{nat_tests}
 use Rattle.oe_decode.specs.Codec.{Takes, IsCodec}
 use Rattle.oe_decode.specs.FrontFacts.{some_is, both, number_law, pair_law}
-use Rattle.oe_layout.specs.Links.{LinkNumbers, link_numbers, previous_image, IsRecordAddress, IsPrevious}
+use Rattle.oe_layout.specs.Links.{LinkNumbers, link_numbers, previous_image, IsAddress, IsPrevious}
 use Rattle.oe_layout.specs.Links.{with_rest, read_as, at_address, nothing_at, previous_of, previous_at}
 use Rattle.oe_layout.specs.Kinds.{kind_numbers, kind_image, inserted_in, updated_in, deleted_in, changed_in}
 use Rattle.oe_layout.specs.Kinds.{kind_of_numbers, kind_at}
-use Rattle.oe_layout.specs.declared.links.RecordAddress.{RecordAddress}
+use Rattle.oe_extent.specs.declared.extents.Address.{Address}
 use Rattle.oe_layout.specs.declared.links.Previous.{Previous}
 use Rattle.oe_layout.specs.declared.links.Previous.TheVariants.{Nothing, Own, Committed}
 use Rattle.oe_layout.specs.declared.kinds.RecordKind.{RecordKind}
@@ -152,13 +152,13 @@ kind_law =
 unlike : (a b : ℕ) → a < b → (a == b) ≡ false
 unlike a b lt = grind (arith, nat_tests)
 
-at_address_there : (a : RecordAddress) → IsRecordAddress a → (moment : ℕ) (p : Previous) → at_address a moment ≡ Some p
+at_address_there : (a : Address) → IsAddress a → (moment : ℕ) (p : Previous) → at_address a moment ≡ Some p
     → previous_of (a.extent, (a.offset, moment)) ≡ Some p
 at_address_there a h moment p e =
     let lt = unlike a.extent 65_535 (omega (arith, h.extent)) in
     rw (lt, le-leb _ _ h.extent, le-leb _ _ h.offset) e
 
-committed_there : (a : RecordAddress) (moment : ℕ) → 1 ≤ moment → moment ≤ 999_999_999_999
+committed_there : (a : Address) (moment : ℕ) → 1 ≤ moment → moment ≤ 999_999_999_999
     → at_address a moment ≡ Some (Committed a moment)
 committed_there a moment l h =
     rw (unlike moment 18_446_744_073_709_551_615 (omega arith), le-leb _ _ l, le-leb _ _ h) refl
@@ -183,7 +183,7 @@ previous_there (Committed a moment) h = (
 abbrev IsLinkOf : LinkNumbers → Previous → Type 0
 IsLinkOf n p = IsPrevious p × (link_numbers p ≡ n)
 
-at_address_back : (a : RecordAddress) (moment : ℕ) → IsRecordAddress a → (p : Previous) → at_address a moment ≡ Some p
+at_address_back : (a : Address) (moment : ℕ) → IsAddress a → (p : Previous) → at_address a moment ≡ Some p
     → IsLinkOf (a.extent, (a.offset, moment)) p
 at_address_back a moment h =
     let P : Previous → Type 0 = λ p. IsLinkOf (a.extent, (a.offset, moment)) p in

@@ -3,7 +3,7 @@ use Rattle.std.specs.Prelude.{◌==◌, ◌≤◌, ◌&&◌, ⊤, ℕ, nat_le, L
 use Rattle.std.specs.Int.{IsInRange}
 use Rattle.oe_extent.specs.Images.{number, number_at}
 use Rattle.oe_decode.specs.Fronts.{pair_at}
-use Rattle.oe_layout.specs.declared.links.RecordAddress.{RecordAddress}
+use Rattle.oe_extent.specs.declared.extents.Address.{Address}
 use Rattle.oe_layout.specs.declared.links.Previous.{Previous}
 use Rattle.oe_layout.specs.declared.links.Previous.TheVariants.{Nothing, Own, Committed}
 
@@ -25,15 +25,15 @@ link_image n = number 2 n.0 ++ (number 2 n.1.0 ++ number 8 n.1.1)
 abbrev pub previous_image : Previous → List ℕ
 previous_image p = link_image (link_numbers p)
 
-pub record IsRecordAddress (a : RecordAddress) : Type 0 where
+pub record IsAddress (a : Address) : Type 0 where
   pub extent : a.extent ≤ 4_095
   pub offset : a.offset ≤ 4_095
 
 -- a commit's moment is 1 or later
 abbrev pub IsPrevious : Previous → Type 0
 IsPrevious Nothing = ⊤
-IsPrevious (Own a) = IsRecordAddress a
-IsPrevious (Committed a moment) = IsRecordAddress a × IsInRange 1 999_999_999_999 moment
+IsPrevious (Own a) = IsAddress a
+IsPrevious (Committed a moment) = IsAddress a × IsInRange 1 999_999_999_999 moment
 
 -- ---- read
 
@@ -46,7 +46,7 @@ abbrev pub read_as : {X Y : Type 0} → (X → Option Y) → Option (X × List �
 read_as f None = None
 read_as f (Some x) = with_rest x.1 (f x.0)
 
-abbrev pub at_address : RecordAddress → ℕ → Option Previous
+abbrev pub at_address : Address → ℕ → Option Previous
 at_address a moment =
     if moment == 18_446_744_073_709_551_615 then Some (Own a)
     else (if nat_le 1 moment && nat_le moment 999_999_999_999 then Some (Committed a moment) else None)

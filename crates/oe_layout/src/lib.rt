@@ -17,7 +17,7 @@ pub mod records;
 pub mod restoring;
 pub mod stored;
 
-pub use links::{CommitMoment, Previous, RecordAddress};
+pub use links::{CommitMoment, Previous};
 pub use loans::{LentRecord, LinkedRecord};
 pub use reading::read_record;
 pub use records::OwnRecord;

@@ -6,18 +6,11 @@ ghost use Rattle.oe_layout.specs.declared.parts.TheConstants.{LINK_BYTES};
 ghost use Rattle.oe_layout.specs.Links.{link_numbers, previous_image, at_address, nothing_at, previous_of, previous_at};
 
 use crate::parts::LINK_BYTES;
+use oe_extent::Address;
 use oe_extent::numbers::read_number;
 use oe_image::Imaged;
 use oe_values::numbers::{Moment, Number};
 use std::marker::Model;
-
-/// Where a record lies in the ring: the number of an extent, from 0 to 4,095, and the offset of the
-/// record's first byte there, from 0 to 4,095.
-#[derive(Clone, Copy, PartialEq, Eq)]
-pub struct RecordAddress {
-    pub extent: Number<0, 4_095>,
-    pub offset: Number<0, 4_095>,
-}
 
 /// The moment that a commit made, from 1 to 999,999,999,999: moment 0 is before the first commit.
 #[derive(Clone, Copy, PartialEq, Eq)]
@@ -86,9 +79,9 @@ pub enum Previous {
     /// There is none.
     Nothing,
     /// Of the same transaction.
-    Own(RecordAddress),
+    Own(Address),
     /// Of a transaction whose commit made that moment.
-    Committed(RecordAddress, CommitMoment),
+    Committed(Address, CommitMoment),
 }
 
 impl Previous {
@@ -130,7 +123,7 @@ impl Imaged for Previous {
 
 /// Gives what these numbers stand for behind an address.
 #[inline]
-fn at_address(address: RecordAddress, moment: u64) -> Option<Previous>
+fn at_address(address: Address, moment: u64) -> Option<Previous>
     ensures { result ≡ at_address address moment }
 {
     if moment == u64::MAX {
@@ -159,7 +152,7 @@ fn previous_of(extent: u64, offset: u64, moment: u64) -> Option<Previous>
     }
     let extent = Number::new(extent as u32)?;
     let offset = Number::new(offset as u32)?;
-    at_address(RecordAddress { extent, offset }, moment)
+    at_address(Address { extent, offset }, moment)
 }
 
 /// Reads the link to the previous record at the front of the bytes, and answers the bytes behind it

@@ -18,11 +18,12 @@ ghost use Rattle.oe_decode.specs.BeforeRanges.{IsAccountBefore};
 ghost use Rattle.oe_decode.specs.BeforeRanges.{IsWarehouseBefore, IsDistrictBefore};
 ghost use Rattle.oe_decode.specs.BeforeRanges.{IsCustomerBefore, IsOrderBefore, IsOrderLineBefore};
 ghost use Rattle.oe_decode.specs.BeforeRanges.{IsStockBefore};
-ghost use Rattle.oe_layout.specs.Links.{IsRecordAddress, IsPrevious};
+ghost use Rattle.oe_layout.specs.Links.{IsAddress, IsPrevious};
 ghost use Rattle.oe_layout.specs.Records.{record_of_lent, IsInRanges};
 
-use crate::links::{Previous, RecordAddress};
+use crate::links::Previous;
 use crate::loans::{LentRecord, LinkedRecord};
+use oe_extent::Address;
 use oe_image::parts::{
     CustomerNamePart, CustomerPart, DistrictPart, OrderLinePart, OrderPart, StockPart,
     WarehousePart,
@@ -261,13 +262,11 @@ fn stock_part(key: &StockKey, part: &StockPart)
     count(&part.remote_count);
 }
 
-impl RecordAddress {
-    fn ranges(&self)
-        ensures { IsRecordAddress self.now }
-    {
-        let _extent = self.extent.get();
-        let _offset = self.offset.get();
-    }
+fn address(address: &Address)
+    ensures { IsAddress address.now }
+{
+    let _extent = address.extent.get();
+    let _offset = address.offset.get();
 }
 
 impl Previous {
@@ -276,9 +275,9 @@ impl Previous {
     {
         match self {
             Previous::Nothing => {}
-            Previous::Own(address) => address.ranges(),
-            Previous::Committed(address, moment) => {
-                address.ranges();
+            Previous::Own(place) => address(place),
+            Previous::Committed(place, moment) => {
+                address(place);
                 let _moment = moment.get();
             }
         }

@@ -6,7 +6,7 @@ use Rattle.oe_extent.specs.declared.extents.Address.{Address}
 use Rattle.oe_extent.specs.Ring as ring
 use Rattle.oe_rows.specs.declared.layouts.Layout.{Layout}
 use Rattle.oe_log.specs.Records.{Logged, lengths, StandElsewhere}
-use Rattle.oe_log.specs.Strings.{record_address, records_in}
+use Rattle.oe_log.specs.Strings.{records_in}
 use Rattle.oe_log.specs.Log.{TerminalState, records_in as seen_in, records_of, records_at, IsFull, IsFresh}
 use Rattle.oe_log.specs.declared.heads.TerminalHead.{TerminalHead}
 use Rattle.oe_log.specs.Kept.{Head, states, commits, log_from, IsKept}
@@ -64,12 +64,12 @@ module _ (y : Layout) {hs : List TerminalHead} {cs : List Head} {capacity : ℕ}
   pub full_there : (t n : ℕ) → IsFull (log_from y hs cs r) t n → ring.IsFull r t n
   full_there t n f = (omega (arith, f.0, same_rest t), omega (arith, f.1, same_active, same_committed))
 
-  pub fresh : (a : Address) → ring.IsFresh r a → IsFresh (log_from y hs cs r) (record_address a)
+  pub fresh : (a : Address) → ring.IsFresh r a → IsFresh (log_from y hs cs r) a
   fresh a f = record {
-    active = λ t. subst (StandElsewhere (record_address a)) (sym (records_are y (inside K) t))
+    active = λ t. subst (StandElsewhere a) (sym (records_are y (inside K) t))
         (all_elsewhere a r.active K.lie.active_are f.active t);
     committed = λ later.
-        subst (λ (rss : List (List Logged)). StandElsewhere (record_address a) (get_or rss later []))
+        subst (λ (rss : List (List Logged)). StandElsewhere a (get_or rss later []))
         (sym (seen_committed y (inside K)))
         (all_elsewhere a r.committed K.lie.committed_are f.committed later);
   }

@@ -12,7 +12,7 @@ use Rattle.oe_layout.specs.Links.{IsPrevious}
 use Rattle.oe_layout.specs.Records.{record_image, record_of_lent, IsInRanges}
 use Rattle.oe_layout.specs.Stored.{deleted_new_order}
 use Rattle.oe_log.specs.Records.{log_entry, newest_of}
-use Rattle.oe_log.specs.Strings.{record_address, records_in, HoldsRecords}
+use Rattle.oe_log.specs.Strings.{records_in, HoldsRecords}
 use Rattle.oe_log.specs.declared.heads.SegmentOwner.{SegmentOwner}
 use Rattle.oe_log.specs.declared.heads.TerminalHead.{TerminalHead}
 use Rattle.oe_log.specs.Log as seen
@@ -206,13 +206,13 @@ module _ (y : Layout) {hs : List TerminalHead} {cs : List Head} {capacity : ℕ}
       → IsPrevious p → IsInRanges (record_of_lent l) → r'
       ≡ ring.with_string_at r t a (record_image p (record_of_lent l))
       → Stands y (set hs t (head_told x m (x.len + 1))) cs capacity r' opens newest
-      (seen.with_record (log_from y hs cs r) u (log_entry (record_address a) p (record_of_lent l)))
+      (seen.with_record (log_from y hs cs r) u (log_entry a p (record_of_lent l)))
   pushed t u x m a p l r' tu low high read some before none hp hb er =
       let there = lists.pushed newest K.lie t x.len r' a p l (omega (arith, high))
       (len_there hs t x (within t high) read) hp hb er in
-      let v = seen.with_record (log_from y hs cs r) u (log_entry (record_address a) p (record_of_lent l)) in
+      let v = seen.with_record (log_from y hs cs r) u (log_entry a p (record_of_lent l)) in
       both y (set hs t (head_told x m (x.len + 1))) cs capacity r' opens newest v
-      (calls.pushed y (inside K) t u x m (x.len + 1) (log_entry (record_address a) p (record_of_lent l))
+      (calls.pushed y (inside K) t u x m (x.len + 1) (log_entry a p (record_of_lent l))
       (lists_of r' opens newest) tu low high read some before none there.view)
       (subst (λ (ls : List ℕ). HoldsRecords r' ls (committed_lens_of cs) opens)
       (sym (lens_set hs t (head_told x m (x.len + 1)))) there.kept)

@@ -8,7 +8,7 @@ use Rattle.oe_extent.specs.Free.{FreeExtents}
 use Rattle.oe_extent.specs.Ring as ring
 use Rattle.oe_log.specs.Records.{Logged, log_entry, newest_of}
 use Rattle.oe_log.proofs.Lists as log
-use Rattle.oe_log.specs.Strings.{record_address, records_in, AreRecords, HoldsRecords}
+use Rattle.oe_log.specs.Strings.{records_in, AreRecords, HoldsRecords}
 use Rattle.oe_log.proofs.Lists.{lists_of}
 use Rattle.oe_layout.specs.declared.links.Previous.{Previous}
 use Rattle.oe_layout.specs.declared.loans.LentRecord.{LentRecord}
@@ -123,17 +123,17 @@ module _ {r : ring.RingStrings} {lens cls : List ℕ} {opens : ℕ} (newest : �
       → IsPrevious p → IsInRanges (record_of_lent l) → r'
       ≡ ring.with_string_at r t a (record_image p (record_of_lent l))
       → Stands r' (set lens t (n + 1)) cls opens newest
-      (log.with_newest_at (lists_of r opens newest) t (log_entry (record_address a) p (record_of_lent l)))
+      (log.with_newest_at (lists_of r opens newest) t (log_entry a p (record_of_lent l)))
   pushed t n r' a p l lt e hp hb er =
       let ss = get_or r.active t [] in
       let are = are_at r.active t k.active_are in
       let s : ring.Addressed = record { address = a; bytes = record_image p (record_of_lent l) } in
       let size : n + 1 ≡ length (s ∷ ss) = omega (arith, len_at t n lt e) in
       changed t (n + 1) r' _ (set lens t (n + 1)) (s ∷ ss)
-      (log_entry (record_address a) p (record_of_lent l) ∷ log.records_at (lists_of r opens newest) t)
+      (log_entry a p (record_of_lent l) ∷ log.records_at (lists_of r opens newest) t)
       (written_is p l hp hb, are) er refl size
       (seen_lent a p l ss hp hb
-      ∙ ap (λ (rs : List Logged). log_entry (record_address a) p (record_of_lent l) ∷ rs) (sym (at_slot r.active t)))
+      ∙ ap (λ (rs : List Logged). log_entry a p (record_of_lent l) ∷ rs) (sym (at_slot r.active t)))
 
   -- which are not more than fit a word
   pub pushed_few : (t n : ℕ) (r' : ring.RingStrings) (a : Address) (p : Previous) (l : LentRecord) → t < 65

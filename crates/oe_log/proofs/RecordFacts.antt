@@ -5,7 +5,6 @@ use Rattle.std.specs.List.{AllByRecursion}
 use Rattle.oe_extent.specs.declared.extents.Address.{Address}
 use Rattle.oe_extent.specs.Ring as ring
 use Rattle.oe_model.specs.Changes.{Record}
-use Rattle.oe_layout.specs.declared.links.RecordAddress.{RecordAddress}
 use Rattle.oe_layout.specs.declared.links.Previous.{Previous}
 use Rattle.oe_layout.specs.declared.records.OwnRecord.{OwnRecord}
 use Rattle.oe_layout.specs.declared.records.OwnRecord.TheVariants as own
@@ -19,7 +18,7 @@ use Rattle.oe_layout.specs.Stored.{IsStoredRecord, IsToldLinked}
 use Rattle.oe_layout.proofs.LengthFacts.{record_long}
 use Rattle.oe_layout.proofs.RecordFacts.{record_finds}
 use Rattle.oe_log.specs.Records.{Logged, newest_of, lengths, StandElsewhere}
-use Rattle.oe_log.specs.Strings.{record_address, before_others, records_in, AreRecords}
+use Rattle.oe_log.specs.Strings.{before_others, records_in, AreRecords}
 
 -- what is read for what was lent
 abbrev Owned : LentRecord → Type 0
@@ -61,7 +60,7 @@ written_is p l hp hb =
 -- ---- one record
 
 abbrev pub record_of : Address → (s : List ℕ) → IsStoredRecord s → Logged
-record_of a s h = record { address = record_address a; previous = h.previous; before = record_of_own h.before }
+record_of a s h = record { address = a; previous = h.previous; before = record_of_own h.before }
 
 is_read : (s : List ℕ) (h : IsStoredRecord s) → record_at s ≡ Some (h.previous, h.before)
 is_read s h = record_finds (h.previous, h.before) s (h.link, h.ranges) h.image
@@ -80,12 +79,12 @@ some_bytes s h = omega (arith, long s h)
 pub seen_lent : (a : Address) (p : Previous) (l : LentRecord) (ss : List (ring.Addressed)) → IsPrevious p
     → IsInRanges (record_of_lent l)
     → records_in (record { address = a; bytes = record_image p (record_of_lent l) } ∷ ss)
-    ≡ record { address = record_address a; previous = p; before = record_of_lent l } ∷ records_in ss
+    ≡ record { address = a; previous = p; before = record_of_lent l } ∷ records_in ss
 unfolding owned written_is
 seen_lent a p l ss hp hb =
     let o = owned l in
     seen (record { address = a; bytes = record_image p (record_of_lent l) }) ss (written_is p l hp hb)
-    ∙ ap (λ (b : Record). record { address = record_address a; previous = p; before = b } ∷ records_in ss) o.1
+    ∙ ap (λ (b : Record). record { address = a; previous = p; before = b } ∷ records_in ss) o.1
 
 pub lent_long : (p : Previous) (l : LentRecord) → IsInRanges (record_of_lent l)
     → length (record_image p (record_of_lent l)) ≡ record_length (record_of_lent l)
@@ -129,18 +128,11 @@ newest_is (s ∷ ss) bytes x h some e told =
 
 -- ---- addresses
 
-abbrev pub ring_address : RecordAddress → Address
-ring_address a = record { extent = a.extent; offset = a.offset }
-
-same_address : (a b : Address) → record_address a ≡ record_address b → a ≡ b
-same_address a b e = ap ring_address e
-
 pub elsewhere : (a : Address) (ss : List (ring.Addressed)) → AreRecords ss → ring.StandElsewhere a ss
-    → StandElsewhere (record_address a) (records_in ss)
+    → StandElsewhere a (records_in ss)
 elsewhere a [] h k = tt
 elsewhere a (s ∷ ss) h k =
-    subst (StandElsewhere (record_address a)) (sym (seen s ss h.0))
-    ((λ e. k.0 (same_address s.address a e)), elsewhere a ss h.1 k.1)
+    subst (StandElsewhere a) (sym (seen s ss h.0)) (k.0, elsewhere a ss h.1 k.1)
 
 -- ---- the segments of all terminals, or of all commits
 
@@ -163,6 +155,6 @@ are_set (y ∷ ys) (suc t) x h k = (h.0, are_set ys t x h.1 k)
 
 pub all_elsewhere : (a : Address) (xs : List (List (ring.Addressed))) → AllByRecursion AreRecords xs
     → ((t : ℕ) → ring.StandElsewhere a (get_or xs t []))
-    → (t : ℕ) → StandElsewhere (record_address a) (get_or (map records_in xs) t [])
-all_elsewhere a xs h k t = subst (StandElsewhere (record_address a)) (sym (at_slot xs t))
+    → (t : ℕ) → StandElsewhere a (get_or (map records_in xs) t [])
+all_elsewhere a xs h k t = subst (StandElsewhere a) (sym (at_slot xs t))
     (elsewhere a (get_or xs t []) (are_at xs t h) (k t))

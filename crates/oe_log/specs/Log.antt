@@ -8,7 +8,7 @@ use Rattle.oe_requests.specs.declared.requests.Request.{Request}
 use Rattle.oe_requests.specs.declared.replies.Reply.{Reply}
 use Rattle.oe_extent.specs.Ring.{fill_of}
 use Rattle.oe_layout.specs.Records.{IsOfLayout}
-use Rattle.oe_layout.specs.declared.links.RecordAddress.{RecordAddress}
+use Rattle.oe_extent.specs.declared.extents.Address.{Address}
 use Rattle.oe_log.specs.Records.{Logged, lengths, StandElsewhere}
 use Rattle.oe_log.specs.declared.heads.SegmentOwner.{SegmentOwner}
 
@@ -165,7 +165,7 @@ abbrev pub IsFull : SegmentLog → ℕ → ℕ → Type 0
 IsFull v t n = ((fill_of (lengths (records_at v t))).1 < n) × (v.extents ≤ used_of v)
 
 -- no record of a terminal or of a commit is at that address
-pub record IsFresh (v : SegmentLog) (a : RecordAddress) : Type 0 where
+pub record IsFresh (v : SegmentLog) (a : Address) : Type 0 where
   pub active : (t : ℕ) → StandElsewhere a (records_at v t)
   pub committed : (later : ℕ) → StandElsewhere a (get_or (committed_records v) later [])
 

@@ -3,16 +3,16 @@ use Rattle.std.specs.Prelude.{◌≡◌, ◌≢◌, ◌⊎◌, ℕ, List, [], �
 use Rattle.std.specs.List.{AllByRecursion}
 use Rattle.oe_model.specs.Changes.{Record}
 use Rattle.oe_model.specs.Lengths.{record_length}
-use Rattle.oe_layout.specs.declared.links.RecordAddress.{RecordAddress}
+use Rattle.oe_extent.specs.declared.extents.Address.{Address}
 use Rattle.oe_layout.specs.declared.links.Previous.{Previous}
 
 -- an undo record with its address, and what leads to the previous record of its row
 pub record Logged : Type 0 where
-  pub address : RecordAddress
+  pub address : Address
   pub previous : Previous
   pub before : Record
 
-abbrev pub log_entry : RecordAddress → Previous → Record → Logged
+abbrev pub log_entry : Address → Previous → Record → Logged
 log_entry a p b = record { address = a; previous = p; before = b }
 
 -- the records themselves
@@ -30,7 +30,7 @@ lengths rs = map (λ r. record_length r.before) rs
 -- ---- addresses
 
 -- none of these records is at that address
-abbrev pub StandElsewhere : RecordAddress → List Logged → Type 0
+abbrev pub StandElsewhere : Address → List Logged → Type 0
 StandElsewhere a rs = AllByRecursion (λ r. r.address ≢ a) rs
 
 -- ---- records by their addresses
@@ -41,12 +41,12 @@ IsAmong r [] = ⊥
 IsAmong r (x ∷ xs) = (x ≡ r) ⊎ IsAmong r xs
 
 -- one of these records is at that address
-pub record HasAddress (rs : List Logged) (a : RecordAddress) : Type 0 where
+pub record HasAddress (rs : List Logged) (a : Address) : Type 0 where
   pub previous : Previous
   pub before : Record
   pub there : IsAmong (log_entry a previous before) rs
 
 -- the answer is the record at that address
-abbrev pub IsRecordAt : List Logged → RecordAddress → Previous × Record → Type 0
+abbrev pub IsRecordAt : List Logged → Address → Previous × Record → Type 0
 IsRecordAt rs a told =
     (p : Previous) (b : Record) → IsAmong (log_entry a p b) rs → told ≡ (p, b)

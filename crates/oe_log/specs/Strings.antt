@@ -4,7 +4,6 @@ use Rattle.std.specs.List.{AllByRecursion}
 use Rattle.oe_values.specs.declared.numbers.TheConstants.{TERMINALS}
 use Rattle.oe_extent.specs.declared.extents.Address.{Address}
 use Rattle.oe_extent.specs.Ring.{Addressed, RingStrings}
-use Rattle.oe_layout.specs.declared.links.RecordAddress.{RecordAddress}
 use Rattle.oe_layout.specs.declared.links.Previous.{Previous}
 use Rattle.oe_layout.specs.declared.records.OwnRecord.{OwnRecord}
 use Rattle.oe_layout.specs.Records.{record_of_own}
@@ -12,14 +11,11 @@ use Rattle.oe_layout.specs.RecordFronts.{record_at}
 use Rattle.oe_layout.specs.Stored.{IsStoredRecord}
 use Rattle.oe_log.specs.Records.{Logged}
 
-abbrev pub record_address : Address → RecordAddress
-record_address a = record { extent = a.extent; offset = a.offset }
-
 -- a record that was read at that address, before others
 abbrev pub before_others : Address → Option (Previous × OwnRecord) → List Logged → List Logged
 before_others a None rs = rs
 before_others a (Some x) rs =
-    record { address = record_address a; previous = x.0; before = record_of_own x.1 } ∷ rs
+    record { address = a; previous = x.0; before = record_of_own x.1 } ∷ rs
 
 -- the records that strings of the ring are
 abbrev pub records_in : List Addressed → List Logged

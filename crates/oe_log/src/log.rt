@@ -106,11 +106,11 @@ impl Log {
     pub fn new(alloc: Global, extents: ExtentCount, layout: Layout) -> Result<Log, NoMemory>
         ensures { IfOk result (λ s. s ≡ no_segments extents layout) }
     {
-        let count = extents.get() as usize;
+        let _known = extents.get();
         let Some(newest) = Moment::new(0) else {
             unreachable!()
         };
-        let Ok(ring) = Ring::new(alloc, count, TERMINALS as usize + 1) else {
+        let Ok(ring) = Ring::new(alloc, extents, TERMINALS as usize + 1) else {
             return Err(NoMemory);
         };
         let terminals = idle_heads(alloc)?;

@@ -1,7 +1,6 @@
 //! Open segments: opened for a terminal, filled with records, marked, cut back, and dropped. Only
 //! `open_segment` takes memory, and `push` alone is refused for want of an extent.
 ghost use Rattle.std.specs.Prelude.{◌≡◌, ◌<◌, ◌↔◌, suc, false, [], length, option_map, None, IsSome, IsErr, IfOk, OnOk, OnErr};
-ghost use Rattle.oe_extent.specs.declared.sizes.TheConstants.{EXTENT_BYTES};
 ghost use Rattle.oe_model.specs.Lengths.{record_length};
 ghost use Rattle.oe_layout.specs.Records.{record_of_own, record_of_lent, IsOfLayout};
 ghost use Rattle.oe_layout.specs.Stored.{deleted_new_order};
@@ -13,21 +12,9 @@ use crate::heads::SegmentOwner;
 use crate::log::{Log, Segment};
 use crate::ticks::Ticks;
 use oe_extent::{Address, Full};
-use oe_layout::{LentRecord, LinkedRecord, OwnRecord, Previous, RecordAddress, linked_record};
+use oe_layout::{LentRecord, LinkedRecord, OwnRecord, Previous, linked_record};
 use oe_values::NoMemory;
-use oe_values::numbers::{Number, Terminal, TransactionNumber};
-
-/// Gives an address of the ring as a record's.
-fn record_address(address: Address) -> RecordAddress
-    requires extent { address.extent < 4096 }
-    requires offset { address.offset < EXTENT_BYTES }
-    ensures { result ≡ record { extent = address.extent; offset = address.offset } }
-{
-    RecordAddress {
-        extent: Number::new(address.extent as u32).unwrap(),
-        offset: Number::new(address.offset as u32).unwrap(),
-    }
-}
+use oe_values::numbers::{Terminal, TransactionNumber};
 
 /// Tells whether records may be of deleted rows after one more, by whether they may before.
 fn may_delete(before: bool, record: &LentRecord<'_>) -> bool
@@ -83,7 +70,7 @@ impl Log {
     /// neither the rest of the segment's newest extent nor a free one. The record is of the log's
     /// layout. It takes no memory.
     #[inline(always)]
-    pub fn push(&mut self, segment: Segment, lent: &LinkedRecord<'_>) -> Result<RecordAddress, Full>
+    pub fn push(&mut self, segment: Segment, lent: &LinkedRecord<'_>) -> Result<Address, Full>
         requires open { IsSome (active_at self.old segment) }
         requires layout { IsOfLayout self.old.layout (record_of_lent lent.now.record) }
         ensures pushed { IfOk result (λ a. self.new
@@ -106,7 +93,7 @@ impl Log {
         let state = self.terminals.at_mut(terminal);
         state.deletes = may_delete(state.deletes, &lent.record);
         state.len += 1;
-        Ok(record_address(address))
+        Ok(address)
     }
 
     /// Tells whose an open segment is: its terminal's next transaction.

@@ -13,20 +13,10 @@ use crate::log::Log;
 use crate::ticks::Ticks;
 use crate::walks::{Deleted, Records};
 use oe_extent::Address;
-use oe_layout::{Previous, RecordAddress, StoredRecord, linked_record};
+use oe_layout::{Previous, StoredRecord, linked_record};
 use oe_rows::{CustomerKey, Layout};
 use oe_values::Text;
 use oe_values::numbers::{TERMINALS, Terminal, TransactionNumber};
-
-/// Gives a record's address as one of the ring.
-fn ring_address(address: RecordAddress) -> Address
-    ensures { result ≡ record { extent = address.extent; offset = address.offset } }
-{
-    Address {
-        extent: address.extent.get() as usize,
-        offset: address.offset.get() as usize,
-    }
-}
 
 impl Log {
     /// Tells how many extents there are.
@@ -124,7 +114,7 @@ impl Log {
     pub fn linked_at(
         &self,
         terminal: Terminal,
-        address: RecordAddress,
+        address: Address,
         ticks: &mut Ticks,
     ) -> (Previous, StoredRecord<'_>)
         requires { HasAddress (records_at self.now terminal) address }
@@ -134,8 +124,7 @@ impl Log {
     {
         ticks.tick();
         let slot = terminal.get() as usize;
-        let place = ring_address(address);
-        linked_record(self.ring.at(slot, place))
+        linked_record(self.ring.at(slot, address))
     }
 
     /// Gives the record at that address of a commit's segment, where it lies, with what leads to
@@ -144,7 +133,7 @@ impl Log {
     pub fn committed_linked_at(
         &self,
         later: usize,
-        address: RecordAddress,
+        address: Address,
         ticks: &mut Ticks,
     ) -> (Previous, StoredRecord<'_>)
         requires commit { later < length self.now.committed }
@@ -154,8 +143,7 @@ impl Log {
         ensures ticks { ticks.new ≡ ticks_with ticks.old 1 }
     {
         ticks.tick();
-        let place = ring_address(address);
-        linked_record(self.ring.committed_at(later, place))
+        linked_record(self.ring.committed_at(later, address))
     }
 
     /// Gives the keys of the NEW-ORDER rows that a commit deleted, the newest delete first. The

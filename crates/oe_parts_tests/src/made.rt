@@ -1,5 +1,5 @@
 //! Keys, rows and addresses, whose values differ. `None` where one could not be made.
-use oe_layout::{CommitMoment, Previous, RecordAddress};
+use oe_layout::{CommitMoment, Previous};
 use oe_rows::{
     Address, DistrictKey, NewOrderKey, Order, OrderKey, Stock, StockKey, Warehouse, WarehouseKey,
 };
@@ -106,8 +106,8 @@ pub(crate) fn stock() -> Option<Stock> {
     })
 }
 
-pub(crate) fn address(extent: u32, offset: u32) -> Option<RecordAddress> {
-    Some(RecordAddress {
+pub(crate) fn address(extent: u32, offset: u32) -> Option<oe_extent::Address> {
+    Some(oe_extent::Address {
         extent: Number::new(extent)?,
         offset: Number::new(offset)?,
     })

@@ -10,7 +10,7 @@ use Rattle.oe_model.specs.Rows.{is_key}
 use Rattle.oe_model.specs.Changes.{record_key}
 use Rattle.oe_model.specs.System.{system}
 use Rattle.oe_theory.specs.Store.{all_below}
-use Rattle.oe_layout.specs.declared.links.RecordAddress.{RecordAddress}
+use Rattle.oe_extent.specs.declared.extents.Address.{Address}
 use Rattle.oe_layout.specs.declared.links.Previous.{Previous}
 use Rattle.oe_layout.specs.declared.links.Previous.TheVariants.{Nothing, Own, Committed}
 use Rattle.oe_log.specs.Records.{Logged}
@@ -348,7 +348,7 @@ module _ (k : Key) where
           cc
 
   -- a previous link to a commit that is not later than this moment
-  up_to : (h n t : ℕ) (rs : List Logged) (ys : List Held) (a : RecordAddress) (m : ℕ) → h ≤ n → AreUpTo n ys
+  up_to : (h n t : ℕ) (rs : List Logged) (ys : List Held) (a : Address) (m : ℕ) → h ≤ n → AreUpTo n ys
       → IsChain h (Some (record { address = a; holder = At m })) (own (Open t) rs ++ ys) → m ≤ n
   up_to h n t rs ys a m le up c = go (own (Open t) rs) refl
     where

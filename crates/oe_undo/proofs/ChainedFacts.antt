@@ -16,7 +16,7 @@ use Rattle.oe_model.specs.Changes.{Record, record_key}
 use Rattle.oe_model.specs.System.{system, terminal_limit}
 use Rattle.oe_model.proofs.RowFacts.{key_refl}
 use Rattle.oe_theory.specs.Store.{all_below}
-use Rattle.oe_layout.specs.declared.links.RecordAddress.{RecordAddress}
+use Rattle.oe_extent.specs.declared.extents.Address.{Address}
 use Rattle.oe_layout.specs.declared.links.Previous.{Previous}
 use Rattle.oe_layout.specs.declared.links.Previous.TheVariants.{Own, Committed}
 use Rattle.oe_log.specs.Records.{Logged, log_entry, newest_of}
@@ -223,14 +223,14 @@ followed_cond u false l p = refl
 next_is_owner : (u : SegmentLog) (t : ℕ) → IsSome (active_at u t) → IsOwner u (next_owner u t)
 next_is_owner u t some = record { number = omega arith; is_open = λ less. some }
 
-next_followed : (u : SegmentLog) (t : ℕ) (a : RecordAddress)
+next_followed : (u : SegmentLog) (t : ℕ) (a : Address)
     → link_by_now u (Some (record { address = a; owner = next_owner u t })) ≡ Some
     (record { address = a; holder = Open t })
 next_followed u t a =
     ap (λ (o : Option Holder). option_map {T = Holder} (λ h. record { address = a; holder = h }) o)
     (owner.opened_holder u (next_owner u t) (omega arith))
 
-module _ (u w : SegmentLog) (t : ℕ) (a : RecordAddress) (p : Previous) (b : Record) (some : IsSome (active_at u t))
+module _ (u w : SegmentLog) (t : ℕ) (a : Address) (p : Previous) (b : Record) (some : IsSome (active_at u t))
     (is : w ≡ with_record u t (log_entry a p b)) where
   abbrev more : List Logged
   more = log_entry a p b ∷ records_at u t
@@ -859,12 +859,12 @@ none_linked_still u w links ms none is c =
 -- ---- the link where a previous one leads
 
 module _ (u : SegmentLog) (t : ℕ) (whole : IsWhole u) where
-  pub own_given : (a : RecordAddress) (n : SegmentOwner) → n ≡ next_owner u t
+  pub own_given : (a : Address) (n : SegmentOwner) → n ≡ next_owner u t
       → link_by_now u (Some (record { address = a; owner = n })) ≡ link_above (horizon u) (link_from (Open t) (Own a))
   own_given a n by = ap (λ (x : SegmentOwner). link_by_now u (Some (record { address = a; owner = x }))) by
       ∙ next_followed u t a
 
-  pub none_given : (a : RecordAddress) (m later : ℕ) → m ≤ total_count u → later ≡ total_count u - m
+  pub none_given : (a : Address) (m later : ℕ) → m ≤ total_count u → later ≡ total_count u - m
       → None ≡ option_map owner_of (slice_get u.committed later)
       → None ≡ link_above (horizon u) (link_from (Open t) (Committed a m))
   none_given a m later made is none =
@@ -872,7 +872,7 @@ module _ (u : SegmentLog) (t : ℕ) (whole : IsWhole u) where
       let few = whole.commits in
       sym (owner.ended (horizon u) a m (omega (arith, past, is, made, few)))
 
-  pub committed_given : (a : RecordAddress) (m later : ℕ) (n : SegmentOwner) → m ≤ total_count u
+  pub committed_given : (a : Address) (m later : ℕ) (n : SegmentOwner) → m ≤ total_count u
       → later ≡ total_count u - m → Some n ≡ option_map owner_of (slice_get u.committed later)
       → n.number + commits_of n.terminal (take later u.committed) ≡ count_at u n.terminal
       → link_by_now u (Some (record { address = a; owner = n }))

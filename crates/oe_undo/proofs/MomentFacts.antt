@@ -4,7 +4,7 @@ use Rattle.std.proofs.Common.{arith, List, [], ◌∷◌, length, Option, None, 
 use Rattle.std.specs.Prelude.{nat_lt, option_map, slice_get, IfSome}
 use Rattle.std.proofs.lemmas.Bool.{lt-ltb, le-ltb}
 use Rattle.oe_theory.proofs.Sets.{some_inj}
-use Rattle.oe_layout.specs.declared.links.RecordAddress.{RecordAddress}
+use Rattle.oe_extent.specs.declared.extents.Address.{Address}
 use Rattle.oe_layout.specs.declared.links.Previous.TheVariants.{Committed}
 use Rattle.oe_log.specs.Log.{SegmentLog, Committed as CommitSegment, count_at, total_count}
 use Rattle.oe_undo.specs.declared.holders.Holder.{Holder}
@@ -56,7 +56,7 @@ later_link u (Some l) x whole e = go (holder_of u l.owner) refl e
     go None f e = cc
     go (Some h) f e = ap (λ (z : Link). is_later 0 z.holder) (sym (some_inj _ _ e)) ∙ later_holder u l h whole.commits f
 
-none_at_zero : (h t : ℕ) (a : RecordAddress) → link_above h (link_from (Open t) (Committed a 0)) ≡ None
+none_at_zero : (h t : ℕ) (a : Address) → link_above h (link_from (Open t) (Committed a 0)) ≡ None
 none_at_zero h t a = ap (λ b. cond b (link_from (Open t) (Committed a 0)) None) (le-ltb h 0 (omega arith))
 
 -- and so is what it follows to

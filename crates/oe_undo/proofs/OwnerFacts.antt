@@ -7,7 +7,7 @@ use Rattle.std.proofs.lemmas.List.{get_or-set_same, get_or-set_other, set_past, 
 use Rattle.std.proofs.lemmas.List.Sums.{sum_by-set}
 use mathlib.Core.Path.{fun_ext}
 use Rattle.oe_rows.specs.declared.keys.Key.{Key}
-use Rattle.oe_layout.specs.declared.links.RecordAddress.{RecordAddress}
+use Rattle.oe_extent.specs.declared.extents.Address.{Address}
 use Rattle.oe_requests.specs.declared.requests.Request.{Request}
 use Rattle.oe_requests.specs.declared.replies.Reply.{Reply}
 use Rattle.oe_log.specs.declared.heads.SegmentOwner.{SegmentOwner}
@@ -276,11 +276,11 @@ unended_as h (Some l) = go l.holder refl
           )
         ]
 
-pub not_ended : (h : ℕ) (a : RecordAddress) (m : ℕ) → h < m
+pub not_ended : (h : ℕ) (a : Address) (m : ℕ) → h < m
     → link_above h (Some (record { address = a; holder = At m })) ≡ Some (record { address = a; holder = At m })
 not_ended h a m later = cond-true (nat_lt h m) (Some (record { address = a; holder = At m })) None (lt-ltb h m later)
 
-pub ended : (h : ℕ) (a : RecordAddress) (m : ℕ) → m ≤ h
+pub ended : (h : ℕ) (a : Address) (m : ℕ) → m ≤ h
     → link_above h (Some (record { address = a; holder = At m })) ≡ None
 ended h a m done = cond-false (nat_lt h m) (Some (record { address = a; holder = At m })) None (le-ltb h m done)
 

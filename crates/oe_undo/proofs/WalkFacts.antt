@@ -5,7 +5,7 @@ use Rattle.std.proofs.lemmas.Bool.{both_ways, and_parts, and_from, or_cases, or_
 use Rattle.std.proofs.lemmas.Bool.{eqb-true}
 use Rattle.oe_rows.specs.declared.rows.Row.{Row}
 use Rattle.oe_model.specs.Changes.{Record, restore}
-use Rattle.oe_layout.specs.declared.links.RecordAddress.{RecordAddress}
+use Rattle.oe_extent.specs.declared.extents.Address.{Address}
 use Rattle.oe_layout.specs.declared.links.Previous.{Previous}
 use Rattle.oe_log.specs.Records.{Logged, log_entry, IsAmong, HasAddress, IsRecordAt}
 use Rattle.oe_log.specs.Log.{SegmentLog}
@@ -17,24 +17,24 @@ use Rattle.oe_log.specs.Ticks.{ticks_with}
 
 -- ---- records at an address
 
-abbrev is_address : RecordAddress → RecordAddress → Bool
+abbrev is_address : Address → Address → Bool
 is_address a b = (a.extent == b.extent) && (a.offset == b.offset)
 
-same_address : (a b : RecordAddress) → is_address a b ≡ true → a ≡ b
+same_address : (a b : Address) → is_address a b ≡ true → a ≡ b
 same_address a b e =
     let q = and_parts (a.extent == b.extent) (a.offset == b.offset) e in
     λ i. record { extent = eqb-true a.extent b.extent q.0 i; offset = eqb-true a.offset b.offset q.1 i }
 
-own_address : (a : RecordAddress) → is_address a a ≡ true
+own_address : (a : Address) → is_address a a ≡ true
 own_address a = and_from (a.extent == a.extent) (a.offset == a.offset) (eq-eqb a.extent a.extent refl)
     (eq-eqb a.offset a.offset refl)
 
 -- what leads on from one of these records at that address passes a test
-abbrev passes : RecordAddress → (Previous → Bool) → List Logged → Bool
+abbrev passes : Address → (Previous → Bool) → List Logged → Bool
 passes a f [] = false
 passes a f (r ∷ rs) = (is_address a r.address && f r.previous) || passes a f rs
 
-passes_among : (a : RecordAddress) (f : Previous → Bool) (p : Previous) (b : Record) (rs : List Logged)
+passes_among : (a : Address) (f : Previous → Bool) (p : Previous) (b : Record) (rs : List Logged)
     → IsAmong (log_entry a p b) rs → f p ≡ true
     → passes a f rs ≡ true
 passes_among a f p b [] there e = absurd there
@@ -46,7 +46,7 @@ passes_among a f p b (r ∷ rs) (inr there) e =
     or_right (is_address a r.address && f r.previous) (passes a f rs) (passes_among a f p b rs there e)
 
 -- the record that is told there passes it then
-told_passes : (a : RecordAddress) (f : Previous → Bool) (told : Previous × Record) (rs : List Logged)
+told_passes : (a : Address) (f : Previous → Bool) (told : Previous × Record) (rs : List Logged)
     → IsRecordAt rs a told → passes a f rs ≡ true
     → f told.0 ≡ true
 told_passes a f told [] at e = cc

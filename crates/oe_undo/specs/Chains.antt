@@ -4,7 +4,7 @@ use Rattle.std.specs.Prelude.{◌≡◌, ◌≢◌, ℕ, ◌≤◌, ◌<◌, ◌
 use Rattle.oe_rows.specs.declared.keys.Key.{Key}
 use Rattle.oe_model.specs.Rows.{is_key}
 use Rattle.oe_model.specs.Changes.{Record, record_key}
-use Rattle.oe_layout.specs.declared.links.RecordAddress.{RecordAddress}
+use Rattle.oe_extent.specs.declared.extents.Address.{Address}
 use Rattle.oe_layout.specs.declared.links.Previous.{Previous}
 use Rattle.oe_layout.specs.declared.links.Previous.TheVariants.{Nothing, Own, Committed}
 use Rattle.oe_log.specs.Log.{SegmentLog, records_at}
@@ -25,7 +25,7 @@ link_from h (Own a) = Some (record { address = a; holder = h })
 link_from h (Committed a m) = Some (record { address = a; holder = At m })
 
 -- what a record has as previous that is pushed where its key has this link
-abbrev pub previous_by : Holder → RecordAddress → Previous
+abbrev pub previous_by : Holder → Address → Previous
 previous_by (Open t) a = Own a
 previous_by (At m) a = Committed a m
 

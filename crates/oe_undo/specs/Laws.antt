@@ -13,7 +13,7 @@ use Rattle.oe_log.specs.Log.{after_seal, without_segment, with_newest}
 use Rattle.oe_log.specs.Log.{with_reopening}
 use Rattle.oe_undo.specs.declared.holders.Link.{Link}
 use Rattle.oe_undo.specs.declared.holders.Holder.TheVariants.{Open}
-use Rattle.oe_layout.specs.declared.links.RecordAddress.{RecordAddress}
+use Rattle.oe_extent.specs.declared.extents.Address.{Address}
 use Rattle.oe_layout.specs.declared.links.Previous.TheVariants.{Committed}
 use Rattle.oe_undo.specs.declared.links.OwnedLink.{OwnedLink}
 use Rattle.oe_undo.specs.Held.{all_held, of_key, horizon, is_later}
@@ -70,7 +70,7 @@ Ends_without_records = (u : SegmentLog) (links : Key → Option Link) (k : Key) 
 -- Commits begin at moment 1
 pub record Moments_begin_at_one : Type 0 where
   -- a link with moment 0 is none, whatever the horizon
-  pub none : (h t : ℕ) (a : RecordAddress) → link_above h (link_from (Open t) (Committed a 0)) ≡ None
+  pub none : (h t : ℕ) (a : Address) → link_above h (link_from (Open t) (Committed a 0)) ≡ None
   -- and no key's link has it
   pub later : (u : SegmentLog) (l : Option OwnedLink) (x : Link) → IsWhole u → link_by_now u l ≡ Some x
       → is_later 0 x.holder ≡ true

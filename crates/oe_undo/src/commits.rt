@@ -1,6 +1,7 @@
 //! Commits: their moments, and their segments given up or opened again. No link changes.
-ghost use Rattle.std.specs.Prelude.{◌≡◌, ◌+◌, ◌-◌, ℕ, length, slice_get, option_map, None, IsSome};
+ghost use Rattle.std.specs.Prelude.{◌≡◌, ◌+◌, ◌-◌, ℕ, length, slice_get, option_map, None};
 ghost use Rattle.oe_log.specs.Log.{active_at, total_count, owner_of, after_seal, with_newest, with_reopening};
+ghost use Rattle.oe_undo.specs.Undo.{IsOpen};
 
 use crate::undo::Undo;
 use oe_log::{Segment, SegmentOwner};
@@ -19,7 +20,7 @@ impl Undo {
         request: Snapshot<Request>,
         reply: Snapshot<Reply>,
     ) -> Moment
-        requires { IsSome (active_at self.old.log segment) }
+        requires { IsOpen self.old segment }
         ensures sealed { self.new.log
             ≡ after_seal self.old.log segment request.value reply.value }
         ensures moment { result ≡ total_count self.old.log + 1 }

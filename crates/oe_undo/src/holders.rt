@@ -4,7 +4,8 @@ ghost use Rattle.std.specs.Prelude.{◌≡◌, true, IfSome};
 ghost use Rattle.oe_undo.specs.Chains.{link_from, previous_by, previous_of};
 ghost use Rattle.oe_undo.specs.Held.{is_later};
 
-use oe_layout::{CommitMoment, Previous, RecordAddress};
+use oe_extent::Address;
+use oe_layout::{CommitMoment, Previous};
 use oe_values::{Moment, Terminal};
 
 /// Whose a record is.
@@ -19,7 +20,7 @@ pub enum Holder {
 /// Where a key's newest record lies, and whose it is.
 #[derive(Clone, Copy, PartialEq, Eq)]
 pub struct Link {
-    pub address: RecordAddress,
+    pub address: Address,
     pub holder: Holder,
 }
 

@@ -16,7 +16,7 @@ ghost use Rattle.oe_undo.specs.Links.{place_of, links_of, HasPlace, no_links, co
 use crate::numbers::NumberedKey;
 use crate::places::Places;
 use crate::tables::{insert, link_in, place_in, reach, set};
-use oe_layout::RecordAddress;
+use oe_extent::Address;
 use oe_log::SegmentOwner;
 use oe_rows::{HistoryKey, Key};
 use oe_table::shelves::Shelves;
@@ -28,7 +28,7 @@ use std::marker::Model;
 /// which moment it committed, is the log's to know, so that no commit changes a link.
 #[derive(Clone, Copy, PartialEq, Eq)]
 pub struct OwnedLink {
-    pub address: RecordAddress,
+    pub address: Address,
     pub owner: SegmentOwner,
 }
 

@@ -1,19 +1,16 @@
 //! Records pushed and taken off, each with its key's link: the record is written with the link that
 //! stands, then the link leads to it. A refused push changes nothing.
-ghost use Rattle.std.specs.Prelude.{◌≡◌, true, None, option_map, IsSome, IfSome, IfErr, OnOk, OnErr};
+ghost use Rattle.std.specs.Prelude.{◌≡◌, true, option_map, IfSome, IfErr, OnOk, OnErr};
 ghost use Rattle.std.specs.Borrow.{sem};
 ghost use Rattle.std.specs.Io.BufRead.{Rests};
-ghost use Rattle.oe_model.specs.Changes.{record_key};
-ghost use Rattle.oe_model.specs.Lengths.{record_length};
-ghost use Rattle.oe_layout.specs.Records.{record_of_lent, record_of_own, IsOfLayout};
+ghost use Rattle.oe_layout.specs.Records.{record_of_own};
 ghost use Rattle.oe_layout.specs.declared.links.Previous.TheVariants.{Nothing};
 ghost use Rattle.oe_log.specs.Records.{newest_of};
-ghost use Rattle.oe_log.specs.Log.{IsFull, active_at, records_at, without_newest};
-ghost use Rattle.oe_undo.specs.Chains.{link_from, previous_of, IsAlone};
+ghost use Rattle.oe_log.specs.Log.{records_at, without_newest};
+ghost use Rattle.oe_undo.specs.Chains.{previous_of};
 ghost use Rattle.oe_undo.specs.Held.{is_later};
-ghost use Rattle.oe_undo.specs.Links.{place_of};
-ghost use Rattle.oe_undo.specs.declared.holders.Holder.TheVariants.{Open};
-ghost use Rattle.oe_undo.specs.Undo.{link_seen, HasPushed, IsUnpushed, GivesBack};
+ghost use Rattle.oe_undo.specs.Undo.{lent_record, IsOpen, IsAloneAtRow, HasLayout, LeadsBack, HasRoom, HasNoPlace};
+ghost use Rattle.oe_undo.specs.Undo.{HasPushed, IsUnpushed, GivesBack};
 
 use crate::holders::{Link, previous_of};
 use crate::links::OwnedLink;
@@ -62,21 +59,15 @@ impl Undo {
     /// was refused. The log and the links are as before then.
     #[inline(always)]
     pub fn push(&mut self, segment: Segment, lent: &mut LinkedRecord<'_>) -> Result<(), CantPush>
-        requires open { IsSome (active_at self.old.log segment) }
-        requires alone { IsAlone self.old.log segment
-            (record_key (record_of_lent lent.old.record)) }
-        requires layout { IsOfLayout self.old.log.layout (record_of_lent lent.old.record) }
-        ensures linked { link_from (Open segment) lent.new.previous
-            ≡ link_seen self.old (record_key (record_of_lent lent.old.record)) }
+        requires open { IsOpen self.old segment }
+        requires alone { IsAloneAtRow self.old segment (lent_record lent.old) }
+        requires layout { HasLayout self.old (lent_record lent.old) }
+        ensures linked { LeadsBack self.old segment lent.new.previous (lent_record lent.old) }
         ensures record { lent.new.record ≡ lent.old.record }
         ensures pushed { OnOk result
-            (HasPushed self.old self.new segment lent.new.previous
-            (record_of_lent lent.old.record)) }
-        ensures room { OnOk result
-            (IsFull self.old.log segment
-            (record_length (record_of_lent lent.old.record)) → ⊥) }
-        ensures cause { IfErr result
-            (IsUnpushed self.old segment (record_of_lent lent.old.record)) }
+            (HasPushed self.old self.new segment lent.new.previous (lent_record lent.old)) }
+        ensures room { OnOk result (HasRoom self.old segment (lent_record lent.old)) }
+        ensures cause { IfErr result (IsUnpushed self.old segment (lent_record lent.old)) }
         ensures err { OnErr result (self.new ≡ self.old) }
     {
         self.is_chained();
@@ -97,19 +88,15 @@ impl Undo {
     // Pushes a record of a key that has no place for a link, and so no record.
     #[inline(never)]
     fn push_new(&mut self, segment: Segment, lent: &mut LinkedRecord<'_>) -> Result<(), CantPush>
-        requires open { IsSome (active_at self.old.log segment) }
-        requires no_place { place_of self.old.links (record_key (record_of_lent lent.old.record))
-            ≡ None }
-        requires layout { IsOfLayout self.old.log.layout (record_of_lent lent.old.record) }
+        requires open { IsOpen self.old segment }
+        requires no_place { HasNoPlace self.old (lent_record lent.old) }
+        requires layout { HasLayout self.old (lent_record lent.old) }
         ensures linked { lent.new.previous ≡ Nothing }
         ensures record { lent.new.record ≡ lent.old.record }
         ensures pushed { OnOk result
-            (HasPushed self.old self.new segment Nothing (record_of_lent lent.old.record)) }
-        ensures room { OnOk result
-            (IsFull self.old.log segment
-            (record_length (record_of_lent lent.old.record)) → ⊥) }
-        ensures cause { IfErr result
-            (IsUnpushed self.old segment (record_of_lent lent.old.record)) }
+            (HasPushed self.old self.new segment Nothing (lent_record lent.old)) }
+        ensures room { OnOk result (HasRoom self.old segment (lent_record lent.old)) }
+        ensures cause { IfErr result (IsUnpushed self.old segment (lent_record lent.old)) }
         ensures err { OnErr result (self.new ≡ self.old) }
     {
         self.is_chained();
@@ -134,7 +121,7 @@ impl Undo {
     /// its previous link back. It takes no memory.
     #[inline(never)]
     pub fn pop(&mut self, segment: Segment)
-        requires { IsSome (active_at self.old.log segment) }
+        requires { IsOpen self.old segment }
         ensures log { self.new.log ≡ without_newest self.old.log segment }
         ensures links { GivesBack self.old self.new segment (records_at self.old.log segment) }
     {
@@ -144,7 +131,7 @@ impl Undo {
     /// Gives the newest record of an open segment, which is taken off as by `pop`; none exactly
     /// where it has none.
     pub fn take_newest(&mut self, segment: Segment) -> Option<OwnRecord>
-        requires { IsSome (active_at self.old.log segment) }
+        requires { IsOpen self.old segment }
         ensures newest { option_map record_of_own result
             ≡ option_map (λ x. x.1) (newest_of (records_at self.old.log segment)) }
         ensures log { self.new.log ≡ without_newest self.old.log segment }

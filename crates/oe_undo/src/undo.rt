@@ -1,6 +1,6 @@
 //! The undo log beside the links: the newest record of each key is found by the key's link, and
 //! each record leads to the one before it. By its invariant links and records agree.
-ghost use Rattle.std.specs.Prelude.{◌≡◌, ◌<◌, [], None, IsSome, IfSome, IfOk, OnOk, OnErr};
+ghost use Rattle.std.specs.Prelude.{◌≡◌, ◌<◌, [], None, IfSome, IfOk, OnOk, OnErr};
 ghost use Rattle.oe_rows.specs.declared.keys.Key.{Key};
 ghost use Rattle.oe_rows.specs.declared.keys.Key.TheVariants.{History};
 ghost use Rattle.oe_log.specs.Log.{count_at, active_at, records_at, no_segments, with_segment, without_segment};
@@ -10,7 +10,7 @@ ghost use Rattle.oe_undo.specs.Chains.{link_from, AreChained};
 ghost use Rattle.oe_undo.specs.Laws.{IsWhole};
 ghost use Rattle.oe_undo.specs.Links.{place_of, HasPlace, no_links, GivesPlaces, GivesUpLink};
 ghost use Rattle.oe_undo.specs.Owners.{link_by_now, holder_of, AreMoments, IsMade, IsOwner};
-ghost use Rattle.oe_undo.specs.Undo.{link_seen, link_above};
+ghost use Rattle.oe_undo.specs.Undo.{link_seen, link_above, IsOpen};
 
 use crate::holders::{Holder, Link};
 use crate::links::{Links, OwnedLink};
@@ -194,7 +194,7 @@ impl Undo {
 
     /// Gives up an open segment whose records were all taken off.
     pub fn drop_segment(&mut self, segment: Segment)
-        requires open { IsSome (active_at self.old.log segment) }
+        requires open { IsOpen self.old segment }
         requires empty { records_at self.old.log segment ≡ [] }
         ensures log { self.new.log ≡ without_segment self.old.log segment }
         ensures links { self.new.links ≡ self.old.links }
@@ -205,7 +205,7 @@ impl Undo {
     /// Gives the link to where a previous one leads, which a record of an open segment has; none
     /// where its commit was given up.
     pub(crate) fn owned(&self, segment: Segment, previous: Previous) -> Option<OwnedLink>
-        requires open { IsSome (active_at self.now.log segment) }
+        requires open { IsOpen self.now segment }
         requires made { IsMade self.now.log (link_from (Open segment) previous) }
         ensures followed { link_by_now self.now.log result
             ≡ link_above (horizon self.now.log) (link_from (Open segment) previous) }

@@ -1,20 +1,17 @@
 -- A string more.
-use Rattle.std.proofs.Common.{◌≡◌, suc, ◌+◌, arith}
-use Rattle.oe_extent.proofs.PackedFacts.{IsPacked-push}
+use Rattle.oe_extent.proofs.PackedFacts.{IsPacked-written}
 use Rattle.oe_extent.proofs.packing.PackedStrings.push.Goals as goal
 
 pub invariant_of-self : goal.invariant_of-self
 invariant_of-self g c =
-    let p = IsPacked-push c.self.inside.count c.self.inside.fill c.self.inside.bytes.items _
-    c.write_at-self-inside.new.bytes.items c.write_at-self-inside.result c.self.invariant c.requires.framed
-    c.write_at-self-inside.ensures in
-    let n : c.self.inside.count + 1 ≡ suc c.self.inside.count = omega arith in
-    rw n p.0
+    let p = IsPacked-written c.self.inside.count c.self.inside.fill c.self.inside.bytes.len c.self.inside.bytes.items
+    c.deref_mut.result.now _ c.write-self-inside.new.bytes c.write-self-inside.result c.self.invariant
+    c.requires.framed c.deref_mut.ensures.value c.deref_mut.ensures.len c.write-self-inside.ensures in
+    p.0
 
-pub returns : goal.returns
-returns g c =
-    let p = IsPacked-push c.self.inside.count c.self.inside.fill c.self.inside.bytes.items _
-    c.write_at-self-inside.new.bytes.items c.write_at-self-inside.result c.self.invariant c.requires.framed
-    c.write_at-self-inside.ensures in
-    let n : c.self.inside.count + 1 ≡ suc c.self.inside.count = omega arith in
-    rw (← c.self.view_is, n) p.1
+pub returns-clause-pushed : goal.returns-clause-pushed
+returns-clause-pushed g c =
+    let p = IsPacked-written c.self.inside.count c.self.inside.fill c.self.inside.bytes.len c.self.inside.bytes.items
+    c.deref_mut.result.now _ c.write-self-inside.new.bytes c.write-self-inside.result c.self.invariant
+    c.requires.framed c.deref_mut.ensures.value c.deref_mut.ensures.len c.write-self-inside.ensures in
+    rw (← c.self.view_is) p.1

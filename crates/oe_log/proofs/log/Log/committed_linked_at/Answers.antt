@@ -1,7 +1,5 @@
 -- The string at a record's address is that record.
 use Rattle.std.proofs.Common.{◌<◌, [], length, List, get_or, sym, subst}
-use Rattle.oe_extent.specs.declared.extents.Address.{Address}
-use Rattle.oe_extent.specs.Ring as ring
 use Rattle.oe_log.specs.Records.{Logged, HasAddress, IsAmong, log_entry}
 use Rattle.oe_log.specs.Log.{SegmentLog, committed_records}
 use Rattle.oe_log.proofs.CallFacts.{inside, seen_committed}
@@ -20,7 +18,6 @@ committed_at-requires-clause-some c =
     (sym c.self.view_is) c.requires.some in
     let has = subst (λ (rss : List (List Logged)). HasAddress (get_or rss c.args.later []) c.args.address)
     (seen_committed c.self.inside.layout (inside c.self.invariant.kept)) seen in
-    rw c.ring_address-place.ensures
     (has_string c.args.address c.self.inside.ring.committed c.args.later c.self.invariant.kept.lie.committed_are has)
 
 pub linked_record-requires : goal.linked_record-requires
@@ -29,10 +26,8 @@ linked_record-requires c =
     (sym c.self.view_is) c.requires.some in
     let has = subst (λ (rss : List (List Logged)). HasAddress (get_or rss c.args.later []) c.args.address)
     (seen_committed c.self.inside.layout (inside c.self.invariant.kept)) seen in
-    let stands = subst (λ (a : Address). ring.IsStringAt (get_or c.self.inside.ring.committed c.args.later []) a
-    c.committed_at.result.now) c.ring_address-place.ensures c.committed_at.ensures in
     is_stored c.args.address c.self.inside.ring.committed c.args.later c.committed_at.result.now
-    c.self.invariant.kept.lie.committed_are has stands
+    c.self.invariant.kept.lie.committed_are has c.committed_at.ensures
 
 pub returns-clause-record : goal.returns-clause-record
 returns-clause-record c p b k =
@@ -41,8 +36,7 @@ returns-clause-record c p b k =
     let there = subst (λ (rss : List (List Logged)). IsAmong (log_entry c.args.address p b)
     (get_or rss c.args.later []))
     (seen_committed c.self.inside.layout (inside c.self.invariant.kept)) seen in
-    let stands = subst (λ (a : Address). ring.IsStringAt (get_or c.self.inside.ring.committed c.args.later []) a
-    c.committed_at.result.now) c.ring_address-place.ensures c.committed_at.ensures in
     linked_there c.args.address p b c.self.inside.ring.committed c.args.later c.committed_at.result.now
-    (c.linked_record.result.0, c.linked_record.result.1) c.self.invariant.kept.lie.committed_are there stands
+    (c.linked_record.result.0, c.linked_record.result.1) c.self.invariant.kept.lie.committed_are there
+    c.committed_at.ensures
     c.linked_record.ensures

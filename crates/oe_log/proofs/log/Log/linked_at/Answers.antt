@@ -1,7 +1,5 @@
 -- The string at a record's address is that record.
 use Rattle.std.proofs.Common.{List, [], map, get_or, sym, ap, ◌∙◌, subst}
-use Rattle.oe_extent.specs.declared.extents.Address.{Address}
-use Rattle.oe_extent.specs.Ring as ring
 use Rattle.oe_log.specs.Records.{Logged, HasAddress, IsAmong, log_entry}
 use Rattle.oe_log.specs.Strings.{records_in}
 use Rattle.oe_log.specs.Log.{SegmentLog, records_at}
@@ -16,7 +14,6 @@ at-requires-clause-some c =
     let is = records_are c.self.inside.layout (inside c.self.invariant.kept) c.args.terminal ∙ ap
     (λ t. get_or (map records_in c.self.inside.ring.active) t []) (sym c.get-slot.ensures.value) in
     let has = subst (λ (rs : List Logged). HasAddress rs c.args.address) is seen in
-    rw c.ring_address-place.ensures
     (has_string c.args.address c.self.inside.ring.active c.get-slot.result c.self.invariant.kept.lie.active_are has)
 
 pub linked_record-requires : goal.linked_record-requires
@@ -26,11 +23,9 @@ linked_record-requires c =
     let is = records_are c.self.inside.layout (inside c.self.invariant.kept) c.args.terminal ∙ ap
     (λ t. get_or (map records_in c.self.inside.ring.active) t []) (sym c.get-slot.ensures.value) in
     let has = subst (λ (rs : List Logged). HasAddress rs c.args.address) is seen in
-    let stands = subst (λ (a : Address). ring.IsStringAt (get_or c.self.inside.ring.active c.get-slot.result []) a
-    c.at.result.now) c.ring_address-place.ensures c.at.ensures in
     is_stored c.args.address c.self.inside.ring.active c.get-slot.result c.at.result.now
     c.self.invariant.kept.lie.active_are
-    has stands
+    has c.at.ensures
 
 pub returns-clause-record : goal.returns-clause-record
 returns-clause-record c p b k =
@@ -39,8 +34,6 @@ returns-clause-record c p b k =
     let is = records_are c.self.inside.layout (inside c.self.invariant.kept) c.args.terminal ∙ ap
     (λ t. get_or (map records_in c.self.inside.ring.active) t []) (sym c.get-slot.ensures.value) in
     let there = subst (λ (rs : List Logged). IsAmong (log_entry c.args.address p b) rs) is seen in
-    let stands = subst (λ (a : Address). ring.IsStringAt (get_or c.self.inside.ring.active c.get-slot.result []) a
-    c.at.result.now) c.ring_address-place.ensures c.at.ensures in
     linked_there c.args.address p b c.self.inside.ring.active c.get-slot.result c.at.result.now
-    (c.linked_record.result.0, c.linked_record.result.1) c.self.invariant.kept.lie.active_are there stands
+    (c.linked_record.result.0, c.linked_record.result.1) c.self.invariant.kept.lie.active_are there c.at.ensures
     c.linked_record.ensures

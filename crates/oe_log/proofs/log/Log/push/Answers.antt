@@ -51,7 +51,7 @@ invariant_of-self-2 c =
 pub returns-clause-pushed : goal.returns-clause-pushed
 returns-clause-pushed c =
     let some = rw (← c.self.view_is) at c.requires.open in
-    rw (← c.self.view_is, c.record_address.ensures)
+    rw (← c.self.view_is)
     ((pushed c.self.inside.layout c.self.invariant.kept c.terminal-terminal.result c.args.segment
     c.at_mut-state.result.now
     c.may_delete-state.result c.in-Ok.address c.args.lent.now.previous c.args.lent.now.record
@@ -78,5 +78,5 @@ returns-clause-full c =
     )
 
 pub returns-clause-fresh : goal.returns-clause-fresh
-returns-clause-fresh c = rw (← c.self.view_is, c.record_address.ensures)
+returns-clause-fresh c = rw (← c.self.view_is)
     (fresh c.self.inside.layout c.self.invariant.kept c.in-Ok.address c.in-Ok.ensures.fresh)
