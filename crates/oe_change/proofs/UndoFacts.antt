@@ -152,4 +152,5 @@ in_each c old new b same a ChangedColumns = record {
   changes = a.changes;
   before = a.before ∙ sym (same (row_at (rows old) (key_of c)));
   places = a.places;
+  names = a.names;
 }

@@ -1,5 +1,5 @@
 -- What a change makes of the tables, and why one is refused.
-use Rattle.std.specs.Prelude.{◌≡◌, ◌⊎◌, true, Some, is_some, is_none, not}
+use Rattle.std.specs.Prelude.{◌≡◌, ◌⊎◌, true, Some, IfSome, is_some, is_none, not}
 use Rattle.std.specs.FinMap.{get}
 use Rattle.std.specs.List.{find}
 use Rattle.oe_rows.specs.declared.layouts.Layout.{Layout}
@@ -9,9 +9,19 @@ use Rattle.oe_model.specs.Rows.{Rows, row_at}
 use Rattle.oe_model.specs.Changes.{Change, UpdateCustomer, key_of, rows_after, Record, record_in}
 use Rattle.oe_model.specs.Meets.{Accepts, Cause, is_insert, new_references}
 use Rattle.oe_index.specs.Listed.{HasOtherName}
+use Rattle.oe_index.specs.Numbers.{list_of_name}
 use Rattle.oe_layout.specs.declared.records.OwnRecord.{OwnRecord}
 use Rattle.oe_layout.specs.Records.{record_of_own}
+use Rattle.oe_store.specs.Names.{SameNames, ListsName}
 use Rattle.oe_store.specs.Places.{Places, rows, HasPlace, AddsPlace}
+
+-- the same customers are listed, where an update leaves C_LAST as it is; else the customer is listed under the other
+-- one too
+abbrev pub GivesName : Change → Places → Places → Type 0
+GivesName (UpdateCustomer k x) old new =
+    (SameNames old new × IfSome (get (rows old).customers k) (λ c. c.name.last ≡ x.name.last))
+    ⊎ ListsName old new (list_of_name k x) k
+GivesName _ old new = SameNames old new
 
 -- the tables accept the change, and it is made; `b` is its undo record in the layout
 pub record Applies (l : Layout) (c : Change) (old new : Places) (b : Record) : Type 0 where
@@ -20,6 +30,7 @@ pub record Applies (l : Layout) (c : Change) (old new : Places) (b : Record) : T
   pub before : b ≡ record_in l c (row_at (rows old) (key_of c))
   -- each key that had a place has one, and the change's key
   pub places : AddsPlace old new (key_of c)
+  pub names : GivesName c old new
 
 -- it has applied the change, with a record as it is kept
 abbrev pub HasApplied : Layout → Change → Places → Places → OwnRecord → Type 0

@@ -1,11 +1,15 @@
 -- When the row before a change may be put back, and which keys have places then.
-use Rattle.std.specs.Prelude.{◌≡◌, None, IsSome}
+use Rattle.std.specs.Prelude.{◌≡◌, None, IsSome, IfSome}
 use Rattle.std.specs.FinMap.{get}
 use Rattle.oe_rows.specs.declared.keys.Key.TheVariants as key
 use Rattle.oe_model.specs.Rows.{Rows, row_at}
 use Rattle.oe_model.specs.Changes.{Record, InsertedHistory, InsertedNewOrder, InsertedOrder, InsertedOrderLine}
 use Rattle.oe_model.specs.Changes.{DeletedNewOrder, record_key, put_back}
 use Rattle.oe_model.specs.Meets.{Meets}
+use Rattle.oe_model.specs.Keys.{district_of_customer}
+use Rattle.oe_index.specs.Numbers.{list_number}
+use Rattle.oe_layout.specs.Stored.{last_before}
+use Rattle.oe_store.specs.Names.{StandWhere, IsNamed}
 use Rattle.oe_store.specs.Places.{Places, rows, HasPlace, LosesPlace, SamePlaces}
 
 -- a row stands where the change left one, and none where it deleted one
@@ -26,3 +30,10 @@ LeavesPlaces (InsertedNewOrder k v) old new = LosesPlace old new (key.NewOrder k
 LeavesPlaces (InsertedOrder k v) old new = LosesPlace old new (key.Order k)
 LeavesPlaces (InsertedOrderLine k v) old new = LosesPlace old new (key.OrderLine k)
 LeavesPlaces b old new = SamePlaces old new
+
+-- the same customers are listed, and the lists of last names stand on where the customer is listed under the C_LAST
+-- that the record puts back, if it puts one back
+abbrev pub PutsNameBack : Record → Places → Places → Type 0
+PutsNameBack b old new =
+    StandWhere old new
+    (IfSome (last_before b) (λ x. IsNamed old (list_number (district_of_customer x.0) x.1) x.0))

@@ -4,7 +4,7 @@ ghost use Rattle.std.specs.Prelude.{◌≡◌};
 ghost use Rattle.oe_model.specs.Changes.{put_back};
 ghost use Rattle.oe_layout.specs.Records.{record_of_own};
 ghost use Rattle.oe_store.specs.Places.{rows, SamePlaces};
-ghost use Rattle.oe_change.specs.PutBack.{CanPutBack, LeavesPlaces};
+ghost use Rattle.oe_change.specs.PutBack.{CanPutBack, LeavesPlaces, PutsNameBack};
 
 use oe_layout::OwnRecord;
 use oe_rows::NewOrder;
@@ -17,6 +17,7 @@ pub fn undo(tables: &mut Tables, before: OwnRecord)
     requires { CanPutBack tables.old (record_of_own before) }
     ensures rows { rows tables.new ≡ put_back (record_of_own before) (rows tables.old) }
     ensures places { SamePlaces tables.old tables.new }
+    ensures names { PutsNameBack (record_of_own before) tables.old tables.new }
 {
     match before {
         OwnRecord::InsertedHistory(key) => drop(tables.take_back_history(key)),
@@ -45,6 +46,7 @@ pub fn undo_and_give_up(tables: &mut Tables, before: OwnRecord)
     requires { CanPutBack tables.old (record_of_own before) }
     ensures rows { rows tables.new ≡ put_back (record_of_own before) (rows tables.old) }
     ensures places { LeavesPlaces (record_of_own before) tables.old tables.new }
+    ensures names { PutsNameBack (record_of_own before) tables.old tables.new }
 {
     match before {
         OwnRecord::InsertedHistory(key) => drop(tables.remove_history(key)),

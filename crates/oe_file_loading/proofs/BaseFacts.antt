@@ -1,6 +1,6 @@
 -- What the base of the tables keeps as rows are put.
 use Rattle.std.proofs.Common.{◌≡◌, ◌⊎◌, inl, inr, Bool, true, false, cond, Option, Some, None}
-use Rattle.std.proofs.Common.{Result, OnOk, OnErr, List, sym, ap, subst, ◌∙◌, refl}
+use Rattle.std.proofs.Common.{Result, OnOk, OnErr, List, [], sym, ap, subst, ◌∙◌, refl}
 use Rattle.std.specs.Prelude.{IsSome, is_some, option_map}
 use Rattle.std.specs.Int.{IsInRange}
 use Rattle.std.specs.Ordering.{eq_by_cmp}
@@ -200,6 +200,7 @@ module _ (s : BasePlaces) (hs : List (HistoryKey × Option History)) (ns : List 
     order_lines = ls;
     items = s.items;
     stocks = s.stocks;
+    names = record { lists = []; is_listed = false };
   }
 
   numbered : (k : Key) → IsSome (row_at (rows nine) k) → IsNumbered k

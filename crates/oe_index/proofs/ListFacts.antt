@@ -1,6 +1,6 @@
 -- Lists of keys, of which one is given a key, or loses one.
 use Rattle.std.proofs.Common.{◌≡◌, refl, sym, ◌∙◌, ap, subst, Bool, true, false, cond, ℕ, suc, zero, ◌<◌, List, [], ◌∷◌}
-use Rattle.std.proofs.Common.{◌++◌, length, get_or, set, replicate, arith, Option, Some, None, Result, Ok, Err}
+use Rattle.std.proofs.Common.{◌++◌, length, get_or, set, take, replicate, arith, Option, Some, None, Result, Ok, Err}
 use Rattle.std.proofs.Common.{inl, inr}
 use Rattle.std.specs.Prelude.{◌↔◌, ◌⊎◌, ◌≤◌, IsSome}
 use Rattle.std.specs.Result.{OnOk, OnErr, is_ok}
@@ -9,7 +9,7 @@ use Rattle.std.specs.Ordering.{is_eq}
 use Rattle.std.specs.declared.cmp.Ordering.{Ordering}
 use Rattle.std.specs.Cmp.{IsTotalOrder, eq_by_cmp_equiv}
 use Rattle.std.specs.FinMap.{IsAntisymmetric}
-use Rattle.std.proofs.lemmas.List.{get_or-set_same, get_or-set_other, get_or_past}
+use Rattle.std.proofs.lemmas.List.{get_or-set_same, get_or-set_other, get_or_past, set-get_or, take_at}
 use borrow.Author.Tests.{eqb-true, eqb-false}
 use lib.Dec.{eqb}
 use Rattle.oe_table.specs.Table.{place}
@@ -18,7 +18,7 @@ use Rattle.oe_table.proofs.ShelfFacts.{lookup-put, ascending-put, place-at}
 use Rattle.oe_table.proofs.ShelvesFacts.{get_or-padded}
 use Rattle.oe_table.proofs.TableFacts.{tied}
 use Rattle.oe_table.proofs.TakenOutFacts.{lookup-without, ascending-without}
-use Rattle.oe_index.specs.Listed.{Keys, IsListed, Unlists, AreLists}
+use Rattle.oe_index.specs.Listed.{Keys, IsListed, ListsAtMost, Unlists, AreLists}
 
 some-cond : {X : Type 0} (b : Bool) (w : X) (o : Option X) → IsSome o → IsSome (cond b (Some w) o)
 some-cond true w o h = refl
@@ -68,11 +68,12 @@ module _ {K : Type 0} (cmp : K → K → Ordering) where
   only-padded old new n is i k h = subst (λ (l : Keys K). IsSome (place cmp l k))
       (ap (λ ls. get_or ls i []) is ∙ get_or-padded old n i) h
 
-  -- past the last list none is listed
-  pub none-padded : (old new : List (Keys K)) (n : ℕ) → new ≡ old ++ replicate n [] → (i : ℕ) (k : K)
-      → length old ≤ i → IsListed cmp new i k → ⊥
-  none-padded old new n is i k past h = none-there
-      (subst (λ (l : Keys K). IsSome (place cmp l k)) (get_or_past old i [] past) (only-padded old new n is i k h))
+  -- where all lists are as before, each key is listed as before
+  pub lists-same : (old new : List (Keys K)) (number : ℕ) (key : K) → new ≡ old → ListsAtMost cmp old new number key
+  lists-same old new number key same = record {
+    kept = λ n k h. subst (λ ls. IsListed cmp ls n k) (sym same) h;
+    only = λ n k h. inl (subst (λ ls. IsListed cmp ls n k) same h);
+  }
 
   -- what was listed before lists were put at the end
   pub less-before : (old new : List (Keys K)) (n : ℕ) → new ≡ old ++ replicate n [] → (number : ℕ) (key : K) (i : ℕ)
@@ -157,16 +158,6 @@ module _ {K : Type 0} (cmp : K → K → Ordering) where
             let other : n ≡ i → ⊥ = eqb-false n i e in
             inl (subst (λ (l : Keys K). IsSome (place cmp l k)) (get_or-set_other ls i n new [] other) h)
 
-    pub not-put : i < length ls → OnErr r (place cmp s key ≡ None)
-        → OnErr r (IsListed cmp (set ls i new) i key → ⊥)
-    not-put within none = by r err none
-      where
-        by : (q : Result A E) → OnErr q (new ≡ s) → OnErr q (place cmp s key ≡ None)
-            → OnErr q (IsListed cmp (set ls i new) i key → ⊥)
-        by (Ok x) e n = e
-        by (Err x) e n = λ h. none-there
-            (subst IsSome (ap (λ (l : Keys K). place cmp l key) (get_or-set_same ls i new [] within ∙ e) ∙ n) h)
-
     pub listed-own : i < length ls → OnOk r (IsListed cmp (set ls i new) i key)
     listed-own within = by r ok
       where
@@ -192,6 +183,19 @@ pub not-listed : {K A E : Type 0} (cmp : K → K → Ordering) (r : Result A E) 
 not-listed cmp (Ok x) old ls s i key there e more = e
 not-listed cmp (Err x) old ls s i key there e more = λ h.
     none-there (subst IsSome e (subst (λ (l : Keys _). IsSome (place cmp l key)) (sym (there [])) (more h)))
+
+-- what was put behind others is cut off again
+pub cut-padded : {A : Type 0} (old mid new : List A) (more : List A) (count : ℕ) → mid ≡ old ++ more
+    → length old ≡ count → new ≡ take count mid → new ≡ old
+cut-padded old mid new more count is long cut = cut ∙ ap (take count) is ∙ take_at old more count long
+
+-- where the list under i is as it was, there are but empty lists more
+pub padded-still : {K A E : Type 0} (r : Result A E) (old ls : List (Keys K)) (s new : Keys K) (i n : ℕ)
+    → ls ≡ old ++ replicate n [] → ((d : Keys K) → s ≡ get_or ls i d) → OnErr r (new ≡ s)
+    → OnErr r ((m : ℕ) × (set ls i new ≡ old ++ replicate m []))
+padded-still (Ok x) old ls s new i n is there e = e
+padded-still (Err x) old ls s new i n is there e =
+    (n, ap (set ls i) (e ∙ there []) ∙ set-get_or ls i [] ∙ is)
 
 -- the list under i, where s is what stood there, loses the key
 module _ {K : Type 0} {cmp : K → K → Ordering} (total : IsTotalOrder cmp) (exact : IsAntisymmetric cmp) (i : ℕ)

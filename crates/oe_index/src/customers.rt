@@ -151,7 +151,7 @@ impl Customers {
         ensures listed { OnOk result (IsTrue self.new.is_listed
             → IsListed customer_cmp self.new.lists (list_of_name key.now row) key.now) }
         ensures stand { self.new.is_listed ≡ self.old.is_listed }
-        ensures err { OnErr result (self.new.places ≡ self.old.places) }
+        ensures err { OnErr result (self.new ≡ self.old) }
         ensures renamed { OnErr result
             (HasOtherName row.name.last (map.get (rows_of customer_cmp self.old.places) key.now)) }
     {
@@ -180,7 +180,7 @@ impl Customers {
             → IsListed customer_cmp self.new.lists
             (list_number (district_of_customer key.now) last.now) key.now) }
         ensures stand { self.new.is_listed ≡ self.old.is_listed }
-        ensures err { OnErr result (self.new.places ≡ self.old.places) }
+        ensures err { OnErr result (self.new ≡ self.old) }
         ensures renamed { OnErr result
             (HasOtherName last.now (map.get (rows_of customer_cmp self.old.places) key.now)) }
     {

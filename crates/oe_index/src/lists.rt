@@ -1,8 +1,8 @@
 //! Keys that are listed under numbers, each list in the keys' order.
 //!
 //! By the invariant the keys of each list ascend. A key is listed once under a number, until it is
-//! taken off. Only `add` takes memory, for a key that is not listed; where that is refused each key
-//! is listed as before.
+//! taken off. Only `add` takes memory, for a key that is not listed; where that is refused all lists
+//! are as before.
 ghost use Rattle.std.specs.Prelude.{◌≡◌, ◌↔◌, ◌<◌, ◌≤◌, ℕ, [], ◌++◌, replicate, vec_len, OnOk, OnErr, IsTrue, slice_index_or};
 ghost use Rattle.oe_table.specs.Shelf.{IsAscending};
 ghost use Rattle.oe_index.specs.Listed.{IsListed, ListsAtMost, Unlists};
@@ -83,7 +83,8 @@ impl<K: ShelvedKey> Lists<K> {
         list.has(key)
     }
 
-    /// Lists a key under a number. `NoMemory` comes only for a key that is not listed there.
+    /// Lists a key under a number. `NoMemory` comes only for a key that is not listed there, and
+    /// nothing has changed then.
     pub(crate) fn add(&mut self, number: usize, key: K) -> Result<(), NoMemory>
     where
         K: Copy + Drop,
@@ -92,6 +93,25 @@ impl<K: ShelvedKey> Lists<K> {
         ensures listed { OnOk result (IsListed K.cmp self.new number key) }
         ensures unlisted { OnErr result (¬ IsListed K.cmp self.old number key) }
         ensures refused { OnErr result (¬ IsListed K.cmp self.new number key) }
+        ensures err { OnErr result (self.new ≡ self.old) }
+    {
+        let count = self.lists.len();
+        let Err(refusal) = self.put(number, key) else {
+            return Ok(());
+        };
+        self.lists.truncate(count);
+        Err(refusal)
+    }
+
+    // Lists a key under a number. Where memory is refused, empty lists may stand after the others.
+    fn put(&mut self, number: usize, key: K) -> Result<(), NoMemory>
+    where
+        K: Copy + Drop,
+        requires { number < 1_000_000 }
+        ensures lists { ListsAtMost K.cmp self.old self.new number key }
+        ensures listed { OnOk result (IsListed K.cmp self.new number key) }
+        ensures unlisted { OnErr result (¬ IsListed K.cmp self.old number key) }
+        ensures padded { OnErr result ((n : ℕ) × (self.new ≡ self.old ++ replicate n [])) }
     {
         if let Err(refusal) = reach(&mut self.lists, self.alloc, number) {
             return Err(refusal);

@@ -1,6 +1,6 @@
 //! Customers in the lists of their last names, and whether one is in such a list.
 //!
-//! Only `list` and `list_renamed` take memory; where that is refused each customer is listed as
+//! Only `list` and `list_renamed` take memory; where that is refused the lists are as
 //! before.
 ghost use Rattle.std.specs.Prelude.{◌≡◌, ◌↔◌, ◌⊎◌, false, OnOk, OnErr, IfSome, IsTrue};
 ghost use Rattle.std.specs.FinMap as map;
@@ -27,6 +27,7 @@ pub(crate) fn list(
         (list_number (district_of_customer key.now) last.now) key.now }
     ensures listed { OnOk result (IsListed customer_cmp lists.new
         (list_number (district_of_customer key.now) last.now) key.now) }
+    ensures err { OnErr result (lists.new ≡ lists.old) }
 {
     let number = list_number(&key.district_key(), last);
     lists.add(number, *key)
@@ -57,6 +58,7 @@ pub(crate) fn list_renamed(
         (list_number (district_of_customer key.now) last.now) key.now) }
     ensures other { OnErr result
         (is_name last.now (map.get (rows_of customer_cmp rows.now) key.now) ≡ false) }
+    ensures err { OnErr result (lists.new ≡ lists.old) }
 {
     if has_name(rows, key, last) {
         return Ok(());

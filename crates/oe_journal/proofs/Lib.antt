@@ -6,6 +6,7 @@ mod ChainedFacts
 pub mod MoreFacts
 pub mod RecordedFacts
 mod ForgettingFacts
+mod ForgetsFacts
 pub mod LedFacts
 pub mod PurgeFacts
 pub mod LeftFacts

@@ -8,3 +8,4 @@ pub mod GivesUp
 pub mod Forgetting
 pub mod Named
 pub mod Identity
+pub mod ExactNames

@@ -4,13 +4,14 @@
 //! that putting it back takes no memory: with the last of them it is taken off. Nothing takes
 //! memory or can fail.
 ghost use Rattle.std.specs.Prelude.{◌≡◌, ◌≤◌};
+ghost use Rattle.std.specs.Option.{IsSomeAnd};
 ghost use Rattle.std.specs.FinMap.{get};
 ghost use Rattle.oe_index.specs.Numbers.{name_number};
 ghost use Rattle.oe_layout.specs.Records.{record_of_own};
 ghost use Rattle.oe_store.specs.Places.{rows};
 ghost use Rattle.oe_undo.specs.Held.{all_held, of_key, horizon};
 ghost use Rattle.oe_undo.specs.Restored.{later_of};
-ghost use Rattle.oe_journal.specs.Forgetting.{tells_name, one_tells, other_last, name_lost};
+ghost use Rattle.oe_journal.specs.Forgetting.{tells_name, one_tells, other_last, name_lost, LosesName, HaveNamesChanged, ForgetsNames};
 
 use oe_index::name_number;
 use oe_layout::OwnRecord;
@@ -30,7 +31,9 @@ pub(crate) fn forget_name(
     moment: Moment,
 )
     requires { horizon undo.now.log ≤ moment }
-    ensures { tables.new ≡ tables.old }
+    ensures others { HaveNamesChanged tables.old tables.new }
+    ensures names { ForgetsNames tables.old tables.new
+        (LosesName undo.now.log moment (key.now, last.now)) }
 {
     if !had_later(undo, key, last, moment) {
         tables.forget_name(key, last);
@@ -70,7 +73,9 @@ pub(crate) fn forget_lost(
     undo: &Undo,
     lost: &Option<(CustomerKey, Text<0, 16>)>,
 )
-    ensures { tables.new ≡ tables.old }
+    ensures others { HaveNamesChanged tables.old tables.new }
+    ensures names { ForgetsNames tables.old tables.new (λ n k. IsSomeAnd lost.now
+        (λ x. LosesName undo.now.log (horizon undo.now.log) x n k)) }
 {
     if let Some((key, last)) = lost {
         forget_name(tables, undo, key, last, undo.segments().horizon());

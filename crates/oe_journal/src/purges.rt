@@ -3,16 +3,19 @@
 //! customer is also taken off the list of the last name before, once nothing has it any more: for
 //! that the customer's later records are read. Else the cost grows with the commits that go alone.
 ghost use Rattle.std.specs.Prelude.{◌≡◌, ◌-◌, ◌<◌, ◌≤◌, ◌↔◌, [], ℕ, Option, length, drop, get_or, IsTrue, IfErr, OnOk, OnErr};
+ghost use Rattle.std.specs.Option.{IsSomeAnd};
 ghost use Rattle.oe_theory.specs.Store.{Slot, after_purge};
 ghost use Rattle.oe_model.specs.Rows.{Rows};
 ghost use Rattle.oe_model.specs.System.{system};
 ghost use Rattle.oe_store.specs.Places.{rows};
+ghost use Rattle.oe_store.specs.Names.{SameNames};
 ghost use Rattle.oe_log.specs.Log.{with_newest, committed_records};
-ghost use Rattle.oe_log.specs.Stands.{undo_of, model_records};
+ghost use Rattle.oe_log.specs.Stands.{undo_of, model_records, rename_in};
 ghost use Rattle.oe_log.specs.Moments.{store_with, newest, IsKeptMoment, IsUnkept};
 ghost use Rattle.oe_undo.specs.Chains.{IsEnd};
 ghost use Rattle.oe_undo.specs.Held.{horizon};
 ghost use Rattle.oe_undo.specs.Undo.{link_seen};
+ghost use Rattle.oe_journal.specs.Forgetting.{LosesName, LosesNameIn, HaveNamesChanged, ForgetsNames};
 ghost use Rattle.oe_journal.specs.GivesUp.{IsDeleted, GivesUpThose, GivesUpDeleted};
 
 use crate::forgetting::forget_name;
@@ -48,6 +51,9 @@ pub fn purge(
     ensures rows { rows tables.new ≡ rows tables.old }
     ensures places { OnOk result (GivesUpDeleted tables.old tables.new
         (drop (newest undo.old.log - moment) (undo_of undo.old.log).history) undo.new.log) }
+    ensures names { OnOk result (ForgetsNames tables.old tables.new (λ n k. IsTrue may_forget
+        × LosesNameIn undo.old.log moment
+        (drop (newest undo.old.log - moment) (undo_of undo.old.log).history) n k)) }
     ensures links { undo.new.links ≡ undo.old.links }
     ensures cause { IfErr result (IsUnkept undo.old.log moment) }
     ensures err { OnErr result ((tables.new ≡ tables.old) × (undo.new ≡ undo.old)) }
@@ -70,7 +76,10 @@ pub fn purge(
 fn forget_names(tables: &mut Tables, undo: &Undo, moment: Moment, count: usize, may_forget: bool)
     requires count { count ≤ length undo.now.log.committed }
     requires moment { horizon undo.now.log ≤ moment }
-    ensures { tables.new ≡ tables.old }
+    ensures others { HaveNamesChanged tables.old tables.new }
+    ensures names { ForgetsNames tables.old tables.new (λ n k. IsTrue may_forget
+        × LosesNameIn undo.now.log moment (drop (length undo.now.log.committed - count)
+        (undo_of undo.now.log).history) n k) }
 {
     if !may_forget {
         return;
@@ -86,7 +95,10 @@ fn forget_names(tables: &mut Tables, undo: &Undo, moment: Moment, count: usize, 
 fn forget_renamed(tables: &mut Tables, undo: &Undo, later: usize, moment: Moment)
     requires later { later < length undo.now.log.committed }
     requires moment { horizon undo.now.log ≤ moment }
-    ensures { tables.new ≡ tables.old }
+    ensures others { HaveNamesChanged tables.old tables.new }
+    ensures names { ForgetsNames tables.old tables.new (λ n k. IsSomeAnd
+        (rename_in (model_records (get_or (committed_records undo.now.log) later [])))
+        (λ x. LosesName undo.now.log moment x n k)) }
 {
     if let Some((key, last)) = undo.segments().renamed(later) {
         forget_name(tables, undo, &key, &last, moment);
@@ -105,6 +117,7 @@ fn forget_oldest(tables: &mut Tables, undo: &mut Undo, moment: Moment, count: us
     ensures places { GivesUpDeleted tables.old tables.new
         (drop (length undo.old.log.committed - count) (undo_of undo.old.log).history)
         undo.new.log }
+    ensures names { SameNames tables.old tables.new }
     ensures links { undo.new.links ≡ undo.old.links }
 {
     calls_keep_chains();
@@ -126,6 +139,7 @@ fn give_up_deleted(tables: &mut Tables, undo: &Undo, later: usize, moment: Momen
     ensures places { GivesUpThose tables.old tables.new
         (λ k. IsDeleted k (model_records (get_or (committed_records undo.now.log) later []))
         × IsEnd moment (link_seen undo.now k)) }
+    ensures names { SameNames tables.old tables.new }
 {
     for key in undo.segments().deleted(later) {
         give_up_key(tables, undo, key, moment);
@@ -137,6 +151,7 @@ fn give_up_key(tables: &mut Tables, undo: &Undo, key: NewOrderKey, moment: Momen
     ensures rows { rows tables.new ≡ rows tables.old }
     ensures places { GivesUpThose tables.old tables.new
         (λ k. (k ≡ Key.NewOrder key) × IsEnd moment (link_seen undo.now k)) }
+    ensures names { SameNames tables.old tables.new }
 {
     if new_order_has_ended(undo, &key, moment) {
         tables.give_up_new_order(key);

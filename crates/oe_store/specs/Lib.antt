@@ -1,5 +1,6 @@
 -- What the clauses of this crate cite.
 pub mod Places
+pub mod Names
 pub mod KeyWalk
 pub mod KeysLeft
 pub mod Newest

@@ -1,5 +1,5 @@
 -- What the tables store: the places of each table's keys, and the rows that stand in them.
-use Rattle.std.specs.Prelude.{◌≡◌, ◌≢◌, ◌↔◌, ◌⊎◌, List, Option, IsSome}
+use Rattle.std.specs.Prelude.{◌≡◌, ◌≢◌, ◌↔◌, ◌⊎◌, Bool, List, Option, IsSome}
 use Rattle.std.specs.Int.{IsInRange}
 use Rattle.std.specs.Ordering.{eq_by_cmp}
 use Rattle.std.specs.declared.cmp.Ordering.{Ordering}
@@ -27,10 +27,17 @@ use Rattle.oe_rows.specs.declared.orders.OrderLine.{OrderLine}
 use Rattle.oe_rows.specs.declared.items.Item.{Item}
 use Rattle.oe_rows.specs.declared.items.Stock.{Stock}
 use Rattle.oe_table.specs.Table.{place, rows_of}
+use Rattle.oe_index.specs.Listed.{Keys}
 use Rattle.oe_model.specs.Rows.{Rows, row_at}
 use Rattle.oe_model.specs.Meets.{Meets}
 
--- the places of each table, in its keys' order: each has a row, or is blanked
+-- the keys that are listed under each number, and whether the lists stand; else they were given up
+pub record Listing (K : Type 0) : Type 0 where
+  pub lists : List (Keys K)
+  pub is_listed : Bool
+
+-- the places of each table, in its keys' order: each has a row, or is blanked; and the customers that are listed under
+-- last names
 pub record Places : Type 0 where
   pub warehouses : List (WarehouseKey × Option Warehouse)
   pub districts : List (DistrictKey × Option District)
@@ -41,6 +48,7 @@ pub record Places : Type 0 where
   pub order_lines : List (OrderLineKey × Option OrderLine)
   pub items : List (ItemKey × Option Item)
   pub stocks : List (StockKey × Option Stock)
+  pub names : Listing CustomerKey
 
 -- the rows of each table
 abbrev pub rows : Places → Rows

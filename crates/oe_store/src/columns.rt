@@ -14,6 +14,9 @@ ghost use Rattle.oe_rows.specs.declared.items.Stock.{Stock};
 ghost use Rattle.oe_index.specs.Listed.{HasOtherName};
 ghost use Rattle.oe_model.specs.Rename.{with_names};
 ghost use Rattle.oe_model.specs.Changes.{rows_after, UpdateWarehouse, UpdateDistrict, UpdateCustomer, UpdateOrder, UpdateOrderLine, UpdateStock};
+ghost use Rattle.oe_model.specs.Keys.{district_of_customer};
+ghost use Rattle.oe_index.specs.Numbers.{list_number};
+ghost use Rattle.oe_store.specs.Names.{SameNames, ListsName};
 ghost use Rattle.oe_store.specs.Places.{rows, SamePlaces};
 
 use crate::tables::Tables;
@@ -31,6 +34,7 @@ impl Tables {
             → rows self.new ≡ rows_after (UpdateWarehouse key.now (record w { ytd = ytd }))
             (rows self.old) }
         ensures places { SamePlaces self.old self.new }
+        ensures names { SameNames self.old self.new }
     {
         let warehouse = self.warehouses.row_mut(key).unwrap();
         warehouse.ytd = ytd;
@@ -43,6 +47,7 @@ impl Tables {
             → rows self.new ≡ rows_after (UpdateDistrict key.now (record d { ytd = ytd }))
             (rows self.old) }
         ensures places { SamePlaces self.old self.new }
+        ensures names { SameNames self.old self.new }
     {
         let district = self.districts.row_mut(key).unwrap();
         district.ytd = ytd;
@@ -55,6 +60,7 @@ impl Tables {
             → rows self.new ≡ rows_after (UpdateDistrict key.now (record d { next_order = order }))
             (rows self.old) }
         ensures places { SamePlaces self.old self.new }
+        ensures names { SameNames self.old self.new }
     {
         let district = self.districts.row_mut(key).unwrap();
         district.next_order = order;
@@ -67,6 +73,7 @@ impl Tables {
             → rows self.new ≡ rows_after (UpdateCustomer key.now (record c { account = account.now }))
             (rows self.old) }
         ensures places { SamePlaces self.old self.new }
+        ensures names { SameNames self.old self.new }
     {
         self.customers.set_account(key, account);
     }
@@ -79,6 +86,7 @@ impl Tables {
             → rows self.new ≡ rows_after (UpdateCustomer key.now (with_entry account.now entry.now c))
             (rows self.old) }
         ensures places { SamePlaces self.old self.new }
+        ensures names { SameNames self.old self.new }
     {
         self.customers.set_bad_credit(key, account, entry);
     }
@@ -96,6 +104,8 @@ impl Tables {
             ((c : Customer) → get (rows self.old).customers key.now ≡ Some c → rows self.new
             ≡ rows_after (UpdateCustomer key.now (with_names last.now first.now c)) (rows self.old)) }
         ensures places { SamePlaces self.old self.new }
+        ensures names { OnOk result (ListsName self.old self.new
+            (list_number (district_of_customer key.now) last.now) key.now) }
         ensures renamed { OnErr result
             (HasOtherName last.now (get (rows self.old).customers key.now)) }
         ensures err { OnErr result (self.new ≡ self.old) }
@@ -109,6 +119,7 @@ impl Tables {
         ensures rows { (o : Order) → get (rows self.old).orders key.now ≡ Some o → rows self.new
             ≡ rows_after (UpdateOrder key.now (record o { carrier = Some carrier })) (rows self.old) }
         ensures places { SamePlaces self.old self.new }
+        ensures names { SameNames self.old self.new }
     {
         self.orders.set_carrier(key, carrier);
     }
@@ -120,6 +131,7 @@ impl Tables {
             → rows self.new ≡ rows_after (UpdateOrderLine key.now (record l { delivery = Some stamp }))
             (rows self.old) }
         ensures places { SamePlaces self.old self.new }
+        ensures names { SameNames self.old self.new }
     {
         let line = self.order_lines.row_mut(key).unwrap();
         line.delivery = Some(stamp);
@@ -131,6 +143,7 @@ impl Tables {
         ensures rows { (s : Stock) → get (rows self.old).stocks key.now ≡ Some s → rows self.new
             ≡ rows_after (UpdateStock key.now (with_counters counters.now s)) (rows self.old) }
         ensures places { SamePlaces self.old self.new }
+        ensures names { SameNames self.old self.new }
     {
         let stock = self.stocks.row_mut(key).unwrap();
         stock.quantity = counters.quantity;

@@ -1,9 +1,12 @@
 //! The undo of updates by the columns before them, which are put back on the row where it lies. No
 //! call takes memory.
-ghost use Rattle.std.specs.Prelude.{◌≡◌, Some, IsSome};
+ghost use Rattle.std.specs.Prelude.{◌≡◌, Some, IsSome, IfSome};
 ghost use Rattle.std.specs.FinMap.{get};
 ghost use Rattle.oe_model.specs.Changes.{put_back, ChangedWarehouse, ChangedDistrict, ChangedCustomer, ChangedOrder, ChangedOrderLine, ChangedStock};
 ghost use Rattle.oe_model.specs.Meets.{Meets};
+ghost use Rattle.oe_model.specs.Keys.{district_of_customer};
+ghost use Rattle.oe_index.specs.Numbers.{list_number};
+ghost use Rattle.oe_store.specs.Names.{SameNames, StandWhere, IsNamed};
 ghost use Rattle.oe_store.specs.Places.{rows, SamePlaces};
 
 use crate::tables::Tables;
@@ -20,6 +23,7 @@ impl Tables {
         ensures rows { rows self.new
             ≡ put_back (ChangedWarehouse key (Some columns)) (rows self.old) }
         ensures places { SamePlaces self.old self.new }
+        ensures names { SameNames self.old self.new }
     {
         let warehouse = self.warehouses.row_mut(&key).unwrap();
         columns.put_on(warehouse);
@@ -32,6 +36,7 @@ impl Tables {
         ensures rows { rows self.new
             ≡ put_back (ChangedDistrict key (Some columns)) (rows self.old) }
         ensures places { SamePlaces self.old self.new }
+        ensures names { SameNames self.old self.new }
     {
         let district = self.districts.row_mut(&key).unwrap();
         columns.put_on(district);
@@ -44,6 +49,8 @@ impl Tables {
         ensures rows { rows self.new
             ≡ put_back (ChangedCustomer key (Some columns)) (rows self.old) }
         ensures places { SamePlaces self.old self.new }
+        ensures names { StandWhere self.old self.new (IfSome columns.name.last
+            (λ last. IsNamed self.old (list_number (district_of_customer key) last) key)) }
     {
         self.customers.put_back(&key, columns);
     }
@@ -55,6 +62,7 @@ impl Tables {
         ensures rows { rows self.new
             ≡ put_back (ChangedOrder key (Some columns)) (rows self.old) }
         ensures places { SamePlaces self.old self.new }
+        ensures names { SameNames self.old self.new }
     {
         self.orders.put_back(&key, columns);
     }
@@ -66,6 +74,7 @@ impl Tables {
         ensures rows { rows self.new
             ≡ put_back (ChangedOrderLine key (Some columns)) (rows self.old) }
         ensures places { SamePlaces self.old self.new }
+        ensures names { SameNames self.old self.new }
     {
         let line = self.order_lines.row_mut(&key).unwrap();
         columns.put_on(line);
@@ -78,6 +87,7 @@ impl Tables {
         ensures rows { rows self.new
             ≡ put_back (ChangedStock key (Some columns)) (rows self.old) }
         ensures places { SamePlaces self.old self.new }
+        ensures names { SameNames self.old self.new }
     {
         let stock = self.stocks.row_mut(&key).unwrap();
         columns.put_on(stock);

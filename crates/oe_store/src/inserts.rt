@@ -3,6 +3,7 @@
 ghost use Rattle.std.specs.Prelude.{◌≡◌, OnOk, OnErr};
 ghost use Rattle.oe_model.specs.Changes.{rows_after, InsertHistory, InsertNewOrder, InsertOrder, InsertOrderLine};
 ghost use Rattle.oe_model.specs.Meets.{Accepts};
+ghost use Rattle.oe_store.specs.Names.{SameNames};
 ghost use Rattle.oe_store.specs.Places.{rows, HasPlace, AddsPlace};
 
 use crate::tables::Tables;
@@ -19,6 +20,7 @@ impl Tables {
         ensures rows { OnOk result
             (rows self.new ≡ rows_after (InsertHistory key row) (rows self.old)) }
         ensures place { OnOk result (AddsPlace self.old self.new (Key.History key)) }
+        ensures names { SameNames self.old self.new }
         ensures no_place { OnErr result (¬ HasPlace self.old (Key.History key)) }
         ensures err { OnErr result (self.new ≡ self.old) }
     {
@@ -31,6 +33,7 @@ impl Tables {
         ensures rows { OnOk result
             (rows self.new ≡ rows_after (InsertNewOrder key row) (rows self.old)) }
         ensures place { OnOk result (AddsPlace self.old self.new (Key.NewOrder key)) }
+        ensures names { SameNames self.old self.new }
         ensures no_place { OnErr result (¬ HasPlace self.old (Key.NewOrder key)) }
         ensures err { OnErr result (self.new ≡ self.old) }
     {
@@ -42,6 +45,7 @@ impl Tables {
         requires { Accepts (InsertOrder key row) (rows self.old) }
         ensures rows { OnOk result (rows self.new ≡ rows_after (InsertOrder key row) (rows self.old)) }
         ensures place { OnOk result (AddsPlace self.old self.new (Key.Order key)) }
+        ensures names { SameNames self.old self.new }
         ensures no_place { OnErr result (¬ HasPlace self.old (Key.Order key)) }
         ensures err { OnErr result (self.new ≡ self.old) }
     {
@@ -57,6 +61,7 @@ impl Tables {
         ensures rows { OnOk result
             (rows self.new ≡ rows_after (InsertOrderLine key row) (rows self.old)) }
         ensures place { OnOk result (AddsPlace self.old self.new (Key.OrderLine key)) }
+        ensures names { SameNames self.old self.new }
         ensures no_place { OnErr result (¬ HasPlace self.old (Key.OrderLine key)) }
         ensures err { OnErr result (self.new ≡ self.old) }
     {

@@ -1,6 +1,9 @@
 //! What a purge of old commits gives up of the tables, places of rows that nobody puts back any
 //! more, and with an undo, names that nobody finds a customer by.
 ghost use Rattle.std.specs.Prelude.{◌≡◌};
+ghost use Rattle.oe_model.specs.Keys.{district_of_customer};
+ghost use Rattle.oe_index.specs.Numbers.{list_number};
+ghost use Rattle.oe_store.specs.Names.{SameNames, TakesOff};
 ghost use Rattle.oe_store.specs.Places.{rows, GivesUp, IsSwept};
 
 use crate::tables::Tables;
@@ -13,6 +16,7 @@ impl Tables {
     pub fn give_up_new_order(&mut self, key: NewOrderKey)
         ensures rows { rows self.new ≡ rows self.old }
         ensures places { GivesUp self.old self.new (Key.NewOrder key) }
+        ensures names { SameNames self.old self.new }
     {
         self.new_orders.give_up(&key);
     }
@@ -20,7 +24,8 @@ impl Tables {
     /// Takes a customer off the list of a C_LAST, where its own C_LAST has another list. It takes
     /// no memory.
     pub fn forget_name(&mut self, key: &CustomerKey, last: &Text<0, 16>)
-        ensures { self.new ≡ self.old }
+        ensures { TakesOff self.old self.new
+            (list_number (district_of_customer key.now) last.now) key.now }
     {
         self.customers.forget_name(key, last);
     }
@@ -29,6 +34,7 @@ impl Tables {
     pub fn sweep(&mut self)
         ensures rows { rows self.new ≡ rows self.old }
         ensures places { IsSwept (rows self.old) self.new }
+        ensures names { SameNames self.old self.new }
     {
         self.warehouses.sweep();
         self.districts.sweep();

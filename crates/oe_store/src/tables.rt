@@ -3,7 +3,7 @@
 //! `NineTables` keeps any rows. `Tables` keeps rows that meet the schema, by its invariant: each
 //! reference leads to a row (clause 1.3). So there is no call that sets a row of `Tables` without
 //! looking at what refers to it. Only an insert and another C_LAST take memory.
-ghost use Rattle.std.specs.Prelude.{◌≡◌, ◌↔◌, IsTrue};
+ghost use Rattle.std.specs.Prelude.{◌≡◌, ◌↔◌, IsTrue, true, []};
 ghost use Rattle.std.specs.Option.{option_copied};
 ghost use Rattle.std.specs.FinMap.{get, empty};
 ghost use Rattle.oe_store.specs.Numbered.{AreNumbered};
@@ -49,6 +49,7 @@ impl Model for NineTables {
       order_lines = t.order_lines;
       items = t.items;
       stocks = t.stocks;
+      names = record { lists = t.customers.lists; is_listed = t.customers.is_listed };
     } };
 }
 
@@ -85,6 +86,7 @@ impl Model for Tables {
       order_lines = t.order_lines;
       items = t.items;
       stocks = t.stocks;
+      names = record { lists = t.customers.lists; is_listed = t.customers.is_listed };
     } };
 
     ghost invariant = { λ t. IsSound
@@ -98,6 +100,7 @@ impl Model for Tables {
           order_lines = t.order_lines;
           items = t.items;
           stocks = t.stocks;
+          names = record { lists = t.customers.lists; is_listed = t.customers.is_listed };
         })) };
 }
 
@@ -112,7 +115,8 @@ impl Tables {
 
     /// Makes tables without a row.
     pub fn new(alloc: Global) -> Self
-        ensures { rows result ≡ no_rows }
+        ensures rows { rows result ≡ no_rows }
+        ensures names { result.names ≡ record { lists = []; is_listed = true } }
     {
         Tables {
             warehouses: Shelves::new(alloc),

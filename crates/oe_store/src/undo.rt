@@ -4,6 +4,8 @@ ghost use Rattle.std.specs.Prelude.{◌≡◌, Some, None, IsSome};
 ghost use Rattle.std.specs.FinMap.{get};
 ghost use Rattle.oe_model.specs.Changes.{put_back, InsertedHistory, InsertedNewOrder, InsertedOrder, InsertedOrderLine, UpdatedWarehouse, UpdatedDistrict, UpdatedCustomer, UpdatedOrder, UpdatedOrderLine, UpdatedStock, DeletedNewOrder};
 ghost use Rattle.oe_model.specs.Meets.{Meets};
+ghost use Rattle.oe_index.specs.Numbers.{list_of_name};
+ghost use Rattle.oe_store.specs.Names.{SameNames, StandWhere, IsNamed};
 ghost use Rattle.oe_store.specs.Places.{rows, HasPlace, LosesPlace, SamePlaces};
 
 use crate::tables::Tables;
@@ -21,6 +23,7 @@ impl Tables {
         ensures before { get (rows self.old).histories key ≡ Some result }
         ensures rows { rows self.new ≡ put_back (InsertedHistory key None) (rows self.old) }
         ensures places { SamePlaces self.old self.new }
+        ensures names { SameNames self.old self.new }
     {
         self.histories.blank(&key)
     }
@@ -33,6 +36,7 @@ impl Tables {
         ensures before { get (rows self.old).new_orders key ≡ Some result }
         ensures rows { rows self.new ≡ put_back (InsertedNewOrder key None) (rows self.old) }
         ensures places { SamePlaces self.old self.new }
+        ensures names { SameNames self.old self.new }
     {
         self.new_orders.blank(&key)
     }
@@ -45,6 +49,7 @@ impl Tables {
         ensures before { get (rows self.old).orders key ≡ Some result }
         ensures rows { rows self.new ≡ put_back (InsertedOrder key None) (rows self.old) }
         ensures places { SamePlaces self.old self.new }
+        ensures names { SameNames self.old self.new }
     {
         self.orders.blank(&key)
     }
@@ -57,6 +62,7 @@ impl Tables {
         ensures before { get (rows self.old).order_lines key ≡ Some result }
         ensures rows { rows self.new ≡ put_back (InsertedOrderLine key None) (rows self.old) }
         ensures places { SamePlaces self.old self.new }
+        ensures names { SameNames self.old self.new }
     {
         self.order_lines.blank(&key)
     }
@@ -69,6 +75,7 @@ impl Tables {
         ensures before { get (rows self.old).histories key ≡ Some result }
         ensures rows { rows self.new ≡ put_back (InsertedHistory key None) (rows self.old) }
         ensures places { LosesPlace self.old self.new (Key.History key) }
+        ensures names { SameNames self.old self.new }
     {
         self.histories.remove(&key)
     }
@@ -81,6 +88,7 @@ impl Tables {
         ensures before { get (rows self.old).new_orders key ≡ Some result }
         ensures rows { rows self.new ≡ put_back (InsertedNewOrder key None) (rows self.old) }
         ensures places { LosesPlace self.old self.new (Key.NewOrder key) }
+        ensures names { SameNames self.old self.new }
     {
         self.new_orders.remove(&key)
     }
@@ -93,6 +101,7 @@ impl Tables {
         ensures before { get (rows self.old).orders key ≡ Some result }
         ensures rows { rows self.new ≡ put_back (InsertedOrder key None) (rows self.old) }
         ensures places { LosesPlace self.old self.new (Key.Order key) }
+        ensures names { SameNames self.old self.new }
     {
         self.orders.remove(&key)
     }
@@ -105,6 +114,7 @@ impl Tables {
         ensures before { get (rows self.old).order_lines key ≡ Some result }
         ensures rows { rows self.new ≡ put_back (InsertedOrderLine key None) (rows self.old) }
         ensures places { LosesPlace self.old self.new (Key.OrderLine key) }
+        ensures names { SameNames self.old self.new }
     {
         self.order_lines.remove(&key)
     }
@@ -117,6 +127,7 @@ impl Tables {
         ensures before { get (rows self.old).warehouses key ≡ Some result }
         ensures rows { rows self.new ≡ put_back (UpdatedWarehouse key (Some row)) (rows self.old) }
         ensures places { SamePlaces self.old self.new }
+        ensures names { SameNames self.old self.new }
     {
         self.warehouses.swap(&key, row)
     }
@@ -129,6 +140,7 @@ impl Tables {
         ensures before { get (rows self.old).districts key ≡ Some result }
         ensures rows { rows self.new ≡ put_back (UpdatedDistrict key (Some row)) (rows self.old) }
         ensures places { SamePlaces self.old self.new }
+        ensures names { SameNames self.old self.new }
     {
         self.districts.swap(&key, row)
     }
@@ -141,6 +153,7 @@ impl Tables {
         ensures before { get (rows self.old).customers key ≡ Some result }
         ensures rows { rows self.new ≡ put_back (UpdatedCustomer key (Some row)) (rows self.old) }
         ensures places { SamePlaces self.old self.new }
+        ensures names { StandWhere self.old self.new (IsNamed self.old (list_of_name key row) key) }
     {
         self.customers.swap(&key, row)
     }
@@ -152,6 +165,7 @@ impl Tables {
         ensures before { get (rows self.old).orders key ≡ Some result }
         ensures rows { rows self.new ≡ put_back (UpdatedOrder key (Some row)) (rows self.old) }
         ensures places { SamePlaces self.old self.new }
+        ensures names { SameNames self.old self.new }
     {
         let _customer = row.customer.get();
         let _carrier = row.carrier;
@@ -166,6 +180,7 @@ impl Tables {
         ensures before { get (rows self.old).order_lines key ≡ Some result }
         ensures rows { rows self.new ≡ put_back (UpdatedOrderLine key (Some row)) (rows self.old) }
         ensures places { SamePlaces self.old self.new }
+        ensures names { SameNames self.old self.new }
     {
         self.order_lines.swap(&key, row)
     }
@@ -177,6 +192,7 @@ impl Tables {
         ensures before { get (rows self.old).stocks key ≡ Some result }
         ensures rows { rows self.new ≡ put_back (UpdatedStock key (Some row)) (rows self.old) }
         ensures places { SamePlaces self.old self.new }
+        ensures names { SameNames self.old self.new }
     {
         self.stocks.swap(&key, row)
     }
@@ -188,6 +204,7 @@ impl Tables {
         requires schema { Meets (put_back (DeletedNewOrder key (Some row)) (rows self.old)) }
         ensures rows { rows self.new ≡ put_back (DeletedNewOrder key (Some row)) (rows self.old) }
         ensures places { SamePlaces self.old self.new }
+        ensures names { SameNames self.old self.new }
     {
         self.new_orders.refill(&key, row);
     }

@@ -5,6 +5,8 @@ ghost use Rattle.std.specs.FinMap.{get};
 ghost use Rattle.oe_model.specs.Changes.{rows_after, UpdateWarehouse, UpdateDistrict, UpdateCustomer, UpdateOrder, UpdateOrderLine, UpdateStock, DeleteNewOrder};
 ghost use Rattle.oe_model.specs.Meets.{Accepts};
 ghost use Rattle.oe_index.specs.Listed.{HasOtherName};
+ghost use Rattle.oe_index.specs.Numbers.{list_of_name};
+ghost use Rattle.oe_store.specs.Names.{SameNames, ListsName};
 ghost use Rattle.oe_store.specs.Places.{rows, SamePlaces};
 
 use crate::tables::Tables;
@@ -21,6 +23,7 @@ impl Tables {
         ensures before { get (rows self.old).warehouses key ≡ Some result }
         ensures rows { rows self.new ≡ rows_after (UpdateWarehouse key row) (rows self.old) }
         ensures places { SamePlaces self.old self.new }
+        ensures names { SameNames self.old self.new }
     {
         self.warehouses.swap(&key, row)
     }
@@ -31,6 +34,7 @@ impl Tables {
         ensures before { get (rows self.old).districts key ≡ Some result }
         ensures rows { rows self.new ≡ rows_after (UpdateDistrict key row) (rows self.old) }
         ensures places { SamePlaces self.old self.new }
+        ensures names { SameNames self.old self.new }
     {
         self.districts.swap(&key, row)
     }
@@ -43,6 +47,7 @@ impl Tables {
         ensures rows { OnOk result
             (rows self.new ≡ rows_after (UpdateCustomer key row) (rows self.old)) }
         ensures places { SamePlaces self.old self.new }
+        ensures names { OnOk result (ListsName self.old self.new (list_of_name key row) key) }
         ensures renamed { OnErr result
             (HasOtherName row.name.last (get (rows self.old).customers key)) }
         ensures err { OnErr result (self.new ≡ self.old) }
@@ -56,6 +61,7 @@ impl Tables {
         ensures before { get (rows self.old).orders key ≡ Some result }
         ensures rows { rows self.new ≡ rows_after (UpdateOrder key row) (rows self.old) }
         ensures places { SamePlaces self.old self.new }
+        ensures names { SameNames self.old self.new }
     {
         let _customer = row.customer.get();
         let _carrier = row.carrier;
@@ -68,6 +74,7 @@ impl Tables {
         ensures before { get (rows self.old).order_lines key ≡ Some result }
         ensures rows { rows self.new ≡ rows_after (UpdateOrderLine key row) (rows self.old) }
         ensures places { SamePlaces self.old self.new }
+        ensures names { SameNames self.old self.new }
     {
         self.order_lines.swap(&key, row)
     }
@@ -78,6 +85,7 @@ impl Tables {
         ensures before { get (rows self.old).stocks key ≡ Some result }
         ensures rows { rows self.new ≡ rows_after (UpdateStock key row) (rows self.old) }
         ensures places { SamePlaces self.old self.new }
+        ensures names { SameNames self.old self.new }
     {
         self.stocks.swap(&key, row)
     }
@@ -88,6 +96,7 @@ impl Tables {
         ensures before { get (rows self.old).new_orders key ≡ Some result }
         ensures rows { rows self.new ≡ rows_after (DeleteNewOrder key) (rows self.old) }
         ensures places { SamePlaces self.old self.new }
+        ensures names { SameNames self.old self.new }
     {
         self.new_orders.blank(&key)
     }

@@ -11,7 +11,8 @@ returns-clause-applied c = in_each _ _ _ _ (λ v. refl) (record {
   accepted = search rules;
   changes = c.delete_new_order-row.ensures.rows;
   before = search rules;
-  places = adds_own _ _ _ c.delete_new_order-row.ensures.places
+  places = adds_own c.args.tables.now c.delete_new_order-row.new.self _ c.delete_new_order-row.ensures.places
       (place_of_row new_order_total exact_new_order _ c.args.key.now
       (ap is_some c.delete_new_order-row.ensures.before));
+  names = c.delete_new_order-row.ensures.names;
 })

@@ -1,4 +1,4 @@
-use Rattle.std.proofs.Common.{rules, ap, ◌∙◌}
+use Rattle.std.proofs.Common.{rules, ap, ◌∙◌, inr}
 use Rattle.std.specs.Prelude.{is_some, option_map}
 use Rattle.oe_rows.proofs.KeyFacts.{customer_total, exact_customer}
 use Rattle.oe_rows.specs.declared.rows.Row.TheVariants as row
@@ -14,6 +14,7 @@ returns-in-Ok-clause-applied c = record {
   before = c.customer_record-record.ensures
       ∙ ap (λ v. record_in c.args.layout (UpdateCustomer c.args.key.now c.args.row) (option_map row.Customer v))
       c.in-Some.ensures;
-  places = adds_own _ _ _ c.update_customer.ensures.places
+  places = adds_own c.args.tables.now c.update_customer.new.self _ c.update_customer.ensures.places
       (place_of_row customer_total exact_customer _ c.args.key.now (ap is_some c.in-Ok.ensures.before));
+  names = inr c.in-Ok.ensures.names;
 }

@@ -14,7 +14,8 @@ returns-clause-applied c = record {
   before = c.district_record-record.ensures
       ∙ ap (λ v. record_in c.args.layout (UpdateDistrict c.args.key.now c.args.row) (option_map row.District v))
       c.in-Some.ensures;
-  places = adds_own _ _ _ c.update_district.ensures.places
+  places = adds_own c.args.tables.now c.update_district.new.self _ c.update_district.ensures.places
       (place_of_row district_total exact_district _ c.args.key.now
       (ap is_some c.update_district.ensures.before));
+  names = c.update_district.ensures.names;
 }

@@ -14,6 +14,7 @@ returns-clause-applied c = record {
   before = c.order_record-record.ensures
       ∙ ap (λ v. record_in c.args.layout (UpdateOrder c.args.key.now c.args.row) (option_map row.Order v))
       c.in-Some.ensures;
-  places = adds_own _ _ _ c.update_order.ensures.places
+  places = adds_own c.args.tables.now c.update_order.new.self _ c.update_order.ensures.places
       (place_of_row order_total exact_order _ c.args.key.now (ap is_some c.update_order.ensures.before));
+  names = c.update_order.ensures.names;
 }

@@ -14,7 +14,8 @@ returns-clause-applied c = record {
   before = c.order_line_record-record.ensures
       ∙ ap (λ v. record_in c.args.layout (UpdateOrderLine c.args.key.now c.args.row) (option_map row.OrderLine v))
       c.in-Some.ensures;
-  places = adds_own _ _ _ c.update_order_line.ensures.places
+  places = adds_own c.args.tables.now c.update_order_line.new.self _ c.update_order_line.ensures.places
       (place_of_row order_line_total exact_order_line _ c.args.key.now
       (ap is_some c.update_order_line.ensures.before));
+  names = c.update_order_line.ensures.names;
 }

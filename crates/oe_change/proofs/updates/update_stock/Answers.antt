@@ -14,6 +14,7 @@ returns-clause-applied c = record {
   before = c.stock_record-record.ensures
       ∙ ap (λ v. record_in c.args.layout (UpdateStock c.args.key.now c.args.row) (option_map row.Stock v))
       c.in-Some.ensures;
-  places = adds_own _ _ _ c.update_stock.ensures.places
+  places = adds_own c.args.tables.now c.update_stock.new.self _ c.update_stock.ensures.places
       (place_of_row stock_total exact_stock _ c.args.key.now (ap is_some c.update_stock.ensures.before));
+  names = c.update_stock.ensures.names;
 }

@@ -14,7 +14,8 @@ returns-clause-applied c = record {
   before = c.warehouse_record-record.ensures
       ∙ ap (λ v. record_in c.args.layout (UpdateWarehouse c.args.key.now c.args.row) (option_map row.Warehouse v))
       c.in-Some.ensures;
-  places = adds_own _ _ _ c.update_warehouse.ensures.places
+  places = adds_own c.args.tables.now c.update_warehouse.new.self _ c.update_warehouse.ensures.places
       (place_of_row warehouse_total exact_warehouse _ c.args.key.now
       (ap is_some c.update_warehouse.ensures.before));
+  names = c.update_warehouse.ensures.names;
 }

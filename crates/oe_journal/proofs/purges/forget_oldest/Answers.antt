@@ -12,6 +12,7 @@ loop-init c = (
   none_forgotten c.args.tables.now c.args.undo.now.log
       (length c.args.undo.now.log.committed - c.args.count),
   refl,
+  refl,
 )
 
 pub loop-preserved : goal.loop-preserved
@@ -38,6 +39,7 @@ loop-preserved c =
           c.give_up_deleted.ensures.places
           c.loop.invariant.0)),
       c.drop_oldest-owner.ensures.links ∙ c.loop.invariant.1,
+      c.give_up_deleted.ensures.names ∙ c.loop.invariant.2,
     )
 
 pub returns-clause-log : goal.returns-clause-log
@@ -60,3 +62,6 @@ returns-clause-places c =
 
 pub returns-clause-links : goal.returns-clause-links
 returns-clause-links c = c.loop.invariant.1
+
+pub returns-clause-names : goal.returns-clause-names
+returns-clause-names c = c.loop.invariant.2

@@ -3,6 +3,9 @@ use Rattle.oe_log.specs.Stands.{undo_of}
 use Rattle.oe_log.specs.Log.{SegmentLog, with_newest, total_count}
 use Rattle.oe_journal.specs.GivesUp.{GivesUpDeleted}
 use Rattle.oe_log.specs.Moments.{store_with, newest}
+use Rattle.std.specs.Prelude.{IsTrue}
+use Rattle.oe_journal.specs.Forgetting.{LosesNameIn, ForgetsNames}
+use Rattle.oe_journal.proofs.ForgetsFacts.{given_up_still, names_still}
 use Rattle.oe_journal.proofs.PurgeFacts.{purged_is}
 use Rattle.oe_journal.proofs.purges.purge.Goals.{After-forget_oldest}
 use Rattle.oe_journal.proofs.purges.purge.Goals as goal
@@ -43,9 +46,17 @@ returns-in-Ok-clause-purged c =
 
 pub returns-in-Ok-clause-places : goal.returns-in-Ok-clause-places
 returns-in-Ok-clause-places c =
-    subst (λ ts. GivesUpDeleted ts c.forget_oldest.new.tables
-    (drop (newest c.args.undo.now.log - c.args.moment) (undo_of c.args.undo.now.log).history)
-    c.forget_oldest.new.undo.log) c.forget_names.ensures
+    given_up_still c.args.tables.now c.forget_names.new.tables c.forget_oldest.new.tables _
+    c.forget_names.ensures.others
     (subst (λ n. GivesUpDeleted c.forget_names.new.tables c.forget_oldest.new.tables
     (drop n (undo_of c.args.undo.now.log).history) c.forget_oldest.new.undo.log)
     (left (goal.at.returns-in-Ok-clause-places c).After-forget_oldest) c.forget_oldest.ensures.places)
+
+pub returns-in-Ok-clause-names : goal.returns-in-Ok-clause-names
+returns-in-Ok-clause-names c =
+    subst (λ n. ForgetsNames c.args.tables.now c.forget_oldest.new.tables
+    (λ i k. IsTrue c.args.may_forget × LosesNameIn c.args.undo.now.log c.args.moment
+    (drop n (undo_of c.args.undo.now.log).history) i k))
+    (left (goal.at.returns-in-Ok-clause-names c).After-forget_oldest)
+    (names_still c.args.tables.now c.forget_names.new.tables c.forget_oldest.new.tables _ c.forget_names.ensures.names
+    c.forget_oldest.ensures.names)

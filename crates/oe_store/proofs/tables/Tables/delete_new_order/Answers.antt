@@ -1,6 +1,7 @@
 use Rattle.std.proofs.Common.{None}
 use Rattle.oe_rows.proofs.KeyFacts.{new_order_total, exact_new_order}
 use Rattle.oe_model.specs.Changes.{DeleteNewOrder}
+use Rattle.oe_store.specs.contracts.tables.Tables.{the_view}
 use Rattle.oe_store.proofs.PlaceFacts.{place_of_row, same_new_orders}
 use Rattle.oe_store.proofs.SoundFacts.{sound_changed, new_order_numbered}
 use Rattle.oe_store.proofs.tables.Tables.delete_new_order.Goals as goal
@@ -12,5 +13,5 @@ invariant_of-self c = rw c.blank.ensures.rows
 
 pub returns-clause-places : goal.returns-clause-places
 returns-clause-places c = rw (← c.self.view_is)
-    (same_new_orders _ _ c.args.key None c.blank.ensures.places
+    (same_new_orders (the_view c.self.inside) _ c.args.key None c.blank.ensures.places
     (place_of_row new_order_total exact_new_order _ c.args.key (rw (← c.self.view_is) at c.requires)))

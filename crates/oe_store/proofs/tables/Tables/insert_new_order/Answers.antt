@@ -2,6 +2,7 @@ use Rattle.std.proofs.Common.{Some}
 use Rattle.std.proofs.lemmas.Result.{on_ok_weaker}
 use Rattle.oe_model.specs.Keys.{order_of_new_order}
 use Rattle.oe_model.specs.Changes.{InsertNewOrder}
+use Rattle.oe_store.specs.contracts.tables.Tables.{the_view}
 use Rattle.oe_store.proofs.PlaceFacts.{added_new_order}
 use Rattle.oe_store.proofs.SoundFacts.{sound_changed, by_result, order_numbered}
 use Rattle.oe_store.proofs.tables.Tables.insert_new_order.Goals as goal
@@ -16,4 +17,5 @@ invariant_of-self c =
 
 pub returns-clause-place : goal.returns-clause-place
 returns-clause-place c = rw (← c.self.view_is)
-    (on_ok_weaker c.put_new.result (added_new_order _ _ c.args.key (Some c.args.row)) c.put_new.ensures.ok)
+    (on_ok_weaker c.put_new.result (added_new_order (the_view c.self.inside) _ c.args.key
+    (Some c.args.row)) c.put_new.ensures.ok)

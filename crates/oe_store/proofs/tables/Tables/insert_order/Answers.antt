@@ -2,6 +2,7 @@ use Rattle.std.proofs.Common.{Some, rules}
 use Rattle.std.specs.Int.{IsInRange}
 use Rattle.std.proofs.lemmas.Result.{on_ok_weaker}
 use Rattle.oe_model.specs.Changes.{InsertOrder}
+use Rattle.oe_store.specs.contracts.tables.Tables.{the_view}
 use Rattle.oe_store.proofs.PlaceFacts.{added_order}
 use Rattle.oe_store.proofs.SoundFacts.{sound_changed, by_result}
 use Rattle.oe_store.proofs.tables.Tables.insert_order.Goals as goal
@@ -16,4 +17,5 @@ invariant_of-self c =
 
 pub returns-clause-place : goal.returns-clause-place
 returns-clause-place c = rw (← c.self.view_is)
-    (on_ok_weaker c.put_new.result (added_order _ _ c.args.key (Some c.args.row)) c.put_new.ensures.ok)
+    (on_ok_weaker c.put_new.result (added_order (the_view c.self.inside) _ c.args.key
+    (Some c.args.row)) c.put_new.ensures.ok)

@@ -3,6 +3,7 @@ use Rattle.std.specs.Int.{IsInRange}
 use Rattle.std.proofs.lemmas.Result.{on_ok_weaker}
 use Rattle.oe_model.specs.Keys.{order_of_line}
 use Rattle.oe_model.specs.Changes.{InsertOrderLine}
+use Rattle.oe_store.specs.contracts.tables.Tables.{the_view}
 use Rattle.oe_store.proofs.PlaceFacts.{added_order_line}
 use Rattle.oe_store.proofs.SoundFacts.{sound_changed, by_result, order_numbered}
 use Rattle.oe_store.proofs.tables.Tables.insert_order_line.Goals as goal
@@ -18,4 +19,5 @@ invariant_of-self c =
 
 pub returns-clause-place : goal.returns-clause-place
 returns-clause-place c = rw (← c.self.view_is)
-    (on_ok_weaker c.put_new.result (added_order_line _ _ c.args.key (Some c.args.row)) c.put_new.ensures.ok)
+    (on_ok_weaker c.put_new.result (added_order_line (the_view c.self.inside) _ c.args.key
+    (Some c.args.row)) c.put_new.ensures.ok)

@@ -1,6 +1,7 @@
 use Rattle.std.proofs.Common.{Some}
 use Rattle.oe_rows.proofs.KeyFacts.{stock_total, exact_stock}
 use Rattle.oe_model.specs.Changes.{UpdatedStock}
+use Rattle.oe_store.specs.contracts.tables.Tables.{the_view}
 use Rattle.oe_store.proofs.PlaceFacts.{place_of_row, same_stocks}
 use Rattle.oe_store.proofs.SoundFacts.{sound_put_back}
 use Rattle.oe_store.proofs.tables.Tables.put_back_stock.Goals as goal
@@ -12,5 +13,5 @@ invariant_of-self c = rw c.swap.ensures.rows
 
 pub returns-clause-places : goal.returns-clause-places
 returns-clause-places c = rw (← c.self.view_is)
-    (same_stocks _ _ c.args.key (Some c.args.row) c.swap.ensures.places
+    (same_stocks (the_view c.self.inside) _ c.args.key (Some c.args.row) c.swap.ensures.places
     (place_of_row stock_total exact_stock _ c.args.key (rw (← c.self.view_is) at c.requires.there)))

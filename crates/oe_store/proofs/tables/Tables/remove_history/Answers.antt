@@ -1,5 +1,6 @@
 use Rattle.std.proofs.Common.{None}
 use Rattle.oe_model.specs.Changes.{InsertedHistory}
+use Rattle.oe_store.specs.contracts.tables.Tables.{the_view}
 use Rattle.oe_store.proofs.LostFacts.{lost_histories}
 use Rattle.oe_store.proofs.SoundFacts.{sound_put_back}
 use Rattle.oe_store.proofs.tables.Tables.remove_history.Goals as goal
@@ -10,4 +11,5 @@ invariant_of-self c = rw c.remove.ensures.rows
     c.self.invariant)
 
 pub returns-clause-places : goal.returns-clause-places
-returns-clause-places c = rw (← c.self.view_is) (lost_histories _ _ c.args.key c.remove.ensures.places)
+returns-clause-places c = rw (← c.self.view_is)
+    (lost_histories (the_view c.self.inside) _ c.args.key c.remove.ensures.places)

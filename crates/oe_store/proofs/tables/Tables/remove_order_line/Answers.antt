@@ -1,5 +1,6 @@
 use Rattle.std.proofs.Common.{None}
 use Rattle.oe_model.specs.Changes.{InsertedOrderLine}
+use Rattle.oe_store.specs.contracts.tables.Tables.{the_view}
 use Rattle.oe_store.proofs.LostFacts.{lost_order_lines}
 use Rattle.oe_store.proofs.SoundFacts.{sound_put_back, order_line_numbered}
 use Rattle.oe_store.proofs.tables.Tables.remove_order_line.Goals as goal
@@ -10,4 +11,5 @@ invariant_of-self c = rw c.remove.ensures.rows
     (order_line_numbered _ c.args.key c.self.invariant (rw (← c.self.view_is) at c.requires.there)) c.self.invariant)
 
 pub returns-clause-places : goal.returns-clause-places
-returns-clause-places c = rw (← c.self.view_is) (lost_order_lines _ _ c.args.key c.remove.ensures.places)
+returns-clause-places c = rw (← c.self.view_is)
+    (lost_order_lines (the_view c.self.inside) _ c.args.key c.remove.ensures.places)

@@ -1,6 +1,7 @@
 use Rattle.std.proofs.Common.{Some}
 use Rattle.oe_rows.proofs.KeyFacts.{customer_total, exact_customer}
 use Rattle.oe_model.specs.Changes.{UpdateCustomer}
+use Rattle.oe_store.specs.contracts.tables.Tables.{the_view}
 use Rattle.oe_store.proofs.PlaceFacts.{place_of_row, same_customers}
 use Rattle.oe_store.proofs.SoundFacts.{sound_changed, by_result, customer_numbered}
 use Rattle.oe_store.proofs.tables.Tables.update_customer.Goals as goal
@@ -17,6 +18,6 @@ pub returns-clause-places : goal.returns-clause-places
 returns-clause-places c =
     rw (← c.self.view_is)
     (by_result c.replace.result
-    (λ e. same_customers _ _ c.args.key (Some c.args.row) e
+    (λ e. same_customers (the_view c.self.inside) _ c.args.key (Some c.args.row) e
     (place_of_row customer_total exact_customer _ c.args.key (rw (← c.self.view_is) at c.requires)))
     (λ e. rw e (λ k. (λ h. h, λ h. h))) c.replace.ensures.places c.replace.ensures.err)

@@ -1,6 +1,7 @@
 use Rattle.std.proofs.Common.{Some}
 use Rattle.oe_rows.proofs.KeyFacts.{district_total, exact_district}
 use Rattle.oe_model.specs.Changes.{UpdateDistrict}
+use Rattle.oe_store.specs.contracts.tables.Tables.{the_view}
 use Rattle.oe_store.proofs.PlaceFacts.{place_of_row, same_districts}
 use Rattle.oe_store.proofs.SoundFacts.{sound_changed, district_numbered}
 use Rattle.oe_store.proofs.tables.Tables.update_district.Goals as goal
@@ -12,5 +13,5 @@ invariant_of-self c = rw c.swap.ensures.rows
 
 pub returns-clause-places : goal.returns-clause-places
 returns-clause-places c = rw (← c.self.view_is)
-    (same_districts _ _ c.args.key (Some c.args.row) c.swap.ensures.places
+    (same_districts (the_view c.self.inside) _ c.args.key (Some c.args.row) c.swap.ensures.places
     (place_of_row district_total exact_district _ c.args.key (rw (← c.self.view_is) at c.requires)))

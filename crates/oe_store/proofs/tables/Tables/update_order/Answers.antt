@@ -2,6 +2,7 @@ use Rattle.std.proofs.Common.{Some, ap}
 use Rattle.std.specs.Prelude.{is_some}
 use Rattle.oe_rows.proofs.KeyFacts.{order_total, exact_order}
 use Rattle.oe_model.specs.Changes.{UpdateOrder}
+use Rattle.oe_store.specs.contracts.tables.Tables.{the_view}
 use Rattle.oe_store.proofs.PlaceFacts.{place_of_row, same_orders}
 use Rattle.oe_store.proofs.SoundFacts.{sound_changed, order_numbered}
 use Rattle.oe_store.proofs.tables.Tables.update_order.Goals as goal
@@ -14,5 +15,5 @@ invariant_of-self c = rw c.swap.ensures.rows
 
 pub returns-clause-places : goal.returns-clause-places
 returns-clause-places c = rw (← c.self.view_is)
-    (same_orders _ _ c.args.key (Some c.args.row) c.swap.ensures.places
+    (same_orders (the_view c.self.inside) _ c.args.key (Some c.args.row) c.swap.ensures.places
     (place_of_row order_total exact_order _ c.args.key (rw (← c.self.view_is) at (ap is_some c.requires.1))))

@@ -5,4 +5,5 @@ pub returns-clause-made : goal.returns-clause-made
 returns-clause-made c =
     district_made c.args.tables.now c.set_district_ytd.new.self c.set_district_ytd.ensures.places
     c.args.self.now.district
-    (λ x. record x { ytd = c.args.self.now.ytd }) c.requires c.set_district_ytd.ensures.rows
+    (λ x. record x { ytd = c.args.self.now.ytd }) c.set_district_ytd.ensures.names c.requires
+    c.set_district_ytd.ensures.rows
