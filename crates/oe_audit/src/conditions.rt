@@ -1,10 +1,9 @@
 //! The verdicts of the consistency conditions (clauses 3.3.2.1 to 3.3.2.10 and 3.3.2.12), of the
 //! rows as they stand or stood at a moment.
-ghost use Rattle.std.specs.Prelude.{◌≡◌, IfOk, IfErr, OnOk};
+ghost use Rattle.std.specs.Prelude.{◌≡◌};
 ghost use Rattle.oe_model.specs.Audits.{First};
 ghost use Rattle.oe_store.specs.Places.{rows};
-ghost use Rattle.oe_log.specs.Moments.{IsKeptMoment, IsUnkept};
-ghost use Rattle.oe_versions.specs.Versions.{version};
+ghost use Rattle.oe_versions.specs.Versions.{rows_of};
 ghost use Rattle.oe_audit.specs.AsOf.{rows_then, model_condition, passes, ArePassed};
 ghost use Rattle.oe_audit.specs.Verdict.{IsVerdict, IsAudited};
 
@@ -14,11 +13,10 @@ use crate::districts::{passes_fourth, passes_second, passes_third};
 use crate::orders::{OrderCondition, of_orders, seventh};
 use crate::payments::{eighth, ninth};
 use crate::warehouses::passes_first;
-use oe_requests::{Condition, Refusal, Verdict};
+use oe_requests::{Condition, Verdict};
 use oe_rows::{DistrictKey, Key};
 use oe_store::Tables;
-use oe_undo::Undo;
-use oe_values::{Moment, OrderNumber};
+use oe_values::OrderNumber;
 use oe_versions::Version;
 
 /// The conditions that are asked of each district.
@@ -116,33 +114,21 @@ pub fn condition(number: Condition, tables: &Tables) -> Verdict
     found(number, tables, &AsOf::Now)
 }
 
-/// Gives the verdict of a consistency condition at a moment, as `condition` would have given it
+/// Gives the verdict of a consistency condition on a version, as `condition` would have given it
 /// when that moment was the newest, whatever has been open or committed since: that it held, or the
 /// first row, in key order, at which it failed. Nothing is asked of the rows but that a walk of
 /// today's passes each of the moment's, so that only a look at them tells the verdict.
 ///
-/// `TooOld` with the horizon and `Future` with the newest moment, exactly where the moment is not
-/// between the two. It takes no memory. It walks the rows that it concerns once, and goes for each
+/// It takes no memory. It walks the rows that it concerns once, and goes for each
 /// along its key's records that are open or of commits after the moment; where nothing is open and
 /// no commit is later, it is `condition`.
-pub fn condition_at(
-    number: Condition,
-    tables: &Tables,
-    undo: &Undo,
-    moment: Moment,
-) -> Result<Verdict, Refusal>
-    requires { ArePassed (version tables.now undo.now.log moment) (rows tables.now) }
-    ensures verdict { IfOk result (IsAudited number (version tables.now undo.now.log moment)) }
-    ensures readable { OnOk result (IsKeptMoment undo.now.log moment) }
-    ensures refusal { IfErr result (IsUnkept undo.now.log moment) }
+pub fn condition_at(number: Condition, version: Version<'_>) -> Verdict
+    requires { ArePassed (rows_of version) (rows version.tables) }
+    ensures { IsAudited number (rows_of version.entry) result }
 {
-    match Version::at(tables, undo, moment) {
-        Ok(version) => {
-            if version.is_settled() {
-                return Ok(condition(number, tables));
-            }
-            Ok(found(number, tables, &AsOf::Moment(version)))
-        }
-        Err(refusal) => Err(refusal),
+    let tables = version.tables();
+    if version.is_settled() {
+        return condition(number, tables);
     }
+    found(number, tables, &AsOf::Moment(version))
 }

@@ -1,12 +1,7 @@
 -- One text behind another; the last may not go out.
-use Rattle.std.proofs.Common.{◌≡◌, List, ℕ, ◌++◌, Option, Result, Ok, Err, refl}
+use Rattle.std.proofs.Common.{◌≡◌, List, ℕ, ◌++◌, Option, Result, refl}
 use Rattle.oe_io.specs.Ports.{Sink, Sent, Cut, Streams}
-use Rattle.oe_io.proofs.Streaming.{sent_then, sent_cut, cut_more, streams_as}
-
-pub streams_then : {T E : Type 0} (a b c : Option Sink) (h i j t u : List ℕ) (r : Result T E) → Sent a h b i t
-    → Streams b i c j u r → Streams a h c j (t ++ u) r
-streams_then a b c h i j t u (Ok x) p q = sent_then a b c h i j t u p q
-streams_then a b c h i j t u (Err e) p q = sent_cut a b c h i t u p q
+use Rattle.oe_io.proofs.Streaming.{sent_then, sent_cut, streams_then, cut_more, streams_as}
 
 -- the same text, told in another way
 pub streams_from : {T E : Type 0} (a b : Option Sink) (h i t u : List ℕ) (r : Result T E) → t ≡ u

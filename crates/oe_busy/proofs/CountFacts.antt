@@ -29,7 +29,7 @@ put_at l t n h = fun_ext (λ u. each u (cases_eq u t))
         ∙ (put l t n h ∙ sym (set_same t n (counts_in l) u same))
     each u (inr other) = still l t n u other ∙ sym (set_other t n (counts_in l) u other)
 
-zeros : (k t : ℕ) → ◌≡◌ {A = ℕ} (get_or (replicate {A = ℕ} k zero) t zero) zero
+pub zeros : (k t : ℕ) → ◌≡◌ {A = ℕ} (get_or (replicate {A = ℕ} k zero) t zero) zero
 zeros zero t = refl
 zeros (suc k) zero = refl
 zeros (suc k) (suc t) = zeros k t

@@ -17,14 +17,14 @@ use Rattle.oe_busy.specs.declared.waits.Waits.{Waits}
 
 -- the name of whose kind it is counted: of a lock that was taken, that was in the way, or that a transaction waited
 -- for in a cycle
-abbrev pub lock_of : Happening → Option Name
-lock_of happening.Begun = None
-lock_of happening.Done = None
-lock_of (happening.Went t) = None
-lock_of (happening.Took t n m) = Some n
-lock_of (happening.Waits t n u) = Some n
-lock_of (happening.Broke t n) = Some n
-lock_of (happening.GaveWay t) = None
+abbrev pub asked_name : Happening → Option Name
+asked_name happening.Begun = None
+asked_name happening.Done = None
+asked_name (happening.Went t) = None
+asked_name (happening.Took t n m) = Some n
+asked_name (happening.Waits t n u) = Some n
+asked_name (happening.Broke t n) = Some n
+asked_name (happening.GaveWay t) = None
 
 -- one more of what happened
 abbrev pub with_more : Happening → KindCounts → KindCounts
@@ -62,20 +62,20 @@ counted_at None h c = c
 counted_at (Some n) h c = with_kind n (with_more h (kind_counts n c)) c
 
 abbrev pub counts_with : Happening → Counts → Counts
-counts_with h = counted_at (lock_of h) h
+counts_with h = counted_at (asked_name h) h
 
-abbrev pub none_of : KindCounts
-none_of = record { shared = 0; exclusive = 0; busy = 0; cycles = 0 }
+abbrev pub no_kind_counts : KindCounts
+no_kind_counts = record { shared = 0; exclusive = 0; busy = 0; cycles = 0 }
 
 abbrev pub no_counts : Counts
 no_counts = record {
-  warehouses = none_of;
-  districts = none_of;
-  customers = none_of;
-  orders = none_of;
-  queues = none_of;
-  stocks = none_of;
-  names = none_of;
+  warehouses = no_kind_counts;
+  districts = no_kind_counts;
+  customers = no_kind_counts;
+  orders = no_kind_counts;
+  queues = no_kind_counts;
+  stocks = no_kind_counts;
+  names = no_kind_counts;
 }
 
 abbrev pub counts : List Happening → Counts

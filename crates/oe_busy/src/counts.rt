@@ -1,6 +1,6 @@
 //! How often locks of each kind of name were taken, in the way, or broken out of.
 ghost use Rattle.std.specs.Prelude.{◌≡◌, suc, option_map, IfOk, OnOk};
-ghost use Rattle.oe_busy.specs.Happenings.{counts_with, kind_counts, lock_of, no_counts, none_of, with_kind, with_more};
+ghost use Rattle.oe_busy.specs.Happenings.{counts_with, kind_counts, asked_name, no_counts, no_kind_counts, with_kind, with_more};
 
 use crate::happenings::Happening;
 use crate::tables::Uncounted;
@@ -32,8 +32,8 @@ pub struct Counts {
 }
 
 /// Counts nothing of a kind.
-fn none_of() -> KindCounts
-    ensures { result ≡ none_of }
+fn no_kind_counts() -> KindCounts
+    ensures { result ≡ no_kind_counts }
 {
     KindCounts {
         shared: 0,
@@ -47,7 +47,7 @@ fn none_of() -> KindCounts
 pub(crate) fn none() -> Counts
     ensures { result ≡ no_counts }
 {
-    let none = none_of();
+    let none = no_kind_counts();
     Counts {
         warehouses: none,
         districts: none,
@@ -60,8 +60,8 @@ pub(crate) fn none() -> Counts
 }
 
 /// Gives the lock's name of whose kind a happening is counted, where it is.
-fn lock_of(happening: &Happening) -> Option<&Name>
-    ensures { option_map (λ n. n.now) result ≡ lock_of happening.now }
+fn asked_name(happening: &Happening) -> Option<&Name>
+    ensures { option_map (λ n. n.now) result ≡ asked_name happening.now }
 {
     match happening {
         Happening::Took(_, name, _) | Happening::Waits(_, name, _) | Happening::Broke(_, name) => {
@@ -129,7 +129,7 @@ fn add(of: &mut KindCounts, happening: &Happening) -> Result<(), Uncounted>
 pub(crate) fn count(counts: &mut Counts, happening: &Happening) -> Result<(), Uncounted>
     ensures { OnOk result (counts.new ≡ counts_with happening.now counts.old) }
 {
-    let Some(name) = lock_of(happening) else {
+    let Some(name) = asked_name(happening) else {
         return Ok(());
     };
     let mut of = kind_counts(counts, name);

@@ -8,4 +8,3 @@ mod OftenFacts
 mod TextFacts
 mod RunFacts
 mod TableFacts
-pub mod FrontFacts

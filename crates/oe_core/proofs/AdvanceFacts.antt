@@ -49,7 +49,7 @@ use Rattle.oe_engine.specs.View as engine
 use Rattle.oe_engine.specs.Calls.{IsFree, IsInTheWay, IsFullFor, IsFullForAny, after_stage, after_commit}
 use Rattle.oe_engine.specs.Calls.{after_rollback}
 use Rattle.oe_engine.specs.Programs.{reply_at, tx_of, ask_here, act_here, IsFreeHere, GoesOn, IsReady, Ends}
-use Rattle.oe_engine.specs.Programs.{WantsMemory, IsRefused}
+use Rattle.oe_engine.specs.Programs.{WantsMemory, IsStageRefusal}
 use Rattle.oe_engine.proofs.ReplyFacts.{ready_at}
 use Rattle.oe_core.specs.Core.{CoreState, in_slot, reply_left, last_reply, work_at, slot_of, open_at, store_with}
 use Rattle.oe_core.specs.Core.{store_of, world_of, IsOrderly, Moves, keeps_open}
@@ -376,7 +376,7 @@ told_last {s} {t} {m} {y} {s'} k e = (y, e, carries k)
 
 -- the refusals after which it stays open
 kept_lead : (s : CoreState) (t : ℕ) (y : Handle) (w : WorkState) → HasOpen s t y w → (x : Refusal) → keeps_open x ≡ true
-    → IsRefused s.engine y w.request w.position x
+    → IsStageRefusal s.engine y w.request w.position x
     → Leads system (store_of s) (Advance t) (refusal_in (step.Advance t) x) (store_of s)
 kept_lead s t y w o (NoSuchRow k) kp h = let no : ⊥ = cc in absurd no
 kept_lead s t y w o (RowExists k) kp h = let no : ⊥ = cc in absurd no
@@ -422,7 +422,7 @@ kept_lead s t y w o (NotPinned n) kp h = let no : ⊥ = cc in absurd no
 -- those after which it is gone
 ended_lead : (s : CoreState) (t : ℕ) (y : Handle) (w : WorkState) → HasOpen s t y w → (x : Refusal)
     → keeps_open x ≡ false
-    → IsRefused s.engine y w.request w.position x
+    → IsStageRefusal s.engine y w.request w.position x
     → Leads system (store_of s) (Advance t) (refusal_in (step.Advance t) x) (without_slot system t (store_of s))
 ended_lead s t y w o (NoSuchRow k) kp h = leads_end s t y w o (NoSuchRow k) h.1
 ended_lead s t y w o (RowExists k) kp h = leads_end s t y w o (RowExists k) h.1
@@ -445,7 +445,7 @@ ended_lead s t y w o (NotPinned n) kp h = leads_end s t y w o (NotPinned n) h.1
 
 -- such a refusal is the machine's end of a transaction
 pub is_abort : (s : CoreState) (t : ℕ) (y : Handle) (w : WorkState) → HasOpen s t y w → (x : Refusal)
-    → keeps_open x ≡ false → IsRefused s.engine y w.request w.position x
+    → keeps_open x ≡ false → IsStageRefusal s.engine y w.request w.position x
     → refusal_in (step.Advance t) x ≡ Aborted x
 is_abort s t y w o (NoSuchRow k) kp h = refl
 is_abort s t y w o (RowExists k) kp h = refl
@@ -489,7 +489,7 @@ kept_world w v t (NotPinned n) kp next = let no : ⊥ = cc in absurd no
 -- it was refused, and stays open where it stands
 pub kept_here : {s : CoreState} {t : ℕ} {y : Handle} {w : WorkState} → HasOpen s t y w
     → (w' : WorkState) (e' : engine.EngineState) (ws : List (Option WorkState)) (x : Refusal)
-    → keeps_open x ≡ true → IsRefused s.engine y w.request w.position x
+    → keeps_open x ≡ true → IsStageRefusal s.engine y w.request w.position x
     → view_of e' ≡ view_of s.engine → e'.name ≡ s.engine.name → w' ≡ w
     → ws ≡ slice_set s.works t (Some w')
     → Moves s (Advance t) (refusal_in (step.Advance t) x) (record { engine = e'; txs = s.txs; works = ws })
@@ -517,7 +517,7 @@ kept_here {s} {t} {y} {w} h w' e' ws x kept why b name same q =
 pub given_up_here : {s : CoreState} {t : ℕ} {y : Handle} {w : WorkState} → HasOpen s t y w → (out : Handle) → out ≡ y
     → (e' e'' : engine.EngineState) (xs : List (Option Handle)) (ws : List (Option WorkState)) (z : Option WorkState)
     (x : Refusal)
-    → keeps_open x ≡ false → IsRefused s.engine y w.request w.position x
+    → keeps_open x ≡ false → IsStageRefusal s.engine y w.request w.position x
     → view_of e' ≡ view_of s.engine → e'.name ≡ s.engine.name → view_of e'' ≡ after_rollback out.terminal (view_of e')
     → e''.name ≡ e'.name
     → xs ≡ slice_set s.txs t None → ws ≡ slice_set s.works t z

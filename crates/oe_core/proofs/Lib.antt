@@ -1,5 +1,6 @@
 pub mod SlotFacts
 mod LastFacts
+mod LentFacts
 pub mod MoveFacts
 pub mod BeginFacts
 mod WantFacts

@@ -236,14 +236,12 @@ impl Core {
     /// `TooOld` with the horizon, `Future` with the newest moment: the moment is not between the
     /// two.
     #[inline(never)]
-    fn audit(&self, condition: Condition, moment: Moment) -> Answer
+    pub fn audit(&self, condition: Condition, moment: Moment) -> Answer
         ensures { Carries (world_of self.now) (Step.Audit condition moment) result
             (world_of self.now) }
     {
-        let tables = self.engine.tables();
-        let undo = self.engine.undo();
-        match oe_audit::condition_at(condition, tables, undo, moment) {
-            Ok(verdict) => Answer::Audited(verdict),
+        match self.engine.version(moment) {
+            Ok(version) => Answer::Audited(oe_audit::condition_at(condition, version)),
             Err(cause) => Answer::Refused(cause),
         }
     }
@@ -258,15 +256,14 @@ impl Core {
         ensures { Carries (world_of self.now) (Step.Read moment query.now) result
             (world_of self.now) }
     {
-        let names_stand = self.engine.names_stand(moment);
-        match oe_enquiry::answer(
-            self.engine.tables(),
-            self.engine.undo(),
-            query,
-            moment,
-            names_stand,
-        ) {
-            Ok(reply) => Answer::Replied(reply),
+        if let Some(cause) = oe_enquiry::rejection(self.engine.tables(), query) {
+            return Answer::Refused(cause);
+        }
+        match self.engine.version(moment) {
+            Ok(version) => match oe_enquiry::answer(&version, query) {
+                Ok(reply) => Answer::Replied(reply),
+                Err(cause) => Answer::Refused(cause),
+            },
             Err(cause) => Answer::Refused(cause),
         }
     }
@@ -323,8 +320,10 @@ impl Core {
     }
 
     /// Moves the mark of the terminal's transaction to where it stands.
+    ///
+    /// `NotOpen`: it has none. Nothing has changed then.
     #[inline(never)]
-    fn save(&mut self, terminal: Terminal) -> Answer
+    pub fn save(&mut self, terminal: Terminal) -> Answer
         ensures { Carries (world_of self.old) (Step.Save terminal) result (world_of self.new) }
     {
         let Some(tx) = self.txs.at(terminal) else {
@@ -338,8 +337,10 @@ impl Core {
     }
 
     /// Takes the terminal's transaction back to its mark; it keeps its locks.
+    ///
+    /// `NotOpen`: it has none. Nothing has changed then.
     #[inline(never)]
-    fn back(&mut self, terminal: Terminal) -> Answer
+    pub fn back(&mut self, terminal: Terminal) -> Answer
         ensures { Carries (world_of self.old) (Step.Back terminal) result (world_of self.new) }
     {
         let Some(tx) = self.txs.at(terminal) else {
@@ -429,7 +430,7 @@ impl Core {
     /// `NotQuiet` with the number of open transactions. `TooOld` with the horizon, `Future` with
     /// the newest moment: the moment is not between the two. The first of these is named.
     #[inline(never)]
-    fn rewind(&mut self, moment: Moment) -> Answer
+    pub fn rewind(&mut self, moment: Moment) -> Answer
         ensures { Carries (world_of self.old) (Step.Rewind moment) result (world_of self.new) }
     {
         if let Err(cause) = self.engine.rewind(moment) {

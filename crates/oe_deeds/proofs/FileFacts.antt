@@ -1,9 +1,7 @@
--- Texts behind fronts, and behind texts that were sent.
+-- Texts behind fronts.
 use Rattle.std.proofs.Common.{◌≡◌, ℕ, ◌+◌, ◌-◌, List, [], ◌∷◌, ◌++◌, length, take, drop, codes, sym, ap, ◌∙◌, refl}
-use Rattle.std.proofs.Common.{append_assoc, arith, Option, Result, Ok, Err}
+use Rattle.std.proofs.Common.{append_assoc, arith}
 use Rattle.std.proofs.lemmas.List.{length-append, take_all}
-use Rattle.oe_io.specs.Ports.{Sink, Sent, Streams}
-use Rattle.oe_io.proofs.Streaming.{sent_then, sent_cut}
 use Rattle.oe_requests.specs.declared.replies.Reply.{Reply}
 use Rattle.oe_requests.specs.declared.answers.Answer.TheVariants as answer
 use Rattle.oe_texts.specs.Answer.{answer_line}
@@ -35,9 +33,3 @@ reply_framed line front before begun m y z none same is empty made =
     ∙ append_assoc (commit_front m) (reply_text y) (codes "\n")
     ∙ ap (λ (r : Reply). commit_front m ++ reply_line r) same
     ∙ ap (λ (x : List ℕ). x ++ reply_line z) (sym (made ∙ ap (λ (x : List ℕ). x ++ commit_front m) empty))
-
--- one text behind another that was sent
-pub streams_then : {T E : Type 0} (a b c : Option Sink) (h i j t u : List ℕ) (r : Result T E) → Sent a h b i t
-    → Streams b i c j u r → Streams a h c j (t ++ u) r
-streams_then a b c h i j t u (Ok x) p q = sent_then a b c h i j t u p q
-streams_then a b c h i j t u (Err e) p q = sent_cut a b c h i t u p q

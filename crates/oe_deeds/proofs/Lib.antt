@@ -1,2 +1,1 @@
 pub mod FileFacts
-pub mod FrontFacts

@@ -38,13 +38,14 @@ use Rattle.oe_model.specs.Delivery.{delivery_ask, delivery_act, delivery_taken}
 use Rattle.oe_engine.specs.View.{EngineState, View, view_of, Handle, IsOpen}
 use Rattle.oe_engine.specs.Stages.{HoldsAll}
 use Rattle.oe_engine.specs.Writes.{change_written}
-use Rattle.oe_engine.specs.Programs.{ask_here, act_here, GoesOn, IsReady, IsRefused, district_reply}
+use Rattle.oe_engine.specs.Programs.{ask_here, act_here, GoesOn, IsReady, IsStageRefusal, district_reply}
 use Rattle.oe_engine.specs.declared.programs.Progress.{Progress}
 use Rattle.oe_engine.specs.declared.programs.Progress.TheVariants as progress
 use Rattle.oe_delivery.specs.Remainder.{Left, remainder_of}
 use Rattle.oe_delivery.specs.Program.{customer_position, line_position, position_of}
 use Rattle.oe_delivery.specs.Stages.{Advances, Steps}
 use Rattle.oe_delivery.specs.declared.programs.Program.{Program}
+use Rattle.oe_engine.proofs.HeldFacts.{alone}
 
 -- a row whose columns are in their ranges goes on with the stage after it
 goes_within : {A : Type 0} (out : A → Option Column) (x : A) (d : A → Doing) (after : A)
@@ -194,17 +195,11 @@ steps_on q x s p b progress.More s' b' at h =
     subst (λ z. GoesOn s x (request.Delivery q) (InDelivery q z) s' (InDelivery q (position_of b'))) (sym at) h
 steps_on q x s p b progress.Ready s' b' at h = absurd h
 steps_on q x s p b (progress.Refused e) s' b' at h = (
-  subst (λ z. IsRefused s x (request.Delivery q) (InDelivery q z) e) (sym at) h.0,
+  subst (λ z. IsStageRefusal s x (request.Delivery q) (InDelivery q z) e) (sym at) h.0,
   h.1,
   h.2,
   ap (λ c. InDelivery q (position_of c)) h.3,
 )
-
--- the order's name is held alone at its lines
-alone : (o : Option theory.Mode) → IsEnough o theory.Exclusive → o ≡ Some theory.Exclusive
-alone None h = absurd h
-alone (Some theory.Exclusive) h = refl
-alone (Some theory.Shared) h = absurd h
 
 pub order_held : (v : View) (t : ℕ) (q : DeliveryRequest) (l : Left) → HoldsAll v t (delivery_taken q (line_position l))
     → v.held t (name.Order (order_in q.district l.order)) ≡ Some theory.Exclusive

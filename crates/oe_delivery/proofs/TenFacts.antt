@@ -31,7 +31,7 @@ use Rattle.oe_model.specs.Delivery.{delivered_out}
 use Rattle.oe_model.specs.Deliveries.{at_hand, after_done, among_ten}
 use Rattle.oe_model.specs.System.{system, yields}
 use Rattle.oe_engine.specs.View.{EngineState, Handle}
-use Rattle.oe_engine.specs.Programs.{district_reply, GoesOn, Ends, IsFullHere, WantsMemory, IsRefused, IsReady}
+use Rattle.oe_engine.specs.Programs.{district_reply, GoesOn, Ends, IsFullHere, WantsMemory, IsStageRefusal, IsReady}
 use Rattle.oe_engine.specs.View.{IsOpen}
 use Rattle.oe_delivery.specs.Deliveries.{Course, place_of, next_district}
 
@@ -231,8 +231,8 @@ module _ (s : EngineState) (x : Handle) (ten : DeliveriesRequest) (done : List D
   wants_among N (inl h) = inl h
   wants_among N (inr h) = let go = same_go _ _ (Some h.0) h.1 (acts_same t q p rows) h.2 in inr (h.0, go.0, go.1, h.3)
 
-  pub refused_among : (e : Refusal) → IsRefused s x (request.Delivery q) (InDelivery q p) e
-      → IsRefused s x (request.Deliveries ten) (InDeliveries ten done p) e
+  pub refused_among : (e : Refusal) → IsStageRefusal s x (request.Delivery q) (InDelivery q p) e
+      → IsStageRefusal s x (request.Deliveries ten) (InDeliveries ten done p) e
   refused_among NotOpen h = h
   refused_among (Busy n u) h = h
   refused_among UndoFull h = (h.0, h.1, full_among h.2)
@@ -326,10 +326,10 @@ module _ (s : EngineState) (x : Handle) (ten : DeliveriesRequest) (c : Course) w
 
   -- it was refused
   pub refused : (d : DeliveryRequest) → Some d ≡ next_district ten c → (e : Refusal)
-      → IsRefused s x (request.Delivery d) (InDelivery d c.district) e
-      → IsRefused s x (request.Deliveries ten) (place_of ten c) e
+      → IsStageRefusal s x (request.Delivery d) (InDelivery d c.district) e
+      → IsStageRefusal s x (request.Deliveries ten) (place_of ten c) e
   refused d h e r =
-      subst (λ (b : Bool). IsRefused s x (request.Deliveries ten) (place b) e) (sym (not_all d h))
+      subst (λ (b : Bool). IsStageRefusal s x (request.Deliveries ten) (place b) e) (sym (not_all d h))
       (refused_among s x ten c.done c.district e
-      (subst (λ (q : DeliveryRequest). IsRefused s x (request.Delivery q) (InDelivery q c.district) e)
+      (subst (λ (q : DeliveryRequest). IsStageRefusal s x (request.Delivery q) (InDelivery q c.district) e)
       (is_at_hand d h) r))

@@ -6,7 +6,7 @@ use Rattle.oe_model.specs.Positions.{DeliveryPosition, InDelivery}
 use Rattle.oe_model.specs.Delivery.{delivery_taken}
 use Rattle.oe_engine.specs.View.{EngineState, view_of, Handle}
 use Rattle.oe_engine.specs.Stages.{HoldsAll}
-use Rattle.oe_engine.specs.Programs.{GoesOn, IsRefused, Progresses}
+use Rattle.oe_engine.specs.Programs.{GoesOn, IsStageRefusal, Progresses}
 use Rattle.oe_engine.specs.declared.programs.Progress.{Progress}
 use Rattle.oe_engine.specs.declared.programs.Progress.TheVariants as progress
 use Rattle.oe_delivery.specs.Program.{position_of}
@@ -29,5 +29,5 @@ Steps q x s p b progress.More s' b' =
     GoesOn s x (request.Delivery q) (InDelivery q p) s' (InDelivery q (position_of b'))
 Steps q x s p b progress.Ready s' b' = ⊥
 Steps q x s p b (progress.Refused e) s' b' =
-    IsRefused s x (request.Delivery q) (InDelivery q p) e × (view_of s' ≡ view_of s)
+    IsStageRefusal s x (request.Delivery q) (InDelivery q p) e × (view_of s' ≡ view_of s)
     × (s'.name ≡ s.name) × (b' ≡ b)

@@ -13,7 +13,7 @@ use oe_model::conditions_hold;
 use oe_numbers::DriveNumbers;
 use oe_population::populate;
 use oe_report::{are_same, first_failing};
-use oe_requests::{Condition, Step};
+use oe_requests::Condition;
 use oe_store::Tables;
 use oe_values::{Moment, NoMemory};
 use std::alloc::Global;
@@ -31,7 +31,7 @@ fn rewound(core: Core) -> Tables
 {
     let mut core = core;
     let start = Moment::new(0).unwrap();
-    let _rewound = core.step(Step::Rewind(start));
+    let _rewound = core.rewind(start);
     core.close()
 }
 

@@ -29,6 +29,13 @@ use Rattle.oe_engine.specs.Covered.{SamePart, OwnsParts}
 use Rattle.oe_writes.specs.Kinds.{is_rename}
 use Rattle.oe_engine.specs.Writes.{HoldsBeside}
 use Rattle.oe_engine.proofs.RenameFacts.{of_row, same_name, changed_named}
+use Rattle.oe_theory.specs.World.{IsEnough}
+
+-- a name that is held in a mode that is enough to write is held alone
+pub alone : (o : Option theory.Mode) → IsEnough o theory.Exclusive → o ≡ Some theory.Exclusive
+alone None h = absurd h
+alone (Some theory.Exclusive) h = refl
+alone (Some theory.Shared) h = absurd h
 
 abbrev is_text : List ℕ → List ℕ → Bool
 is_text a b = eq_by_cmp (slice_cmp nat_cmp) a b

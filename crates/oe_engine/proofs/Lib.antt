@@ -9,7 +9,7 @@ mod NeededFacts
 pub mod LockFacts
 pub mod LogFacts
 pub mod MakeFacts
-mod HeldFacts
+pub mod HeldFacts
 mod PutFacts
 mod FullFacts
 pub mod PastFacts

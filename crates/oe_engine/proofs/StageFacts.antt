@@ -18,7 +18,7 @@ use Rattle.oe_model.specs.System.{system, yields}
 use Rattle.oe_engine.specs.View.{EngineState, view_of, Handle, IsOpen}
 use Rattle.oe_engine.specs.Calls.{IsFree, IsFullFor, IsFullForAny, after_stage, AcceptsAll}
 use Rattle.oe_engine.specs.Calls.{StageRefused, WantsPlace}
-use Rattle.oe_engine.specs.Programs.{ask_here, act_here, GoesOn, WantsMemory, IsRefused}
+use Rattle.oe_engine.specs.Programs.{ask_here, act_here, GoesOn, WantsMemory, IsStageRefusal}
 use Rattle.oe_change.specs.declared.writes.Write.{Write}
 use Rattle.oe_engine.specs.Writes.{change_written, WantsRow, IsMade, Writes}
 use Rattle.oe_engine.specs.Stages.{Does}
@@ -63,7 +63,7 @@ module _ (s : EngineState) (x : Handle) (c : Change) where
 with_change : (s : EngineState) (x : Handle) (q : Request) (p p' : Position) (c : Change)
     → act_here s x q p ≡ Go (Some c) p'
     → (e : Refusal) → IsRoom s x c (ask_here s x q p) e → StageRefused s x (ask_here s x q p) (Some c) e
-    → IsRefused s x q p e
+    → IsStageRefusal s x q p e
 with_change s x q p p' c does NotOpen room h = h
 with_change s x q p p' c does (Busy n u) room h = h
 with_change s x q p p' c does UndoFull room (o, f, some) = (o, f, (c, p', does, room.1 refl))
@@ -89,7 +89,8 @@ with_change s x q p p' c does (NotPinned n) room (o, f, why) = (o, inr (inr (f, 
 
 pub refused_change : (s : EngineState) (x : Handle) (a : Ask Name Refusal) (c : Change) (e : Refusal) → IsRoom s x c a e
     → StageRefused s x a (Some c) e
-    → (q : Request) (p p' : Position) → ask_here s x q p ≡ a → act_here s x q p ≡ Go (Some c) p' → IsRefused s x q p e
+    → (q : Request) (p p' : Position) → ask_here s x q p ≡ a → act_here s x q p ≡ Go (Some c) p'
+    → IsStageRefusal s x q p e
 refused_change s x a c e room h q p p' asks does =
     with_change s x q p p' c does e (subst (λ b. IsRoom s x c b e) (sym asks) room)
     (subst (λ b. StageRefused s x b (Some c) e) (sym asks) h)

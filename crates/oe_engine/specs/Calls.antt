@@ -106,13 +106,6 @@ ChangeRefused c r UndoFull = Unit {0}
 ChangeRefused c r NoMemory = Unit {0}
 ChangeRefused c r e = Cause c r e
 
--- why a lock with a change is refused
-abbrev pub PairRefused : View → ℕ → Name → theory.Mode → Change → Refusal → Type 0
-PairRefused v t n m c (Busy name u) = LockRefused v t n m (Busy name u)
-PairRefused v t n m c UndoFull = IsFree v t (Take n m)
-PairRefused v t n m c NoMemory = IsFree v t (Take n m)
-PairRefused v t n m c e = IsFree v t (Take n m) × Cause c v.rows e
-
 -- one mode is below another, where none is below Shared, and Shared below Exclusive
 abbrev pub IsBelow : Option theory.Mode → Option theory.Mode → Type 0
 IsBelow None (Some m) = Unit {0}

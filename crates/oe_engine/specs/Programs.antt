@@ -117,20 +117,20 @@ WantsMemory s x q p = (c : Change) × (p' : Position) × (act_here s x q p ≡ G
     × WantsPlace (Some c) s.tables
 
 -- why a stage was refused
-abbrev pub IsRefused : EngineState → Handle → Request → Position → Refusal → Type 0
-IsRefused s x q p NotOpen = IsOpen s x → ⊥
-IsRefused s x q p (Busy n u) = IsOpen s x
+abbrev pub IsStageRefusal : EngineState → Handle → Request → Position → Refusal → Type 0
+IsStageRefusal s x q p NotOpen = IsOpen s x → ⊥
+IsStageRefusal s x q p (Busy n u) = IsOpen s x
     × ((m : theory.Mode) × (ask_here s x q p ≡ Take n m) × IsInTheWay (view_of s) x.terminal n m u)
-IsRefused s x q p UndoFull = IsOpen s x × IsFreeHere s x q p × IsFullHere s x q p
-IsRefused s x q p NoMemory =
+IsStageRefusal s x q p UndoFull = IsOpen s x × IsFreeHere s x q p × IsFullHere s x q p
+IsStageRefusal s x q p NoMemory =
     IsOpen s x × IsFreeHere s x q p
     × (IsNew system ((view_of s).held x.terminal) (ask_here s x q p) ⊎ WantsMemory s x q p)
     × GivesWay system (yields p) (act_here s x q p)
-IsRefused s x q p e = IsOpen s x × Ends s x q p e
+IsStageRefusal s x q p e = IsOpen s x × Ends s x q p e
 
 -- one stage of a program that carries out this request, from a position and an engine to a position and an engine
 abbrev pub Progresses : Request → Handle → EngineState → Position → Progress → EngineState → Position → Type 0
 Progresses q x s p progress.More s' p' = GoesOn s x q p s' p'
 Progresses q x s p progress.Ready s' p' = ((y : Reply) × IsReady s x q p y) × (s' ≡ s) × (p' ≡ p)
-Progresses q x s p (progress.Refused e) s' p' = IsRefused s x q p e × (view_of s' ≡ view_of s) × (s'.name ≡ s.name)
+Progresses q x s p (progress.Refused e) s' p' = IsStageRefusal s x q p e × (view_of s' ≡ view_of s) × (s'.name ≡ s.name)
     × (p' ≡ p)

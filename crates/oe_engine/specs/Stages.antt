@@ -15,7 +15,7 @@ use Rattle.oe_engine.specs.View.{EngineState, View, Handle}
 use Rattle.oe_writes.specs.declared.locks.Lock.{Lock}
 use Rattle.oe_writes.specs.Asks.{ask_of}
 use Rattle.oe_engine.specs.Calls.{IsFree, IsBusy}
-use Rattle.oe_engine.specs.Programs.{ask_here, act_here, GoesOn, IsRefused}
+use Rattle.oe_engine.specs.Programs.{ask_here, act_here, GoesOn, IsStageRefusal}
 
 -- the refusals that a stage fails with
 abbrev pub is_failure : Refusal → Bool
@@ -29,7 +29,7 @@ is_failure _ = false
 abbrev pub IsFailure : EngineState → Handle → Lock → Refusal → Refusal → Type 0
 IsFailure s x l f e =
     (q : Request) (p : Position) → ask_here s x q p ≡ Take l.name (mode_of l.mode) → act_here s x q p ≡ Fail f
-    → IsRefused s x q p e
+    → IsStageRefusal s x q p e
 
 -- it is refused with that where the lock is free, and else it is told who is in the way
 abbrev pub FailsBeside : View → ℕ → Lock → Refusal → Refusal → Type 0
@@ -41,7 +41,7 @@ abbrev pub Does : EngineState → Handle → Ask Name Refusal → Option Change 
 Does s x a c (Ok u) s' = (q : Request) (p p' : Position) → ask_here s x q p ≡ a → act_here s x q p ≡ Go c p'
     → GoesOn s x q p s' p'
 Does s x a c (Err e) s' = (q : Request) (p p' : Position) → ask_here s x q p ≡ a → act_here s x q p ≡ Go c p'
-    → IsRefused s x q p e
+    → IsStageRefusal s x q p e
 
 -- a terminal holds each of these names in its mode, or in a higher one
 abbrev pub HoldsAll : View → ℕ → List (Hold Name) → Type 0

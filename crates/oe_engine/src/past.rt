@@ -1,9 +1,9 @@
-//! Commits that a purge forgets or a rewind undoes, and whether customers had their names before
-//! them. Nothing takes memory; a purge or a rewind that is refused changes nothing.
-ghost use Rattle.std.specs.Prelude.{◌≡◌, IsTrue, IfErr, OnOk, OnErr};
+//! Versions of moments, and commits that a purge forgets or a rewind undoes. Nothing takes memory;
+//! a purge or a rewind that is refused changes nothing.
+ghost use Rattle.std.specs.Prelude.{◌≡◌, IfOk, IfErr, OnOk, OnErr};
 ghost use Rattle.oe_log.specs.Moments.{IsOutside};
+ghost use Rattle.oe_log.specs.Moments as log;
 ghost use Rattle.oe_journal.specs.GivesUp.{GivesUpDeleted};
-ghost use Rattle.oe_engine.specs.Renames.{NamesStand};
 ghost use Rattle.oe_engine.specs.View.{view_of};
 ghost use Rattle.oe_engine.specs.Calls.{newest, horizon, records_up_to, IsQuiet, IsKeptMoment, CantRewind, after_purge, after_rewind};
 
@@ -11,15 +11,23 @@ use crate::engine::Engine;
 use crate::renames::Renames;
 use oe_requests::Refusal;
 use oe_values::Moment;
+use oe_versions::Version;
 
 impl Engine {
-    /// Tells whether each customer had the names at a moment that it has now, as far as is known
-    /// without a look at rows or records: no open transaction may be renaming one, and none that
-    /// has ended since was.
-    pub fn names_stand(&self, moment: Moment) -> bool
-        ensures { IsTrue result → NamesStand self.now moment }
+    /// Gives the version of a moment: the tables as the commits up to it left them, whatever is
+    /// open. It finds customers by last name as they are found now where no transaction that is
+    /// open, and none that has ended since, may have renamed one.
+    ///
+    /// `TooOld` with the oldest, `Future` with the newest moment: the moment is not between the
+    /// two.
+    pub fn version(&self, moment: Moment) -> Result<Version<'_>, Refusal>
+        ensures version { IfOk result (λ v. v
+            ≡ record { tables = self.now.tables; log = self.now.undo; moment = moment }) }
+        ensures kept { OnOk result (log.IsKeptMoment self.now.undo moment) }
+        ensures refusal { IfErr result (log.IsUnkept self.now.undo moment) }
     {
-        self.renames.stand(moment)
+        let names_stand = self.renames.stand(moment);
+        Version::at(&self.tables, &self.undo, moment, names_stand)
     }
 
     /// Forgets the commits up to a moment, which becomes the oldest that can be read. All rows,

@@ -1,7 +1,6 @@
 -- What was found makes an answer, and what was not found a refusal.
-use Rattle.std.proofs.Common.{◌≡◌, ℕ, Option, None, Some, List, length, inl, inr, refl, sym, ap, subst, ◌∙◌}
-use Rattle.std.specs.Prelude.{ℤ, option_map, Result, IfOk, IfErr}
-use Rattle.std.proofs.lemmas.Result.{IfOk-weaker, IfErr-weaker}
+use Rattle.std.proofs.Common.{◌≡◌, ℕ, Option, None, Some, List, length, refl, sym, ap, subst, ◌∙◌}
+use Rattle.std.specs.Prelude.{ℤ, option_map}
 use Rattle.std.specs.FinMap.{FinMap, get}
 use Rattle.oe_theory.specs.Machine.{Outcome, Here, Missing}
 use Rattle.oe_rows.specs.Key.{customer_cmp}
@@ -14,7 +13,6 @@ use Rattle.oe_requests.specs.declared.requests.CustomerChoice.{CustomerChoice}
 use Rattle.oe_requests.specs.declared.requests.CustomerChoice.TheVariants.{Number, LastName}
 use Rattle.oe_requests.specs.declared.requests.StatusQuery.{StatusQuery}
 use Rattle.oe_requests.specs.declared.requests.LevelQuery.{LevelQuery}
-use Rattle.oe_requests.specs.declared.requests.Query.{Query}
 use Rattle.oe_requests.specs.declared.replies.OrderStatus.{OrderStatus}
 use Rattle.oe_requests.specs.declared.replies.QueryReply.{QueryReply}
 use Rattle.oe_requests.specs.declared.replies.QueryReply.TheVariants as told
@@ -22,17 +20,11 @@ use Rattle.oe_requests.specs.declared.refusals.Refusal.{Refusal}
 use Rattle.oe_requests.specs.declared.refusals.Refusal.TheVariants.{NoSuchRow, NoCustomer}
 use Rattle.oe_model.specs.Keys.{customer_in}
 use Rattle.oe_model.specs.Rows.{Rows}
-use Rattle.oe_model.specs.Requests.{query_rejection}
 use Rattle.oe_model.specs.Choice.{customer_meant}
-use Rattle.oe_model.specs.Queries.{reply_with, status_of, last_order, order_status, stock_level, answer_of}
+use Rattle.oe_model.specs.Queries.{reply_with, status_of, last_order, order_status, stock_level}
 use Rattle.oe_model.specs.Rules.{AreLow}
 use Rattle.oe_model.proofs.PresenceFacts.{mapped_absent}
-use Rattle.oe_store.specs.Places.{rows}
-use Rattle.oe_store.specs.Places as tables
-use Rattle.oe_log.specs.Log.{SegmentLog}
-use Rattle.oe_log.specs.Moments.{IsKeptMoment, IsUnkept}
-use Rattle.oe_versions.specs.Versions.{VersionState, rows_of}
-use Rattle.oe_enquiry.specs.Reply.{customer_asked, IsReply, IsRefused}
+use Rattle.oe_enquiry.specs.Reply.{customer_asked}
 use Rattle.oe_enquiry.proofs.LevelFacts.{level_told}
 
 -- go on where there is a value
@@ -120,41 +112,6 @@ pub no_district : (q : LevelQuery) (r : Rows)
 no_district q r h =
     on_none (NoSuchRow (key.District q.district)) (get r.districts q.district) _
     (no_row_of (λ (x : District). x.next_order) (get r.districts q.district) h)
-
--- what is answered of a version is answered of its moment
-module _ (q : Query) (ts : tables.Places) (u : SegmentLog) (m : ℕ) (s : VersionState) where
-  abbrev IsAt : Type 0
-  IsAt = s ≡ record { tables = ts; log = u; moment = m }
-
-  pub is_reply : (f : QueryReply) → None ≡ query_rejection q (rows ts) → IsKeptMoment u m → IsAt
-      → answer_of q (rows_of s) ≡ Here f → IsReply q ts u m f
-  is_reply f w i e h = record {
-    warehouse = sym w;
-    readable = i;
-    answer = sym (ap (λ v. answer_of q (rows_of v)) e)
-        ∙ h;
-  }
-
-  pub is_missing : (r : Refusal) → None ≡ query_rejection q (rows ts) → IsKeptMoment u m → IsAt
-      → answer_of q (rows_of s) ≡ Missing r → IsRefused q ts u m r
-  is_missing r w i e h = inr (sym w, inr (i, sym (ap (λ v. answer_of q (rows_of v)) e) ∙ h))
-
-  pub all_replies : (r : Result QueryReply Refusal) → None ≡ query_rejection q (rows ts) → IsKeptMoment u m → IsAt
-      → IfOk r (λ f. answer_of q (rows_of s) ≡ Here f) → IfOk r (λ f. IsReply q ts u m f)
-  all_replies r w i e h =
-      IfOk-weaker r (λ f. answer_of q (rows_of s) ≡ Here f) (λ f. IsReply q ts u m f) (λ f. is_reply f w i e) h
-
-  pub all_missing : (r : Result QueryReply Refusal) → None ≡ query_rejection q (rows ts) → IsKeptMoment u m → IsAt
-      → IfErr r (λ x. answer_of q (rows_of s) ≡ Missing x) → IfErr r (λ x. IsRefused q ts u m x)
-  all_missing r w i e h =
-      IfErr-weaker r (λ x. answer_of q (rows_of s) ≡ Missing x) (λ x. IsRefused q ts u m x) (λ x. is_missing x w i e) h
-
-module _ (q : Query) (ts : tables.Places) (u : SegmentLog) (m : ℕ) (e : Refusal) where
-  pub is_rejected : Some e ≡ query_rejection q (rows ts) → IsRefused q ts u m e
-  is_rejected h = inl (sym h)
-
-  pub is_outside : None ≡ query_rejection q (rows ts) → IsUnkept u m e → IsRefused q ts u m e
-  is_outside w h = inr (sym w, inl h)
 
 pub level_counted : (q : LevelQuery) (r : Rows) (next : ℕ) (items : List ℕ) (n : ℕ)
     → Some next ≡ option_map (λ (x : District). x.next_order) (get r.districts q.district)

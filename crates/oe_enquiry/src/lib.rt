@@ -11,5 +11,5 @@ pub mod status;
 mod warehouses;
 
 pub use level::stock_level;
-pub use queries::answer;
+pub use queries::{answer, rejection};
 pub use status::order_status;

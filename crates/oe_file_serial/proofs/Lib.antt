@@ -5,7 +5,6 @@ mod ToldFacts
 mod RingFacts
 mod BadFacts
 mod ReasonFacts
-mod ListFacts
 mod ChangeFacts
 mod AloneFacts
 mod AloneLaw

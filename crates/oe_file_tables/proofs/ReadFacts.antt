@@ -5,12 +5,9 @@ use Rattle.std.proofs.Common.{append_assoc, arith}
 use Rattle.std.specs.Prelude.{All, ⊤, Result, Ok, Err}
 use Rattle.oe_io.specs.Ports.{Source, Reads}
 use Rattle.std.specs.List.{flat_map}
-use Rattle.std.proofs.lemmas.List.{append-nil, length_push, drop_more, get_or-take, get_or_default, length-take-le}
-use Rattle.std.proofs.lemmas.List.{take-append-drop}
+use Rattle.std.proofs.lemmas.List.{append-nil, length_push}
 use Rattle.std.proofs.lemmas.List.Elements.{All-push, All-append}
 use Rattle.std.proofs.lemmas.Grind.{flat_map-append}
-use Rattle.std.proofs.lemmas.Bool.{eqb-true, eq-eqb}
-use Rattle.memchr.specs.Find.{IsFirstByte, Nowhere, Passes, is_byte}
 use Rattle.oe_rows.specs.declared.keys.Table.{Table}
 use Rattle.oe_file_tables.specs.declared.faults.TableFault.{TableFault}
 use Rattle.oe_file_tables.specs.declared.faults.Wrong.{Wrong}
@@ -23,7 +20,9 @@ use Rattle.oe_file_tables.specs.declared.lines.Reading as reading
 use Rattle.oe_file_tables.specs.Fault.{Told, in_64_bits, with_fault, with_faults}
 use Rattle.oe_file_tables.specs.Format.{text_in, heads, null_place, spelled_as}
 use Rattle.oe_file_tables.specs.Record.{line_of}
-use Rattle.oe_file_tables.specs.Lines.{IsInLine, with_line_end, with_last, said_of, IsWrong, counts, Taken, Begins}
+use Rattle.oe_filelines.specs.Lines.{IsInLine, with_line_end, with_last}
+use Rattle.oe_filelines.proofs.LineFacts.{all_none, not_begun}
+use Rattle.oe_file_tables.specs.Lines.{said_of, IsWrong, counts, Taken, Begins}
 use Rattle.oe_file_tables.specs.Lines.{TakesRow}
 use Rattle.oe_file_tables.specs.Lines.{TakesHeading, TakesCount, TakesFault, Stands, Holds, AreAll}
 use Rattle.oe_file_tables.specs.Tables.{TableReadAs, TableRead, ReadWellAs, ReadWell}
@@ -157,31 +156,7 @@ module _ {K X : Type 0} (spells : ℕ → List ℕ → K × X → Type 0) (table
         h.1,
       ))
 
--- ---- where a line ends in a piece
-
-front_in_line : (p : List ℕ) (n : ℕ) → n ≤ length p → Nowhere (Passes (is_byte 10) p) 0 n → IsInLine (take n p)
-front_in_line p n fits none = λ k d h e.
-    let len : length (take n p) ≡ n = length-take-le n p fits in
-    let below : k < n = omega (arith, h, len) in
-    let inside : k < length p = omega (arith, below, fits) in
-    none k (omega arith) below
-    (eq-eqb (get_or p k 0) 10 (get_or_default p k 0 d inside ∙ sym (get_or-take n p k d below) ∙ e))
-
-pub no_end : (p : List ℕ) → IsFirstByte (is_byte 10) p None → IsInLine p
-no_end p none = λ k d h e. none k (omega arith) h (eq-eqb (get_or p k 0) 10 (get_or_default p k 0 d h ∙ e))
-
-pub before_end : (p : List ℕ) (n : ℕ) → IsFirstByte (is_byte 10) p (Some n) → IsInLine (take n p)
-before_end p n first = front_in_line p n (omega (arith, first.0.high)) first.0.before
-
-pub with_end : (p : List ℕ) (n : ℕ) → IsFirstByte (is_byte 10) p (Some n) → p ≡ take n p ++ 10 ∷ drop (n + 1) p
-with_end p n first =
-    sym (take-append-drop n p) ∙ ap (λ z. take n p ++ z) (drop_more p n 0 first.0.high)
-    ∙ ap (λ b. take n p ++ b ∷ drop (n + 1) p) (eqb-true (get_or p n 0) 10 first.1)
-
 -- ---- the input so far
-
-all_none : {A : Type 0} (P : A → Type 0) → All P []
-all_none P k d h = absurd (omega (arith, h))
 
 module _ {K X : Type 0} (format : Format) (spells : ℕ → List ℕ → K × X → Type 0) (table : Table) where
   pub standing_start : (start : Told TableFault) (r : reading.Reading K X) → r.lot.rows ≡ [] → r.lot.count ≡ 0
@@ -261,10 +236,6 @@ module _ {K X : Type 0} (format : Format) (spells : ℕ → List ℕ → K × X 
         s.stands.2,
       )
 
-  not_begun : (held : List ℕ) (o : Bool) → Holds held o [] → (o ≡ false → 0 < length held) → ⊥
-  not_begun held true h begun = omega (arith, h)
-  not_begun held false h begun = omega (arith, begun refl, ap length h.0)
-
   pub finished_line : (start : Told TableFault) (input : List ℕ) (r r' : reading.Reading K X)
       (told told' : Told TableFault) → (r.over ≡ false → 0 < length r.line.items)
       → ((line : List ℕ) → Holds r.line.items r.over line → (start : Told TableFault) (ls : List (List ℕ))
@@ -275,7 +246,7 @@ module _ {K X : Type 0} (format : Format) (spells : ℕ → List ℕ → K × X 
   finished_line start input r r' told told' begun takes s = by_line s.line refl
     where
       by_line : (line : List ℕ) → s.line ≡ line → Finished format spells table start input r' told'
-      by_line [] e = absurd (not_begun r.line.items r.over (subst (Holds r.line.items r.over) e s.holds) begun)
+      by_line [] e = absurd (not_begun 4_096 r.line.items r.over (subst (Holds r.line.items r.over) e s.holds) begun)
       by_line (b ∷ line) e =
           let stands = takes s.line s.holds start s.lines s.stands in (
             s.lines ++ s.line ∷ [],

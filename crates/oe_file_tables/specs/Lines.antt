@@ -1,11 +1,12 @@
 -- The lines of a file, and what each of them is: a row, a count of the rows before it, or a fault.
-use Rattle.std.specs.Prelude.{◌≡◌, ◌≢◌, ℕ, ◌+◌, ◌<◌, ◌≤◌, Bool, true, false, All, List, [], ◌∷◌, ◌++◌}
+use Rattle.std.specs.Prelude.{◌≡◌, ◌≢◌, ℕ, ◌+◌, ◌<◌, Bool, true, false, List, [], ◌∷◌, ◌++◌}
 use Rattle.std.specs.Prelude.{length}
 use Rattle.std.specs.Prelude.{codes, ⊤, Option, Some, None}
-use Rattle.std.specs.List.{flat_map}
 use Rattle.oe_rows.specs.declared.keys.Table.{Table}
 use Rattle.oe_values.specs.Front.{◌>>=◌, after_of, decimal_of, alone}
 use Rattle.oe_io.specs.Ports.{Source}
+use Rattle.oe_filelines.specs.Lines.{AreLines}
+use Rattle.oe_filelines.specs.Lines as lines
 use Rattle.oe_file_tables.specs.declared.faults.TableFault.{TableFault}
 use Rattle.oe_file_tables.specs.declared.faults.Wrong.{Wrong}
 use Rattle.oe_file_tables.specs.declared.faults.Wrong.TheVariants as wrong
@@ -15,27 +16,6 @@ use Rattle.oe_file_tables.specs.declared.lines.Numbered.{Numbered}
 use Rattle.oe_file_tables.specs.Fault.{Told, in_64_bits, with_faults}
 use Rattle.oe_file_tables.specs.Format.{is_returned, text_in, heads, null_place, spelled_as}
 use Rattle.oe_file_tables.specs.Record.{line_of}
-
--- byte 10 ends a line
-abbrev pub IsInLine : List ℕ → Type 0
-IsInLine line = All (λ b. b ≢ 10) line
-
-abbrev pub with_line_end : List ℕ → List ℕ
-with_line_end line = line ++ 10 ∷ []
-
--- the last line may lack its end
-abbrev pub with_last : List (List ℕ) → List ℕ → List (List ℕ)
-with_last ls [] = ls
-with_last ls (b ∷ s) = ls ++ (b ∷ s) ∷ []
-
--- the bytes are these lines
-pub record AreLines (bytes : List ℕ) (lines : List (List ℕ)) : Type 0 where
-  pub whole : List (List ℕ)
-  pub last : List ℕ
-  pub bytes_are : bytes ≡ flat_map with_line_end whole ++ last
-  pub each : All IsInLine whole
-  pub tail : IsInLine last
-  pub lines_are : lines ≡ with_last whole last
 
 -- how many rows `rows N` says there are
 unfoldable pub said_of : List ℕ → Option ℕ
@@ -121,7 +101,6 @@ module _ {K X : Type 0} (format : Format) (spells : ℕ → List ℕ → K × X 
   FileRead old new start rows told =
       (bytes : List ℕ) × AreAll old new bytes × IsRead bytes start rows told
 
--- the bytes of a line so far: held whole while they fit, and only known to be too many afterwards
+-- the bytes of a line so far, of 4,096 at most
 abbrev pub Holds : List ℕ → Bool → List ℕ → Type 0
-Holds held false line = (held ≡ line) × (length line ≤ 4_096)
-Holds held true line = 4_096 < length line
+Holds = lines.Holds 4_096

@@ -12,7 +12,8 @@ use Rattle.oe_file_tables.specs.declared.formats.Format.{Format}
 use Rattle.oe_file_tables.specs.declared.formats.Format.TheVariants as written
 use Rattle.oe_file_tables.specs.Format.{null_place, spelled_as}
 use Rattle.oe_file_tables.specs.Record.{line_of}
-use Rattle.oe_file_tables.specs.Lines.{IsInLine, with_line_end, beside_rows, Stands, Holds, IsRead}
+use Rattle.oe_filelines.specs.Lines.{IsInLine, with_line_end}
+use Rattle.oe_file_tables.specs.Lines.{beside_rows, Stands, Holds, IsRead}
 
 -- a count came that is right, or another
 abbrev pub CountsOne : Table → (headed : Bool) → ℕ → ℕ → Told TableFault → Told TableFault → Type 0

@@ -10,7 +10,8 @@ use Rattle.oe_file_tables.specs.declared.formats.Format.{Format}
 use Rattle.oe_file_tables.specs.declared.formats.Format.TheVariants as written
 use Rattle.oe_file_tables.specs.declared.lines.Numbered.{Numbered}
 use Rattle.oe_file_tables.specs.Fault.{Told, with_each_fault}
-use Rattle.oe_file_tables.specs.Lines.{AreLines, Taken, AreAll, FileRead}
+use Rattle.oe_filelines.specs.Lines.{AreLines}
+use Rattle.oe_file_tables.specs.Lines.{Taken, AreAll, FileRead}
 use Rattle.oe_file_tables.specs.Twice.{twice_in}
 
 -- A file of this format was read to its end. Its rows stand in the order of their keys; its faults are those of its

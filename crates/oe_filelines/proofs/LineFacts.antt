@@ -13,15 +13,22 @@ use Rattle.oe_filelines.specs.Lines.{IsInLine, with_line_end, with_last, AreAll,
 
 -- ---- what is held
 
-pub over_long : (held : List ℕ) (over : Bool) (line : List ℕ) → Holds held over line
+pub over_long : (held : List ℕ) (over : Bool) (line : List ℕ) → Holds 65_536 held over line
     → (over ≡ true) ⊎ (65_536 < length held) → 65_536 < length line
 over_long held true line h o = h
 over_long held false line h (inl e) = absurd (cc)
 over_long held false line h (inr l) = omega (arith, l, ap length h.0)
 
-pub held_is : (held : List ℕ) (over : Bool) (line : List ℕ) → over ≡ false → Holds held over line → held ≡ line
-held_is held true line e h = absurd (cc)
-held_is held false line e h = h.0
+pub held_is : (longest : ℕ) (held : List ℕ) (over : Bool) (line : List ℕ) → over ≡ false → Holds longest held over line
+    → held ≡ line
+held_is longest held true line e h = absurd (cc)
+held_is longest held false line e h = h.0
+
+-- a line that was begun has a byte
+pub not_begun : (longest : ℕ) (held : List ℕ) (over : Bool) → Holds longest held over []
+    → (over ≡ false → 0 < length held) → ⊥
+not_begun longest held true h begun = omega (arith, h)
+not_begun longest held false h begun = omega (arith, begun refl, ap length h.0)
 
 -- ---- where a line ends in a piece
 
@@ -46,7 +53,7 @@ with_end p n first =
 
 -- ---- the input so far
 
-all_none : {A : Type 0} (P : A → Type 0) → All P []
+pub all_none : {A : Type 0} (P : A → Type 0) → All P []
 all_none P k d h = absurd (omega (arith, h))
 
 module _ {T : Type 0} (taken : T → List (List ℕ) → T → Type 0) (start : T) where
@@ -63,7 +70,7 @@ module _ {T : Type 0} (taken : T → List (List ℕ) → T → Type 0) (start : 
   }
 
   pub standing_bytes : (input more held held' : List ℕ) (over over' : Bool) (now : T) → IsInLine more
-      → ((line : List ℕ) → Holds held over line → Holds held' over' (line ++ more))
+      → ((line : List ℕ) → Holds 65_536 held over line → Holds 65_536 held' over' (line ++ more))
       → Standing taken start input held over now → Standing taken start (input ++ more) held' over' now
   standing_bytes input more held held' over over' now free keeps s = record {
     lines = s.lines;
@@ -76,7 +83,7 @@ module _ {T : Type 0} (taken : T → List (List ℕ) → T → Type 0) (start : 
   }
 
   pub standing_line : (input last held held' : List ℕ) (over over' : Bool) (now now' : T) → IsInLine last
-      → ((line : List ℕ) → Holds held over line → (start : T) (ls : List (List ℕ)) → taken start ls now
+      → ((line : List ℕ) → Holds 65_536 held over line → (start : T) (ls : List (List ℕ)) → taken start ls now
       → taken start (ls ++ (line ++ last) ∷ []) now')
       → held' ≡ [] → over' ≡ false
       → Standing taken start input held over now
@@ -102,7 +109,7 @@ module _ {T : Type 0} (taken : T → List (List ℕ) → T → Type 0) (start : 
   pub finished_none : (input held : List ℕ) (over : Bool) (now : T) → held ≡ [] → over ≡ false
       → Standing taken start input held over now → Finished taken start input now
   finished_none input held over now e o s =
-      let empty : s.line ≡ [] = sym (held_is held over s.line o s.holds) ∙ e in (
+      let empty : s.line ≡ [] = sym (held_is 65_536 held over s.line o s.holds) ∙ e in (
         s.lines,
         record {
           whole = s.lines;
@@ -115,18 +122,14 @@ module _ {T : Type 0} (taken : T → List (List ℕ) → T → Type 0) (start : 
         s.stands,
       )
 
-  not_begun : (held : List ℕ) (o : Bool) → Holds held o [] → (o ≡ false → 0 < length held) → ⊥
-  not_begun held true h begun = omega (arith, h)
-  not_begun held false h begun = omega (arith, begun refl, ap length h.0)
-
   pub finished_line : (input held : List ℕ) (over : Bool) (now now' : T) → (over ≡ false → 0 < length held)
-      → ((line : List ℕ) → Holds held over line → (start : T) (ls : List (List ℕ)) → taken start ls now
+      → ((line : List ℕ) → Holds 65_536 held over line → (start : T) (ls : List (List ℕ)) → taken start ls now
       → taken start (ls ++ line ∷ []) now')
       → Standing taken start input held over now → Finished taken start input now'
   finished_line input held over now now' begun takes s = by_line s.line refl
     where
       by_line : (line : List ℕ) → s.line ≡ line → Finished taken start input now'
-      by_line [] e = absurd (not_begun held over (subst (Holds held over) e s.holds) begun)
+      by_line [] e = absurd (not_begun 65_536 held over (subst (Holds 65_536 held over) e s.holds) begun)
       by_line (b ∷ line) e = (
         s.lines ++ s.line ∷ [],
         record {

@@ -31,9 +31,9 @@ AreAll (Some a) None bytes = ⊥
 AreAll (Some a) (Some b) bytes = (a ≡ bytes) × (b ≡ [])
 
 -- the bytes of a line so far: held whole while they fit, and only known to be too many afterwards
-abbrev pub Holds : List ℕ → Bool → List ℕ → Type 0
-Holds held false line = (held ≡ line) × (length line ≤ 65_536)
-Holds held true line = 65_536 < length line
+abbrev pub Holds : (longest : ℕ) → List ℕ → Bool → List ℕ → Type 0
+Holds longest held false line = (held ≡ line) × (length line ≤ longest)
+Holds longest held true line = longest < length line
 
 module _ {T : Type 0} (taken : T → List (List ℕ) → T → Type 0) (start : T) where
   -- the lines of this input were taken, and the beginning of the next is held
@@ -44,7 +44,7 @@ module _ {T : Type 0} (taken : T → List (List ℕ) → T → Type 0) (start : 
     pub each : All IsInLine lines
     pub tail : IsInLine line
     pub stands : taken start lines now
-    pub holds : Holds held over line
+    pub holds : Holds 65_536 held over line
 
   -- all lines of this input were taken
   abbrev pub Finished : List ℕ → T → Type 0

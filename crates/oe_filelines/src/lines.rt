@@ -76,18 +76,18 @@ impl Held {
     // Tells whether the line that is held is too long.
     fn is_over(&self) -> bool
         ensures long { result ≡ true → (line : List ℕ) →
-            Holds self.now.line.items self.now.over line → 65_536 < length line }
+            Holds 65_536 self.now.line.items self.now.over line → 65_536 < length line }
         ensures short { result ≡ false → length self.now.line.items ≤ 65_536 }
         ensures held { result ≡ false → (line : List ℕ) →
-            Holds self.now.line.items self.now.over line → self.now.line.items ≡ line }
+            Holds 65_536 self.now.line.items self.now.over line → self.now.line.items ≡ line }
     {
         self.over || LINE < self.line.len()
     }
 
     // Holds further bytes of a line.
     fn keep(&mut self, bytes: &[u8]) -> Result<(), AllocError>
-        ensures { OnOk result ((line : List ℕ) → Holds self.old.line.items self.old.over line →
-            Holds self.new.line.items self.new.over (line ++ bytes.now)) }
+        ensures { OnOk result ((line : List ℕ) → Holds 65_536 self.old.line.items self.old.over line →
+            Holds 65_536 self.new.line.items self.new.over (line ++ bytes.now)) }
     {
         if self.over {
             return Ok(());
@@ -103,7 +103,7 @@ impl Held {
     #[inline(never)]
     fn end<T: LineTaker>(&mut self, taker: &mut T) -> Result<(), AllocError>
         ensures taken { OnOk result ((line : List ℕ) →
-            Holds self.old.line.items self.old.over line → (start : T) (lines : List (List ℕ)) →
+            Holds 65_536 self.old.line.items self.old.over line → (start : T) (lines : List (List ℕ)) →
             T.taken start lines taker.old → T.taken start (lines ++ line ∷ []) taker.new) }
         ensures line { self.new.line.items ≡ [] }
         ensures over { self.new.over ≡ false }
@@ -123,7 +123,7 @@ impl Held {
     #[inline(never)]
     fn end_with<T: LineTaker>(&mut self, last: &[u8], taker: &mut T) -> Result<(), AllocError>
         ensures taken { OnOk result ((line : List ℕ) →
-            Holds self.old.line.items self.old.over line → (start : T) (lines : List (List ℕ)) →
+            Holds 65_536 self.old.line.items self.old.over line → (start : T) (lines : List (List ℕ)) →
             T.taken start lines taker.old →
             T.taken start (lines ++ (line ++ last.now) ∷ []) taker.new) }
         ensures line { OnOk result (self.new.line.items ≡ []) }
@@ -139,7 +139,7 @@ impl Held {
     #[inline]
     fn end_line<T: LineTaker>(&mut self, last: &[u8], taker: &mut T) -> Result<(), AllocError>
         ensures taken { OnOk result ((line : List ℕ) →
-            Holds self.old.line.items self.old.over line → (start : T) (lines : List (List ℕ)) →
+            Holds 65_536 self.old.line.items self.old.over line → (start : T) (lines : List (List ℕ)) →
             T.taken start lines taker.old →
             T.taken start (lines ++ (line ++ last.now) ∷ []) taker.new) }
         ensures line { OnOk result (self.new.line.items ≡ []) }

@@ -1,2 +1,3 @@
 pub mod Streaming
 pub mod DumpFacts
+pub mod FrontFacts

@@ -85,3 +85,30 @@ take_on X (suc n) m (x ∷ xs) = rw suc-add (ap (λ z. x ∷ z) (take_on X n m x
 pub streams_as : {T E : Type 0} (a b : Option Sink) (h k i t u : List ℕ) (r : Result T E) → h ≡ k → t ≡ u
     → Streams a h b i t r → Streams a k b i u r
 streams_as a b h k i t u r e f s = rw (← e, ← f) s
+
+-- ---- where nothing waits
+
+as_text : (before waited text : List ℕ) → waited ≡ text → before ++ waited ++ [] ≡ before ++ [] ++ text
+as_text before waited text same =
+    append-nil (before ++ waited)
+    ∙ (ap (λ (x : List ℕ). before ++ x) same ∙ sym (ap (λ (x : List ℕ). x ++ text) (append-nil before)))
+
+-- what waited has gone out
+pub all_sent : (old new : Option Sink) (waited waits text : List ℕ) → waits ≡ [] → waited ≡ text
+    → Sent old waited new waits [] → Sent old [] new [] text
+all_sent None new waited waits text none same s = tt
+all_sent (Some a) None waited waits text none same s = s
+all_sent (Some a) (Some b) waited waits text none same s =
+    (ap (λ (x : List ℕ). b.contents ++ x) (sym none) ∙ (s.0 ∙ as_text a.contents waited text same), s.1)
+
+pub front_sent : (old new : Option Sink) (waited text : List ℕ) → waited ≡ text → Cut old waited new []
+    → Cut old [] new text
+front_sent None new waited text same s = tt
+front_sent (Some a) None waited text same s = s
+front_sent (Some a) (Some b) waited text same s = ((s.0.0, s.0.1 ∙ as_text a.contents waited text same), s.1)
+
+-- one text behind another that was sent
+pub streams_then : {T E : Type 0} (a b c : Option Sink) (h i j t u : List ℕ) (r : Result T E) → Sent a h b i t
+    → Streams b i c j u r → Streams a h c j (t ++ u) r
+streams_then a b c h i j t u (Ok x) p q = sent_then a b c h i j t u p q
+streams_then a b c h i j t u (Err e) p q = sent_cut a b c h i t u p q

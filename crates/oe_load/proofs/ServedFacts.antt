@@ -8,6 +8,7 @@ use Rattle.oe_theory.specs.World.{bump}
 use Rattle.oe_theory.proofs.Sets.{set_same, set_other}
 use Rattle.oe_load.specs.Loads.{none_served}
 use Rattle.oe_load.specs.Turns.{counts_of}
+use Rattle.oe_busy.proofs.CountFacts.{zeros}
 
 put : (l : List ℕ) (t n : ℕ) → t < length l → counts_of (slice_set l t n) t ≡ n
 put [] t n h = let no : ⊥ = omega (arith, h) in absurd no
@@ -30,11 +31,6 @@ one_more l t n h e = fun_ext (λ u. each u (cases_eq u t))
     each u (inl same) = ap (λ z. counts_of (slice_set l t n) z) same
         ∙ (put l t n h ∙ (e ∙ sym (set_same t (suc (counts_of l t)) (counts_of l) u same)))
     each u (inr other) = still l t n u other ∙ sym (set_other t (suc (counts_of l t)) (counts_of l) u other)
-
-zeros : (k t : ℕ) → ◌≡◌ {A = ℕ} (get_or (replicate {A = ℕ} k zero) t zero) zero
-zeros zero t = refl
-zeros (suc k) zero = refl
-zeros (suc k) (suc t) = zeros k t
 
 pub none : (k : ℕ) → counts_of (replicate {A = ℕ} k zero) ≡ none_served
 none k = fun_ext (λ t. zeros k t)

@@ -28,7 +28,7 @@ use Rattle.oe_model.specs.Positions.{Seen, NewOrderQueue, NewOrderStock, NewOrde
 use Rattle.oe_model.specs.NewOrder.{stock_holds, ordered_reply, new_order_ask, new_order_act, new_order_taken}
 use Rattle.oe_model.proofs.LawFacts.{holds_more}
 use Rattle.oe_engine.specs.View.{EngineState, View, view_of, Handle, IsOpen}
-use Rattle.oe_engine.specs.Programs.{GoesOn, IsReady, IsRefused, new_order_reply, lock_asked}
+use Rattle.oe_engine.specs.Programs.{GoesOn, IsReady, IsStageRefusal, new_order_reply, lock_asked}
 use Rattle.oe_engine.specs.Stages.{Does, HoldsAll}
 use Rattle.oe_engine.specs.declared.programs.Progress.{Progress}
 use Rattle.oe_engine.specs.declared.programs.Progress.TheVariants as progress
@@ -36,6 +36,7 @@ use Rattle.oe_neworder.specs.Program.{filled_by, position_at, line_position}
 use Rattle.oe_neworder.specs.Stages.{Advances, Fills}
 use Rattle.oe_neworder.specs.declared.fillings.Filled.{Filled}
 use Rattle.oe_neworder.specs.declared.fillings.Filling.{Filling}
+use Rattle.oe_engine.proofs.HeldFacts.{alone}
 
 -- the list at one of its indices
 module _ {X : Type 0} (xs : List X) (n : ℕ) (x : X) (here : slice_get xs n ≡ Some x) where
@@ -129,9 +130,9 @@ module _ (q : NewOrderRequest) (f : Filling) (l : RequestLine) (here : slice_get
 
     fill_refused : (s' : EngineState) (e : Refusal) (o : Option Filled) (k : ℕ) → k ≡ length f.done + 1
         → f.filled ≡ None → Fills q x s l k (progress.Refused e) s' o
-        → IsRefused s x (request.NewOrder q) (InNewOrder q (line_position q f)) e
+        → IsStageRefusal s x (request.NewOrder q) (InNewOrder q (line_position q f)) e
     fill_refused s' e o k number none done =
-        subst (λ p. IsRefused s x (request.NewOrder q) (InNewOrder q p) e) (sym (stock_at none))
+        subst (λ p. IsStageRefusal s x (request.NewOrder q) (InNewOrder q p) e) (sym (stock_at none))
         (done.0 (seen_by f.seen) (take (length f.done) q.lines) f.done (drop (suc (length f.done)) q.lines)
         (count_at q.lines (length f.done) l here ∙ sym number))
 
@@ -173,7 +174,7 @@ module _ (q : NewOrderRequest) (f : Filling) (l : RequestLine) (here : slice_get
 
     pub insert_refused : (s' : EngineState) (g : Filled) (r : Refusal) → f.filled ≡ Some g
         → Does s x Plain (Some (InsertOrderLine (line_in (order_in q.district f.seen.order) g.number) g.row)) (Err r) s'
-        → IsRefused s x (request.NewOrder q) (InNewOrder q (line_position q f)) r
+        → IsStageRefusal s x (request.NewOrder q) (InNewOrder q (line_position q f)) r
     insert_refused s' g r e done = done (request.NewOrder q) (InNewOrder q (line_position q f))
         (InNewOrder q (line_position q (record { seen = f.seen; done = f.done ++ g.reply ∷ []; filled = None })))
         (asks_none g e) (inserts g e)
@@ -198,12 +199,6 @@ pub lines_begin : (q : NewOrderRequest) (s : formulas.Seen) (d : List LineReply)
 lines_begin q s d e =
     ap (λ (z : List LineReply). line_position q (record { seen = s; done = z; filled = None })) e
     ∙ none_at (seen_by s) [] [] q.lines
-
--- held alone, and held
-alone : (o : Option theory.Mode) → IsEnough o theory.Exclusive → o ≡ Some theory.Exclusive
-alone None h = absurd h
-alone (Some theory.Exclusive) h = refl
-alone (Some theory.Shared) h = absurd h
 
 -- the order's name is held alone at its NEW-ORDER row, and at the ORDER-LINE row of each line
 pub order_at_queue : (v : View) (t : ℕ) (q : NewOrderRequest) (s : Seen)

@@ -7,7 +7,7 @@ use Rattle.oe_requests.specs.declared.replies.LineReply.{LineReply}
 use Rattle.oe_model.specs.Positions.{Seen, NewOrderPosition, NewOrderStock, NewOrderLine, InNewOrder}
 use Rattle.oe_model.specs.NewOrder.{new_order_taken}
 use Rattle.oe_engine.specs.View.{EngineState, view_of, Handle}
-use Rattle.oe_engine.specs.Programs.{GoesOn, IsRefused, Progresses}
+use Rattle.oe_engine.specs.Programs.{GoesOn, IsStageRefusal, Progresses}
 use Rattle.oe_engine.specs.declared.programs.Progress.{Progress}
 use Rattle.oe_engine.specs.declared.programs.Progress.TheVariants as progress
 use Rattle.oe_engine.specs.Stages.{HoldsAll}
@@ -32,7 +32,7 @@ Steps q x s p b progress.More s' b' =
     GoesOn s x (request.NewOrder q) (InNewOrder q p) s' (InNewOrder q (position_of q b'))
 Steps q x s p b progress.Ready s' b' = ⊥
 Steps q x s p b (progress.Refused e) s' b' =
-    IsRefused s x (request.NewOrder q) (InNewOrder q p) e × (view_of s' ≡ view_of s)
+    IsStageRefusal s x (request.NewOrder q) (InNewOrder q p) e × (view_of s' ≡ view_of s)
     × (s'.name ≡ s.name) × (b' ≡ b)
 
 -- the stage of the stock of this line, number n of its order: the line as it was filled, or none where it was refused
@@ -49,5 +49,5 @@ Fills q x s l n progress.Ready s' o = ⊥
 Fills q x s l n (progress.Refused e) s' o =
     ((y : Seen) (before : List RequestLine) (done : List LineReply) (ls : List RequestLine)
     → length before + 1 ≡ n
-    → IsRefused s x (request.NewOrder q) (InNewOrder q (NewOrderStock y before done (l ∷ ls))) e)
+    → IsStageRefusal s x (request.NewOrder q) (InNewOrder q (NewOrderStock y before done (l ∷ ls))) e)
     × (view_of s' ≡ view_of s) × (s'.name ≡ s.name) × (o ≡ None)

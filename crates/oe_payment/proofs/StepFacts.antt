@@ -11,7 +11,7 @@ use Rattle.oe_model.specs.Payment.{behind_district}
 use Rattle.oe_model.specs.Positions.{PaymentPosition, PaymentWarehouse, PaymentDistrict, PaymentNames}
 use Rattle.oe_model.specs.Positions.{PaymentCustomer, PaymentHistory, PaymentEnd, InPayment}
 use Rattle.oe_engine.specs.View.{EngineState, Handle, IsOpen}
-use Rattle.oe_engine.specs.Programs.{GoesOn, IsReady, payment_reply, IsRefused, Progresses}
+use Rattle.oe_engine.specs.Programs.{GoesOn, IsReady, payment_reply, IsStageRefusal, Progresses}
 use Rattle.oe_engine.specs.declared.programs.Progress.{Progress}
 use Rattle.oe_engine.specs.declared.programs.Progress.TheVariants as progress
 use Rattle.oe_payment.specs.declared.positions.Position.{Position}
@@ -43,7 +43,7 @@ carried q x s s' p p' old next at progress.More e f g h =
     (subst (λ (z : PaymentPosition). GoesOn s x (request.Payment q) (InPayment q p) s' (InPayment q z)) (sym g) h)
 carried q x s s' p p' old next at progress.Ready e f g h = absurd h
 carried q x s s' p p' old next at (progress.Refused why) e f g h = (
-  subst (λ (z : PaymentPosition). IsRefused s x (request.Payment q) (InPayment q z) why) (sym e) h.0,
+  subst (λ (z : PaymentPosition). IsStageRefusal s x (request.Payment q) (InPayment q z) why) (sym e) h.0,
   h.1,
   h.2,
   ap (InPayment q) (f ∙ sym e),

@@ -14,7 +14,7 @@ use Rattle.oe_change.specs.declared.writes.Write.{Write}
 use Rattle.oe_engine.specs.View.{EngineState, view_of, Handle}
 use Rattle.oe_writes.specs.Asks.{ask_of_write}
 use Rattle.oe_engine.specs.Writes.{change_written}
-use Rattle.oe_engine.specs.Programs.{ask_here, act_here, GoesOn, IsRefused}
+use Rattle.oe_engine.specs.Programs.{ask_here, act_here, GoesOn, IsStageRefusal}
 use Rattle.oe_engine.specs.declared.programs.Progress.{Progress}
 use Rattle.oe_engine.specs.declared.programs.Progress.TheVariants as progress
 use Rattle.oe_payment.specs.declared.positions.Stage.{Stage}
@@ -28,11 +28,11 @@ is_failure _ = false
 
 -- why the stage at this position is refused
 abbrev pub IsRefusedHere : PaymentRequest → Handle → EngineState → PaymentPosition → Refusal → Type 0
-IsRefusedHere q x s p e = IsRefused s x (request.Payment q) (InPayment q p) e
+IsRefusedHere q x s p e = IsStageRefusal s x (request.Payment q) (InPayment q p) e
 
 -- the stage that asks for this lock alone and fails for a cause is refused so
-abbrev pub FailsAt : Handle → EngineState → Name → Refusal → Refusal → Type 0
-FailsAt x s n cause e = (q : PaymentRequest) (p : PaymentPosition)
+abbrev pub FailsUnder : Handle → EngineState → Name → Refusal → Refusal → Type 0
+FailsUnder x s n cause e = (q : PaymentRequest) (p : PaymentPosition)
     → ask_here s x (request.Payment q) (InPayment q p) ≡ Take n Exclusive
     → act_here s x (request.Payment q) (InPayment q p) ≡ Fail cause → IsRefusedHere q x s p e
 

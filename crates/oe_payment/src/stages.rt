@@ -19,7 +19,7 @@ ghost use Rattle.oe_engine.specs.Covered.{IsOwn};
 ghost use Rattle.oe_engine.specs.Writes.{HoldsBeside};
 ghost use Rattle.oe_engine.specs.Programs.{Progresses};
 ghost use Rattle.oe_payment.specs.Program.{position_in, stage_behind, number_given};
-ghost use Rattle.oe_payment.specs.Stages.{is_failure, failed_by, FailsAt, Does, stage_after, IsStage};
+ghost use Rattle.oe_payment.specs.Stages.{is_failure, failed_by, FailsUnder, Does, stage_after, IsStage};
 
 use crate::positions::{Position, Stage};
 use oe_engine::stages::{failed, hold};
@@ -40,7 +40,7 @@ use oe_writes::{Lock, OneWrite};
 fn failure(engine: &Engine, tx: &Tx, name: Name, refusal: &Refusal) -> Refusal
     requires open { IsOpen engine.now tx.now }
     requires failure { is_failure refusal.now ≡ true }
-    ensures { FailsAt tx.now engine.now name refusal.now result }
+    ensures { FailsUnder tx.now engine.now name refusal.now result }
 {
     let lock = Lock {
         name,
@@ -58,7 +58,7 @@ fn failure(engine: &Engine, tx: &Tx, name: Name, refusal: &Refusal) -> Refusal
 #[inline(never)]
 fn warehouse_fails(engine: &Engine, tx: &Tx, key: &WarehouseKey, column: Option<Column>) -> Refusal
     requires { IsOpen engine.now tx.now }
-    ensures { FailsAt tx.now engine.now (name_of.Warehouse key.now)
+    ensures { FailsUnder tx.now engine.now (name_of.Warehouse key.now)
         (failed_by (row_key.Warehouse key.now) column) result }
 {
     let cause = match column {
@@ -72,7 +72,7 @@ fn warehouse_fails(engine: &Engine, tx: &Tx, key: &WarehouseKey, column: Option<
 #[inline(never)]
 fn district_fails(engine: &Engine, tx: &Tx, key: &DistrictKey, column: Option<Column>) -> Refusal
     requires { IsOpen engine.now tx.now }
-    ensures { FailsAt tx.now engine.now (name_of.District key.now)
+    ensures { FailsUnder tx.now engine.now (name_of.District key.now)
         (failed_by (row_key.District key.now) column) result }
 {
     let cause = match column {
@@ -86,7 +86,7 @@ fn district_fails(engine: &Engine, tx: &Tx, key: &DistrictKey, column: Option<Co
 #[inline(never)]
 fn customer_fails(engine: &Engine, tx: &Tx, key: &CustomerKey, column: Column) -> Refusal
     requires { IsOpen engine.now tx.now }
-    ensures { FailsAt tx.now engine.now (name_of.Customer key.now) (Overflow column) result }
+    ensures { FailsUnder tx.now engine.now (name_of.Customer key.now) (Overflow column) result }
 {
     failure(engine, tx, Name::Customer(*key), &Refusal::Overflow(column))
 }

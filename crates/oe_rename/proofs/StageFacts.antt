@@ -31,12 +31,7 @@ use Rattle.oe_engine.proofs.SafeFacts.{still_exclusive}
 use Rattle.oe_rename.specs.Program.{position_of, HasEnded}
 use Rattle.oe_rename.specs.declared.programs.Program.{Program}
 use Rattle.oe_rename.specs.declared.programs.Program.TheVariants as program
-
--- held alone
-alone : (o : Option theory.Mode) → IsEnough o theory.Exclusive → o ≡ Some theory.Exclusive
-alone None h = absurd h
-alone (Some theory.Exclusive) h = refl
-alone (Some theory.Shared) h = absurd h
+use Rattle.oe_engine.proofs.HeldFacts.{alone}
 
 -- the customer's name and the old last name are held alone before the names are set, and the new name once its lock is
 -- taken

@@ -7,7 +7,7 @@ use Rattle.oe_model.specs.Positions.{RenamePosition, RenameCustomer, RenameOld, 
 use Rattle.oe_model.specs.Rename.{HasLast, rename_taken}
 use Rattle.oe_engine.specs.View.{EngineState, view_of, Handle}
 use Rattle.oe_engine.specs.Stages.{HoldsAll}
-use Rattle.oe_engine.specs.Programs.{GoesOn, IsRefused}
+use Rattle.oe_engine.specs.Programs.{GoesOn, IsStageRefusal}
 use Rattle.oe_rename.specs.declared.programs.Program.{Program}
 use Rattle.oe_rename.specs.declared.programs.Program.TheVariants as program
 
@@ -35,5 +35,5 @@ Recalls q s _ = Unit {0}
 -- a stage: the program after it, or its refusal
 abbrev pub Steps : RenameRequest → Handle → EngineState → RenamePosition → Result Program Refusal → EngineState → Type 0
 Steps q x s p (Ok p') s' = GoesOn s x (request.Rename q) (InRename q p) s' (InRename q (position_of p'))
-Steps q x s p (Err e) s' = IsRefused s x (request.Rename q) (InRename q p) e × (view_of s' ≡ view_of s)
+Steps q x s p (Err e) s' = IsStageRefusal s x (request.Rename q) (InRename q p) e × (view_of s' ≡ view_of s)
     × (s'.name ≡ s.name)

@@ -2,6 +2,5 @@ pub mod AnswerFacts
 pub mod LineFacts
 pub mod HearingFacts
 pub mod Reaching
-pub mod Splitting
 pub mod Ending
 pub mod OpenFacts

@@ -9,7 +9,8 @@ use Rattle.std.proofs.lemmas.Grind.{flat_map-append}
 use Rattle.std.proofs.lemmas.Bool.{cases_eq}
 use Rattle.oe_io.specs.Ports.{Sink, Sent, Cut, Streams}
 use Rattle.oe_script.specs.Outcome.{Replies}
-use Rattle.oe_script.specs.Script.{State, LineAnswer, RunOfLines, IsInLine, with_line_end, last_text, Output, Holds}
+use Rattle.oe_filelines.specs.Lines.{IsInLine, with_line_end}
+use Rattle.oe_script.specs.Script.{State, LineAnswer, RunOfLines, last_text, Output, Holds}
 use Rattle.oe_script.specs.Script.{Reached}
 use Rattle.oe_script.specs.Hearing.{Heard, HearsLine, HearsRun, HearsReached, HearsAll, HearsEach, HeardFront, Attends}
 use Rattle.oe_script.specs.Hearing.{last_heard}

@@ -2,6 +2,8 @@
 use Rattle.std.specs.Prelude.{◌≡◌, ◌≢◌, ℕ, zero, suc, ◌+◌, ◌≤◌, ◌<◌, ◌⊎◌, Bool, true, false, All, List, [], ◌∷◌, ◌++◌}
 use Rattle.std.specs.Prelude.{length, Option, Some, None, codes}
 use Rattle.std.specs.List.{flat_map}
+use Rattle.oe_filelines.specs.Lines.{IsInLine, with_line_end}
+use Rattle.oe_filelines.specs.Lines as lines
 use Rattle.oe_theory.specs.World.{World, newest, tables}
 use Rattle.oe_theory.specs.Next.{Next}
 use Rattle.oe_theory.specs.Theorems.{world_at_opening}
@@ -121,13 +123,6 @@ RunOfLines s n (line ∷ lines) text s' =
     (mid : State) × (first : List ℕ) × (rest : List ℕ) × LineAnswer s (n + 1) line first mid
     × RunOfLines mid (n + 1) lines rest s' × (text ≡ first ++ rest)
 
--- byte 10 ends a line
-abbrev pub IsInLine : List ℕ → Type 0
-IsInLine line = All (λ b. b ≢ 10) line
-
-abbrev pub with_line_end : List ℕ → List ℕ
-with_line_end line = line ++ 10 ∷ []
-
 -- a last line without its end is none of the forms
 abbrev pub last_text : ℕ → List ℕ → List ℕ
 last_text n [] = []
@@ -145,10 +140,9 @@ pub record Output (begun : State) (input out : List ℕ) : Type 0 where
   pub run : RunOfLines begun 0 lines answers state
   pub text : out ≡ answers ++ last_text (length lines + 1) last
 
--- the bytes of a line so far: held whole while they fit, and only known to be too many afterwards
+-- the bytes of a line so far, of 1,024 at most
 abbrev pub Holds : List ℕ → Bool → List ℕ → Type 0
-Holds held false line = (held ≡ line) × (length line ≤ 1_024)
-Holds held true line = 1_024 < length line
+Holds = lines.Holds 1_024
 
 -- of the input these lines were answered, by this output, and a beginning of the next line was read
 pub record Reached (begun : State) (input out : List ℕ) (state : State) (count : ℕ) (line : List ℕ) : Type 0 where

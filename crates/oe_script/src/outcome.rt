@@ -1,7 +1,6 @@
 //! What a line comes to: the step that it asks for is taken, and the text of its answer appended.
 ghost use Rattle.std.specs.Prelude.{◌≡◌, ◌≤◌, ◌+◌, ◌++◌, ℕ, List, length, Option, Some, None, IfOk, IsSome};
 ghost use Rattle.arrayvec.specs.ArrayVec.{array_vec_len};
-ghost use Rattle.oe_theory.specs.Next.{Next};
 ghost use Rattle.oe_theory.specs.Theorems.{world_at_opening};
 ghost use Rattle.oe_model.specs.Rows.{Rows};
 ghost use Rattle.oe_lines.specs.Rings.{layout_of};
@@ -11,9 +10,9 @@ ghost use Rattle.oe_lines.specs.Grammar.{Says, HasForm};
 ghost use Rattle.oe_lines.specs.declared.commands.Command.TheVariants as asks;
 ghost use Rattle.oe_requests.specs.declared.replies.Reply.{Reply};
 ghost use Rattle.oe_requests.specs.declared.answers.Answer.{Answer};
+ghost use Rattle.oe_requests.specs.declared.steps.Step.TheVariants as step;
 ghost use Rattle.oe_texts.specs.Answer.{answer_line};
 ghost use Rattle.oe_core.specs.Core.{world_of, last_reply};
-ghost use Rattle.oe_core.specs.Steps.{step_in, answer_in};
 ghost use Rattle.oe_io.specs.Ports.{Streams};
 ghost use Rattle.oe_script.specs.Script.{LineAnswer, RunsIn, moment_in, shown_text};
 ghost use Rattle.oe_script.specs.Session.{state_of};
@@ -28,7 +27,7 @@ use oe_io::ports::{Failed, Outlet};
 use oe_lines::commands::RingChoice;
 use oe_lines::{Command, Display, MomentChoice, command, payment_to_begin, terminal_to_run};
 use oe_population::populate;
-use oe_requests::{Answer, Condition, Query, Refusal, Request, Step};
+use oe_requests::{Answer, Condition, Query, Refusal, Request};
 use oe_rows::Scale;
 use oe_texts::{LONGEST, Pending, SIZE, answer, audited, begun, committed, more, opened, refused};
 use oe_values::{Moment, NoMemory, Terminal};
@@ -253,15 +252,15 @@ fn later<W: Outlet>(
             Ok(true)
         }
         Command::Save(terminal) => {
-            tell(core, Step::Save(*terminal), out);
+            answer(out, &core.save(*terminal));
             Ok(true)
         }
         Command::Back(terminal) => {
-            tell(core, Step::Back(*terminal), out);
+            answer(out, &core.back(*terminal));
             Ok(true)
         }
         Command::Rollback(terminal) => {
-            tell(core, Step::Rollback(*terminal), out);
+            answer(out, &core.rollback(*terminal));
             Ok(true)
         }
         Command::Audit(condition, moment) => {
@@ -298,7 +297,7 @@ fn show<W: Outlet>(core: &Core, shown: Display, out: &mut Pending, to: &mut W) -
 /// Begins a transaction.
 fn tell_begin(core: &mut Core, terminal: Terminal, request: &Request, out: &mut Pending)
     requires { array_vec_len out.old + LONGEST ≤ SIZE }
-    ensures { Tells (world_of core.old) (Step.Begin terminal request.now) (world_of core.new)
+    ensures { Tells (world_of core.old) (step.Begin terminal request.now) (world_of core.new)
         out.old.items out.new.items }
 {
     match core.begin(terminal, request) {
@@ -310,7 +309,7 @@ fn tell_begin(core: &mut Core, terminal: Terminal, request: &Request, out: &mut 
 /// Takes one row.
 fn tell_next(core: &mut Core, terminal: Terminal, out: &mut Pending)
     requires { array_vec_len out.old + LONGEST ≤ SIZE }
-    ensures { Tells (world_of core.old) (Step.Advance terminal) (world_of core.new)
+    ensures { Tells (world_of core.old) (step.Advance terminal) (world_of core.new)
         out.old.items out.new.items }
 {
     let ended = core.advance(terminal);
@@ -371,27 +370,16 @@ fn tell_commit(core: &Core, terminal: Terminal, moment: Moment, out: &mut Pendin
     }
 }
 
-/// Takes another step than an audit.
-#[inline(never)]
-fn tell(core: &mut Core, step: Step, out: &mut Pending)
-    requires { array_vec_len out.old + LONGEST ≤ SIZE }
-    ensures { (x : Answer)
-        × Next system (world_of core.old) (step_in step) (answer_in step x) (world_of core.new)
-        × (out.new.items ≡ out.old.items ++ answer_line x) }
-{
-    answer(out, &core.step(step));
-}
-
 /// Audits the moment that is asked for.
 #[inline(never)]
 fn tell_audit(core: &mut Core, condition: Condition, moment: MomentChoice, out: &mut Pending)
     requires { array_vec_len out.old + LONGEST ≤ SIZE }
     ensures { Tells (world_of core.old)
-        (Step.Audit condition (moment_in (world_of core.old) moment))
+        (step.Audit condition (moment_in (world_of core.old) moment))
         (world_of core.new) out.old.items out.new.items }
 {
     let moment = moment_of(core, moment);
-    match core.step(Step::Audit(condition, moment)) {
+    match core.audit(condition, moment) {
         Answer::Audited(verdict) => audited(out, condition, &verdict),
         given => answer(out, &given),
     }
@@ -402,31 +390,31 @@ fn tell_audit(core: &mut Core, condition: Condition, moment: MomentChoice, out: 
 fn tell_read(core: &mut Core, moment: MomentChoice, query: &Query, out: &mut Pending)
     requires { array_vec_len out.old + LONGEST ≤ SIZE }
     ensures { Tells (world_of core.old)
-        (Step.Read (moment_in (world_of core.old) moment) query.now)
+        (step.Read (moment_in (world_of core.old) moment) query.now)
         (world_of core.new) out.old.items out.new.items }
 {
     let moment = moment_of(core, moment);
-    tell(core, Step::Read(moment, query.copied()), out);
+    answer(out, &core.read(moment, query));
 }
 
 /// Lets go of what is older than the moment that is asked for.
 fn tell_purge(core: &mut Core, moment: MomentChoice, out: &mut Pending)
     requires { array_vec_len out.old + LONGEST ≤ SIZE }
-    ensures { Tells (world_of core.old) (Step.Purge (moment_in (world_of core.old) moment))
+    ensures { Tells (world_of core.old) (step.Purge (moment_in (world_of core.old) moment))
         (world_of core.new) out.old.items out.new.items }
 {
     let moment = moment_of(core, moment);
-    tell(core, Step::Purge(moment), out);
+    answer(out, &core.purge(moment));
 }
 
 /// Takes the tables back to the moment that is asked for.
 fn tell_rewind(core: &mut Core, moment: MomentChoice, out: &mut Pending)
     requires { array_vec_len out.old + LONGEST ≤ SIZE }
-    ensures { Tells (world_of core.old) (Step.Rewind (moment_in (world_of core.old) moment))
+    ensures { Tells (world_of core.old) (step.Rewind (moment_in (world_of core.old) moment))
         (world_of core.new) out.old.items out.new.items }
 {
     let moment = moment_of(core, moment);
-    tell(core, Step::Rewind(moment), out);
+    answer(out, &core.rewind(moment));
 }
 
 /// Gives the moment that is asked for.

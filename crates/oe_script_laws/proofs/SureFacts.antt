@@ -24,7 +24,8 @@ use Rattle.oe_lines.specs.declared.commands.Command.{Command}
 use Rattle.oe_lines.specs.declared.commands.Command.TheVariants as command
 use Rattle.oe_lines.specs.declared.commands.Display.{Display}
 use Rattle.oe_core.specs.Steps.{step_in, answer_in}
-use Rattle.oe_script.specs.Script.{State, shown_text, Opens, Answers, IsInLine, with_line_end, last_text, Output}
+use Rattle.oe_script.specs.Script.{State, shown_text, Opens, Answers, last_text, Output}
+use Rattle.oe_filelines.specs.Lines.{IsInLine, with_line_end}
 use Rattle.oe_script.proofs.LineFacts.{one_command}
 use Rattle.oe_script_laws.specs.Deeds.{Deed, No_form, Opening, Shown, Steps, Entry, step_of, IsUpTo, Takes, Was, Passed}
 use Rattle.oe_script_laws.specs.Deeds.{lines_of, texts_of}

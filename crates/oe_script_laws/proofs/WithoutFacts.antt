@@ -27,7 +27,8 @@ use Rattle.oe_lines.specs.declared.commands.Command.TheVariants as command
 use Rattle.oe_lines.specs.declared.commands.MomentChoice.{MomentChoice}
 use Rattle.oe_lines.specs.declared.commands.MomentChoice.TheVariants as moment
 use Rattle.oe_core.specs.Steps.{step_in, answer_in}
-use Rattle.oe_script.specs.Script.{State, moment_in, shown_text, IsAllowed, Asks, IsInLine}
+use Rattle.oe_script.specs.Script.{State, moment_in, shown_text, IsAllowed, Asks}
+use Rattle.oe_filelines.specs.Lines.{IsInLine}
 use Rattle.oe_script_laws.specs.Beside.{gives_way, without_open}
 use Rattle.oe_script_laws.specs.Deeds.{Deed, No_form, Opening, Shown, Steps, Entry, step_of, IsUpTo, Takes, Stepped}
 use Rattle.oe_script_laws.specs.Deeds.{Was}

@@ -39,7 +39,8 @@ use Rattle.oe_texts.specs.Answer.{answer_line, audit_line}
 use Rattle.oe_script.specs.declared.session.ScriptFault.TheVariants as fault
 use Rattle.oe_io.specs.Ports.{Source, Sink}
 use Rattle.oe_script.specs.Session.{ScriptRan}
-use Rattle.oe_script.specs.Script.{State, moment_in, Asks, LineAnswer, RunOfLines, with_line_end, last_text, Output}
+use Rattle.oe_script.specs.Script.{State, moment_in, Asks, LineAnswer, RunOfLines, last_text, Output}
+use Rattle.oe_filelines.specs.Lines.{with_line_end}
 use Rattle.oe_script_laws.specs.Deeds.{Deed, No_form, Opening, Shown, Steps, Entry, Passed, lines_of, texts_of}
 use Rattle.oe_script_laws.specs.Deeds.{steps_of}
 use Rattle.oe_script_laws.specs.Deeds.{answers_of}

@@ -213,4 +213,5 @@ rows_stand u m r last quiet =
 -- so each row stands
 pub all_stand : (ts : tables.Places) (u : SegmentLog) (m : ℕ) (settled named : Bool) (k : Key)
     → IsVersion ts u m settled named → settled ≡ true → row_at (version ts u m) k ≡ row_at (rows ts) k
-all_stand ts u m settled named k v is = ap (λ z. row_at z k) (rows_stand u m (rows ts) (v.commits is) (v.quiet is))
+all_stand ts u m settled named k v is = ap (λ z. row_at z k)
+    (rows_stand u m (rows ts) (v.settled.0 is).0 (v.settled.0 is).1)

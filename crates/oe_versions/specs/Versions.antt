@@ -1,5 +1,5 @@
 -- Tables and an undo log as a store of the theory of transactions, and the version of a moment.
-use Rattle.std.specs.Prelude.{◌≡◌, ℕ, Bool, IsTrue, Option, None}
+use Rattle.std.specs.Prelude.{◌≡◌, ◌↔◌, ℕ, Bool, IsTrue, Option, None}
 use Rattle.oe_theory.specs.Store.{Slot, Store, version_of}
 use Rattle.oe_theory.specs.StoreTheorems.{IsStanding}
 use Rattle.oe_model.specs.Rows.{Rows}
@@ -32,10 +32,13 @@ pub record VersionState : Type 0 where
 abbrev pub rows_of : VersionState → Rows
 rows_of s = version s.tables s.log s.moment
 
--- what a version knows of its moment: that it is kept; where it says so, that there is nothing to put back; where it
--- says so, that customers had the names that they have
-pub record IsVersion (ts : tables.Places) (u : SegmentLog) (m : ℕ) (settled named : Bool) : Type 0 where
+-- there is nothing to put back: no commit is later than the moment, and no transaction is open
+abbrev pub IsSettled : SegmentLog → ℕ → Type 0
+IsSettled u m = (newest u ≡ m) × (open_total u ≡ 0)
+
+-- what a version knows of its moment: that it is kept, and whether there is something to put back; where it says so,
+-- that customers had the names that they have
+pub record IsVersion (ts : tables.Places) (u : SegmentLog) (m : ℕ) (is_settled named : Bool) : Type 0 where
   pub kept : IsKeptMoment u m
-  pub commits : IsTrue settled → newest u ≡ m
-  pub quiet : IsTrue settled → open_total u ≡ 0
+  pub settled : IsTrue is_settled ↔ IsSettled u m
   pub names : IsTrue named → HaveSameNames (version ts u m) (rows ts)

@@ -3,12 +3,11 @@
 //! A version lends the tables and the undo log, and copies no row. By its invariant the moment is
 //! from the horizon to the newest, so that no read of it can be refused. Only its making can be:
 //! the moment is checked there, once.
-ghost use Rattle.std.specs.Prelude.{◌≡◌, IsTrue, IfOk, IfErr, OnOk};
+ghost use Rattle.std.specs.Prelude.{◌≡◌, ◌↔◌, IsTrue, IfOk, IfErr, OnOk};
 ghost use Rattle.oe_model.specs.Choice.{HaveSameNames};
 ghost use Rattle.oe_store.specs.Places.{rows};
-ghost use Rattle.oe_log.specs.Log.{open_total};
-ghost use Rattle.oe_log.specs.Moments.{newest, IsKeptMoment, IsUnkept};
-ghost use Rattle.oe_versions.specs.Versions.{rows_of};
+ghost use Rattle.oe_log.specs.Moments.{IsKeptMoment, IsUnkept};
+ghost use Rattle.oe_versions.specs.Versions.{version, IsSettled};
 
 use oe_requests::Refusal;
 use oe_store::Tables;
@@ -52,8 +51,7 @@ impl<'a> Model for Version<'a> {
 /// Tells whether there is nothing to put back: no commit is later than the moment, and no
 /// transaction is open.
 fn is_settled(undo: &Undo, moment: Moment) -> bool
-    ensures commits { IsTrue result → newest undo.now.log ≡ moment }
-    ensures open { IsTrue result → open_total undo.now.log ≡ 0 }
+    ensures { IsTrue result ↔ IsSettled undo.now.log moment }
 {
     undo.segments().newest().get() == moment.get() && undo.segments().open_count() == 0
 }
@@ -61,7 +59,17 @@ fn is_settled(undo: &Undo, moment: Moment) -> bool
 impl<'a> Version<'a> {
     /// Gives the version of a moment. `TooOld` with the horizon and `Future` with the newest
     /// moment, exactly where the moment is not between the two.
-    pub fn at(tables: &'a Tables, undo: &'a Undo, moment: Moment) -> Result<Version<'a>, Refusal>
+    ///
+    /// Where `names_stand` says that each customer had the names that it has, the version finds
+    /// customers by last name as they are found now.
+    pub fn at(
+        tables: &'a Tables,
+        undo: &'a Undo,
+        moment: Moment,
+        names_stand: bool,
+    ) -> Result<Version<'a>, Refusal>
+        requires { IsTrue names_stand
+            → HaveSameNames (version tables.now undo.now.log moment) (rows tables.now) }
         ensures version { IfOk result (λ v.
             v ≡ record { tables = tables.now; log = undo.now.log; moment = moment }) }
         ensures kept { OnOk result (IsKeptMoment undo.now.log moment) }
@@ -73,32 +81,16 @@ impl<'a> Version<'a> {
                 undo,
                 moment,
                 is_settled: is_settled(undo, moment),
-                names_stand: false,
+                names_stand,
             }),
             Err(refusal) => Err(refusal),
-        }
-    }
-
-    /// Gives the same version, which finds customers by last name as they are found now where each
-    /// had the names that it has.
-    pub fn with_names(&self, names_stand: bool) -> Version<'a>
-        requires { IsTrue names_stand → HaveSameNames (rows_of self.now) (rows self.now.tables) }
-        ensures { result ≡ self.now }
-    {
-        Version {
-            tables: self.tables,
-            undo: self.undo,
-            moment: self.moment,
-            is_settled: self.is_settled,
-            names_stand,
         }
     }
 
     /// Tells whether there is nothing to put back: no commit is later than the moment, and no
     /// transaction is open.
     pub fn is_settled(&self) -> bool
-        ensures commits { IsTrue result → newest self.now.log ≡ self.now.moment }
-        ensures open { IsTrue result → open_total self.now.log ≡ 0 }
+        ensures { IsTrue result ↔ IsSettled self.now.log self.now.moment }
     {
         self.is_settled
     }

@@ -3,7 +3,8 @@ use Rattle.std.specs.Prelude.{codes}
 use Rattle.std.specs.List.{flat_map}
 use Rattle.oe_io.proofs.Streaming.{cut_more, cut_as}
 use Rattle.oe_audit_report.specs.Texts.{comma_list}
-use Rattle.oe_audit_report.proofs.StreamFacts.{streams_then, streams_from}
+use Rattle.oe_io.proofs.Streaming.{streams_then}
+use Rattle.oe_audit_report.proofs.StreamFacts.{streams_from}
 use Rattle.oe_audit_report.proofs.lines.put_joined.Goals as goal
 
 pub returns-in-Ok : goal.returns-in-Ok

@@ -1,7 +1,7 @@
 use Rattle.std.proofs.Common.{◌+◌, ◌++◌, take, drop, ◌∙◌, ap, arith}
 use Rattle.std.specs.List.{flat_map}
 use Rattle.oe_io.proofs.Streaming.{sent_none, sent_then, sent_cut, sent_as, cut_as, cut_more}
-use Rattle.oe_deeds.proofs.FrontFacts.{front_more, front_and_rest, front_all}
+use Rattle.oe_io.proofs.FrontFacts.{front_more, front_and_rest, front_all}
 use Rattle.oe_deeds.specs.Files.{commit_line}
 use Rattle.oe_deeds.proofs.files.lines.Goals as goal
 

@@ -1,6 +1,6 @@
 use Rattle.oe_io.proofs.Streaming.{cut_more}
 use Rattle.oe_deeds.specs.Files.{asked_text, reply_line}
-use Rattle.oe_deeds.proofs.FileFacts.{streams_then}
+use Rattle.oe_io.proofs.Streaming.{streams_then}
 use Rattle.oe_deeds.proofs.files.put.Goals as goal
 
 pub returns-in-Err : goal.returns-in-Err

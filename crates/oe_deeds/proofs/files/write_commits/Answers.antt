@@ -6,7 +6,7 @@ use Rattle.oe_lines.specs.Texts.{line_text}
 use Rattle.oe_io.specs.Ports.{Streams}
 use Rattle.oe_io.proofs.Streaming.{sent_waits, sent_then, sent_cut, streams_as}
 use Rattle.oe_deeds.specs.Files.{commit_line}
-use Rattle.oe_deeds.proofs.FileFacts.{streams_then}
+use Rattle.oe_io.proofs.Streaming.{streams_then}
 use Rattle.oe_deeds.proofs.files.write_commits.Goals as goal
 
 pub returns-in-Err : goal.returns-in-Err

@@ -1,6 +1,6 @@
 use Rattle.std.proofs.Common.{◌∙◌}
 use Rattle.oe_core.specs.Core.{world_of}
-use Rattle.oe_drive.proofs.EndFacts.{all_sent, front_sent}
+use Rattle.oe_io.proofs.Streaming.{all_sent, front_sent}
 use Rattle.oe_drive.proofs.RestoredFacts.{told_so, told_well}
 use Rattle.oe_drive.proofs.runs.run_drive.Goals as goal
 

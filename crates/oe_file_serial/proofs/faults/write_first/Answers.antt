@@ -4,7 +4,7 @@ use Rattle.oe_io.proofs.Streaming.{sent_none, sent_then, sent_cut, sent_as, cut_
 use Rattle.oe_file_serial.specs.BadTexts.{bad_line_text}
 use Rattle.oe_file_serial.specs.declared.reasons.BadLine.{BadLine}
 use Rattle.oe_file_serial.specs.declared.reasons.Why.TheVariants as why
-use Rattle.oe_file_serial.proofs.ListFacts.{front_more, front_and_rest, front_all}
+use Rattle.oe_io.proofs.FrontFacts.{front_next, front_and_rest, front_all}
 use Rattle.oe_file_serial.proofs.faults.write_first.Goals as goal
 
 pub loop-bad-init : goal.loop-bad-init
@@ -19,7 +19,7 @@ loop-bad-preserved g c =
     let old = g.W.Outlet.sink c.args.to.now in
     let new = g.W.Outlet.sink c.write_bad_line.new.to in
     let i = c.loop-bad.bad-index in
-    sent_as old new [] [] _ _ (front_more bad_line_text c.args.first.now i nowhere c.loop-bad-test.true)
+    sent_as old new [] [] _ _ (front_next bad_line_text c.args.first.now i nowhere c.loop-bad-test.true)
     (sent_then old (g.W.Outlet.sink c.loop-bad.to) new [] [] []
     (flat_map bad_line_text (take i c.args.first.now)) (bad_line_text (get_or c.args.first.now i nowhere))
     c.loop-bad.invariant c.in_default.ensures)
@@ -33,7 +33,7 @@ returns-in-Err g c =
     let one = bad_line_text (get_or c.args.first.now i nowhere) in
     let rest = flat_map bad_line_text (drop (i + 1) c.args.first.now) in
     cut_as old new [] ((before ++ one) ++ rest) _
-    (ap (λ t. t ++ rest) (front_more bad_line_text c.args.first.now i nowhere c.loop-bad-test.true)
+    (ap (λ t. t ++ rest) (front_next bad_line_text c.args.first.now i nowhere c.loop-bad-test.true)
     ∙ front_and_rest bad_line_text c.args.first.now (i + 1))
     (cut_more old new [] (before ++ one) rest
     (sent_cut old (g.W.Outlet.sink c.loop-bad.to) new [] [] before one c.loop-bad.invariant c.in-Err.ensures))

@@ -52,28 +52,33 @@ returns-in-Run g c = λ line short says.
 
 pub returns-in-Save : goal.returns-in-Save
 returns-in-Save g c = λ line short says.
-    told_here (world_of c.args.core.now) (world_of c.tell.new.core) c.args.number line c.args.asked.now
-    (command.Save c.in-Save.terminal) (g.W.Outlet.sink c.args.to.now) c.args.out.now.items c.tell.new.out.items _
-    short says c.in-Save.is tt (c.tell.ensures.0, world_of c.tell.new.core, c.tell.ensures.1, refl, refl)
-    c.tell.ensures.2
+    told_here (world_of c.args.core.now) (world_of c.save.new.self) c.args.number line c.args.asked.now
+    (command.Save c.in-Save.terminal) (g.W.Outlet.sink c.args.to.now) c.args.out.now.items
+    c.answer.new.out.items _
+    short says c.in-Save.is tt (c.save.result, world_of c.save.new.self, c.save.ensures.0, refl, refl)
+    c.answer.ensures.items
 
 pub returns-in-Back : goal.returns-in-Back
 returns-in-Back g c = λ line short says.
-    told_here (world_of c.args.core.now) (world_of c.tell-in-Back.new.core) c.args.number line c.args.asked.now
+    told_here (world_of c.args.core.now) (world_of c.back.new.self) c.args.number line c.args.asked.now
     (command.Back c.in-Back.terminal) (g.W.Outlet.sink c.args.to.now) c.args.out.now.items
-    c.tell-in-Back.new.out.items _
-    short says c.in-Back.is tt
-    (c.tell-in-Back.ensures.0, world_of c.tell-in-Back.new.core, c.tell-in-Back.ensures.1, refl, refl)
-    c.tell-in-Back.ensures.2
+    c.answer-in-Back.new.out.items _
+    short says c.in-Back.is tt (c.back.result, world_of c.back.new.self, c.back.ensures.0, refl, refl)
+    c.answer-in-Back.ensures.items
 
 pub returns-in-Rollback : goal.returns-in-Rollback
 returns-in-Rollback g c = λ line short says.
-    told_here (world_of c.args.core.now) (world_of c.tell-in-Rollback.new.core) c.args.number line c.args.asked.now
+    told_here (world_of c.args.core.now) (world_of c.rollback.new.self) c.args.number line c.args.asked.now
     (command.Rollback c.in-Rollback.terminal) (g.W.Outlet.sink c.args.to.now) c.args.out.now.items
-    c.tell-in-Rollback.new.out.items _
-    short says c.in-Rollback.is tt
-    (c.tell-in-Rollback.ensures.0, world_of c.tell-in-Rollback.new.core, c.tell-in-Rollback.ensures.1, refl, refl)
-    c.tell-in-Rollback.ensures.2
+    c.answer-in-Rollback.new.out.items _
+    short says c.in-Rollback.is tt (
+      c.rollback.result,
+      world_of c.rollback.new.self,
+      c.rollback.ensures.carries.0,
+      refl,
+      refl,
+    )
+    c.answer-in-Rollback.ensures.items
 
 pub returns-in-Read : goal.returns-in-Read
 returns-in-Read g c = λ line short says.

@@ -3,7 +3,8 @@ use Rattle.std.specs.Prelude.{codes}
 use Rattle.oe_io.proofs.Streaming.{cut_more}
 use Rattle.oe_books.specs.declared.findings.PartFound.{PartFound}
 use Rattle.oe_audit_report.specs.Json.{listing, check_head, part_json}
-use Rattle.oe_audit_report.proofs.StreamFacts.{streams_then, streams_from}
+use Rattle.oe_io.proofs.Streaming.{streams_then}
+use Rattle.oe_audit_report.proofs.StreamFacts.{streams_from}
 use Rattle.oe_audit_report.proofs.json.CheckObjectsTextOfCheckFound.put.Goals as goal
 
 pub returns-in-Ok : goal.returns-in-Ok

@@ -5,7 +5,8 @@ use Rattle.oe_books.specs.declared.findings.Finding.{Finding}
 use Rattle.oe_audit_report.specs.Labels.{Names, names_in, label_of}
 use Rattle.oe_audit_report.specs.Report.{findings_shown}
 use Rattle.oe_audit_report.specs.Json.{listing, finding_json, part_head, part_json}
-use Rattle.oe_audit_report.proofs.StreamFacts.{streams_then, streams_from}
+use Rattle.oe_io.proofs.Streaming.{streams_then}
+use Rattle.oe_audit_report.proofs.StreamFacts.{streams_from}
 use Rattle.oe_audit_report.proofs.json.PartObjectsTextOfPartFound.put.Goals as goal
 
 abbrev head : Names → List Finding → List ℕ

@@ -1,6 +1,6 @@
 use Rattle.std.specs.Prelude.{codes}
 use Rattle.oe_io.proofs.Streaming.{cut_more}
-use Rattle.oe_audit_report.proofs.StreamFacts.{streams_then}
+use Rattle.oe_io.proofs.Streaming.{streams_then}
 use Rattle.oe_audit_report.proofs.lines.BehindCommaTextOf.put.Goals as goal
 
 pub returns-in-Ok : goal.returns-in-Ok

@@ -2,7 +2,7 @@ use Rattle.std.proofs.Common.{ap}
 use Rattle.std.specs.List.{flat_map}
 use Rattle.oe_io.proofs.Streaming.{cut_more, cut_as, sent_as}
 use Rattle.oe_audit_report.specs.Report.{part_text, holds_line}
-use Rattle.oe_audit_report.proofs.StreamFacts.{streams_then}
+use Rattle.oe_io.proofs.Streaming.{streams_then}
 use Rattle.oe_audit_report.proofs.report.CheckTextsTextOfCheckFound.put.Goals as goal
 
 pub returns-in-Ok : goal.returns-in-Ok

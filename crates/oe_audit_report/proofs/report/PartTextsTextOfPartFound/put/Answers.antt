@@ -5,7 +5,7 @@ use Rattle.oe_books.specs.declared.findings.Finding.{Finding}
 use Rattle.oe_books.specs.declared.parts.Check.{Check}
 use Rattle.oe_audit_report.specs.Labels.{Names, names_in, label_of}
 use Rattle.oe_audit_report.specs.Report.{row_line, more_line, part_text, findings_shown}
-use Rattle.oe_audit_report.proofs.StreamFacts.{streams_then}
+use Rattle.oe_io.proofs.Streaming.{streams_then}
 use Rattle.oe_audit_report.proofs.report.PartTextsTextOfPartFound.put.Goals as goal
 
 text_is : (check : Check) (l m : Names) (s t v w : List Finding) → l ≡ m → s ≡ t → v ≡ w

@@ -1,23 +1,36 @@
+use Rattle.std.proofs.Common.{◌≡◌, None, Some, sym, ap, ◌∙◌}
+use Rattle.oe_model.specs.Requests.{query_rejection}
 use Rattle.oe_core.proofs.MoveFacts.{carries}
-use Rattle.oe_core.proofs.ReadFacts.{stand_here, names_here, replied_here, refused_here}
+use Rattle.oe_core.proofs.LentFacts.{stands_here}
+use Rattle.oe_core.proofs.ReadFacts.{replied_here, rejected_here, missing_here, outside_here}
 use Rattle.oe_core.proofs.cores.Core.read.Goals as goal
 
-pub answer-requires-clause-stand : goal.answer-requires-clause-stand
-answer-requires-clause-stand c = stand_here _ c.self.invariant c.tables.result.now c.undo.result.now.log
-    c.tables.ensures c.undo.ensures.log
-
-pub answer-requires-clause-names : goal.answer-requires-clause-names
-answer-requires-clause-names c = names_here c.self.inside.engine c.tables.result.now c.undo.result.now.log c.args.moment
-    c.names_stand-names_stand.result c.tables.ensures c.undo.ensures.log c.names_stand-names_stand.ensures
-
-pub returns-in-Ok : goal.returns-in-Ok
-returns-in-Ok c =
+pub returns-in-Some : goal.returns-in-Some
+returns-in-Some c =
     rw (← c.self.view_is)
-    (carries (replied_here _ c.tables.result.now c.undo.result.now.log c.args.moment c.args.query.now
-    c.tables.ensures c.undo.ensures.log c.self.invariant c.in-Ok.reply c.in-Ok.ensures.reply))
+    (carries (rejected_here _ c.self.invariant c.args.moment c.args.query.now c.in-Some.cause
+    (ap (query_rejection c.args.query.now) (sym c.tables.ensures) ∙ sym c.in-Some.ensures)))
+
+pub answer-requires : goal.answer-requires
+answer-requires c = stands_here _ c.self.invariant c.args.moment c.in-Ok.version c.in-Ok.ensures.version
+
+pub returns-in-Ok-answer : goal.returns-in-Ok-answer
+returns-in-Ok-answer c =
+    rw (← c.self.view_is)
+    (carries (replied_here _ c.self.invariant c.args.moment c.args.query.now
+    (ap (query_rejection c.args.query.now) (sym c.tables.ensures) ∙ sym c.in_default.ensures)
+    c.in-Ok.version c.in-Ok.ensures.version c.in-Ok.ensures.kept c.in-Ok-answer.reply c.in-Ok-answer.ensures.reply))
+
+pub returns-in-Err-answer : goal.returns-in-Err-answer
+returns-in-Err-answer c =
+    rw (← c.self.view_is)
+    (carries (missing_here _ c.self.invariant c.args.moment c.args.query.now
+    (ap (query_rejection c.args.query.now) (sym c.tables.ensures) ∙ sym c.in_default.ensures)
+    c.in-Ok.version c.in-Ok.ensures.version c.in-Ok.ensures.kept c.in-Err-answer.cause c.in-Err-answer.ensures.refusal))
 
 pub returns-in-Err : goal.returns-in-Err
 returns-in-Err c =
     rw (← c.self.view_is)
-    (carries (refused_here _ c.tables.result.now c.undo.result.now.log c.args.moment c.args.query.now
-    c.tables.ensures c.undo.ensures.log c.self.invariant c.in-Err.cause c.in-Err.ensures.refusal))
+    (carries (outside_here _ c.self.invariant c.args.moment c.args.query.now
+    (ap (query_rejection c.args.query.now) (sym c.tables.ensures) ∙ sym c.in_default.ensures)
+    c.in-Err.cause c.in-Err.ensures.refusal))

@@ -2,7 +2,7 @@ use Rattle.std.proofs.Common.{◌≡◌, Some, refl, sym, ap, subst, ◌∙◌}
 use Rattle.oe_requests.specs.declared.requests.Request.TheVariants as request
 use Rattle.oe_requests.specs.declared.requests.DeliveryRequest.{DeliveryRequest}
 use Rattle.oe_model.specs.Positions.{DeliveryPosition, InDelivery}
-use Rattle.oe_engine.specs.Programs.{GoesOn, IsRefused}
+use Rattle.oe_engine.specs.Programs.{GoesOn, IsStageRefusal}
 use Rattle.oe_delivery.specs.Program.{position_of}
 use Rattle.oe_delivery.specs.Deliveries.{Course, place_of, next_district}
 use Rattle.oe_delivery.proofs.TenFacts.{all_done, ended, stays, refused}
@@ -57,7 +57,7 @@ returns-in-Refused c =
     let old : Course = record { done = c.self.inside.done; district = position_of c.self.inside.program } in
     let hand : Some c.in-Some.district ≡ next_district c.args.request.now old = c.in-Some.ensures
     ∙ ap (next_district c.args.request.now) (sym c.self.view_is) in (
-      subst (λ (k : Course). IsRefused c.args.engine.now c.args.tx.now (request.Deliveries c.args.request.now)
+      subst (λ (k : Course). IsStageRefusal c.args.engine.now c.args.tx.now (request.Deliveries c.args.request.now)
           (place_of c.args.request.now k) c.in-Refused.refusal) c.self.view_is
           (refused c.args.engine.now c.args.tx.now c.args.request.now old c.in-Some.district hand c.in-Refused.refusal
           c.in-Refused.ensures.0),

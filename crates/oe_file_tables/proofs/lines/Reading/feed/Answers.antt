@@ -3,7 +3,8 @@ use Rattle.std.proofs.Common.{arith}
 use Rattle.std.proofs.Common.{subst, ℕ, List}
 use Rattle.std.proofs.lemmas.List.{take_rest, length-drop}
 use Rattle.oe_file_tables.specs.Reading.{Standing}
-use Rattle.oe_file_tables.proofs.ReadFacts.{no_end, before_end, with_end, standing_bytes, standing_line}
+use Rattle.oe_filelines.proofs.LineFacts.{no_end, before_end, with_end}
+use Rattle.oe_file_tables.proofs.ReadFacts.{standing_bytes, standing_line}
 use Rattle.oe_file_tables.proofs.lines.Reading.feed.Goals as goal
 
 pub loop-n-init : goal.loop-n-init

@@ -6,7 +6,7 @@ use Rattle.oe_script.specs.Session.{state_of}
 use Rattle.oe_io.specs.declared.ports.Failed.{Failed}
 use Rattle.oe_script.proofs.Reaching.{stand_bytes, stand_line, broken_more, broken_as, to_end, past_end, standing_as}
 use Rattle.oe_script.proofs.Reaching.{standing_same}
-use Rattle.oe_script.proofs.Splitting.{no_end, before_end, at_end}
+use Rattle.oe_filelines.proofs.LineFacts.{no_end, before_end, with_end}
 use Rattle.oe_script.proofs.session.Session.feed.Goals as goal
 
 pub returns-in-Err-clause-fed : goal.returns-in-Err-clause-fed
@@ -29,7 +29,7 @@ returns-in-Err-clause-fed g c = λ d input s.
     broken_as d.begun d.live d.start sink _ (input ++ c.args.piece.now)
     (λ told. HearsEach g.H.Listener.hears d.first told c.end_line.new.listener)
     (ap (λ z. z ++ more) (to_end input t.0 last) ∙ append_assoc input ((t.0 ++ last) ++ 10 ∷ []) more
-    ∙ ap (λ z. input ++ z) (past_end t.0 last more l.rest.now (at_end l.rest.now n found) ∙ t.1))
+    ∙ ap (λ z. input ++ z) (past_end t.0 last more l.rest.now (with_end l.rest.now n found) ∙ t.1))
     (broken_more d.begun d.live d.start sink (((input ++ t.0) ++ last) ++ 10 ∷ []) more
     (λ told. HearsEach g.H.Listener.hears d.first told c.end_line.new.listener) broken)
 
@@ -49,7 +49,7 @@ loop-n-preserved g c =
       taken = (
         front,
         ap (λ z. front ++ z) (take_rest l.rest.now (n + 1)) ∙ past_end t.0 last more l.rest.now
-            (at_end l.rest.now n found) ∙ t.1,
+            (with_end l.rest.now n found) ∙ t.1,
         omega (arith, t.2, e.count, length-append (t.0 ++ last) (10 ∷ []), length-append t.0 last),
         λ d input s.
             standing_as d.begun d.live g.H.Listener.hears d.first c.end_line.new.listener d.start (g.W.Outlet.sink
