@@ -1,13 +1,14 @@
 -- Beside an open transaction others are answered as without it.
-use Rattle.std.proofs.Common.{◌≡◌, ℕ, Bool, true, false, cond, Option, None, Some, List, [], ◌∷◌, refl, sym, ap, ◌∙◌}
-use Rattle.std.proofs.Common.{subst, inl, inr}
+use Rattle.std.proofs.Common.{◌≡◌, ℕ, zero, suc, ◌+◌, ◌-◌, ◌<◌, ◌≤◌, Bool, true, false, cond, Option, None, Some, List}
+use Rattle.std.proofs.Common.{[], ◌∷◌, refl, sym, ap, ◌∙◌, subst, inl, inr, arith}
 use Rattle.std.specs.Prelude.{◌⊎◌, ◌≢◌}
-use Rattle.std.proofs.lemmas.Bool.{cases_eq, eq-eqb, ne_eqb, false≢true}
-use Rattle.oe_theory.specs.Machine.{Machine, Mode, Ask, Stop, Plain, Take}
+use Rattle.std.proofs.lemmas.Bool.{cases_eq, eq-eqb, ne_eqb, eqb-true, leb-true, leb-false, lt-leb, false≢true}
+use Rattle.oe_theory.specs.Machine.{Machine, Mode, Ask, Stop, Plain, Take, Go}
 use Rattle.oe_theory.specs.World.{set, Open, World, tx_of, tables}
 use Rattle.oe_theory.specs.Next.{Step, Begin, Advance, Save, Back, Rollback, Read, Audit, Purge, Rewind, Answer, Begun}
-use Rattle.oe_theory.specs.Next.{Rolled_back, Busy, Already_open, works_on, IsPast, put_active, open_at_begin}
-use Rattle.oe_theory.specs.Next.{open_after, IsGranted}
+use Rattle.oe_theory.specs.Next.{Rolled_back, Busy, Undo_full, Already_open, Not_quiet, works_on, IsPast, put_active}
+use Rattle.oe_theory.specs.Next.{open_at_begin, open_after, fill_of, used_by, used_active, extents_used, count_open}
+use Rattle.oe_theory.specs.Next.{IsFull, IsGranted}
 use Rattle.oe_theory.specs.Next.{IsInTheWay, GivesWay, MayLackMemory, MayBegin, Next, begins, goes_on, commits, saves}
 use Rattle.oe_theory.specs.Next.{goes_back, rolls_back, reads, audits, purges, rewinds, stops, fails, is_busy, is_full}
 use Rattle.oe_theory.specs.Next.{is_rejected, is_open, number_is_rejected, query_is_rejected, misses, not_open, too_old}
@@ -16,13 +17,32 @@ use Rattle.oe_theory.specs.Laws.{IsSameEver, Sound, Laws}
 use Rattle.oe_theory.specs.Erase.{is_idle, is_rollback, is_commit, names, is_of, tidy, events_without, is_rolled_back}
 use Rattle.oe_theory.proofs.Sets.{set_same, set_other, set_cases, some_inj, some_none}
 use Rattle.oe_theory.proofs.Tables.{same_ever}
-use Rattle.oe_theory.proofs.Steps.{reads_alone, acts_alone, sound_drop}
+use Rattle.oe_theory.specs.Theorems.{IsReached}
+use Rattle.oe_theory.proofs.Steps.{row_alone, reads_alone, acts_alone, sound_drop}
 use Rattle.oe_theory.proofs.Erase.{run_erased, run_without}
-use Rattle.oe_theory.proofs.Theorems.{reached_sound}
-use Rattle.oe_script_laws.specs.Beside.{gives_way, without_open, Others_see_nothing}
+use Rattle.oe_theory.proofs.StepTheorems.{steps_are_counted}
+use Rattle.oe_theory.proofs.Theorems.{reached_sound, extents_suffice}
+use Rattle.oe_script_laws.specs.Beside.{holds_extent, gives_way, answer_without, without_open, Others_see_nothing}
 
 module _ (M : Machine) (L : Laws M) where
-  open M use {Name, Request, Query, Refusal, ask, act, rejection, query_rejection, yields}
+  open M use {
+    row_at,
+    key_of,
+    record_of,
+    size_of,
+    Change,
+    Name,
+    Request,
+    Query,
+    Position,
+    Refusal,
+    ask,
+    act,
+    rejection,
+    query_rejection,
+    yields,
+    terminal_limit,
+  }
   open L use {rejection_same, query_rejection_same}
 
   -- WHAT IS THE SAME WITHOUT IT
@@ -71,7 +91,65 @@ module _ (M : Machine) (L : Laws M) where
       ∙ sym (acts_alone M L (without_open M t w) (sound_drop M L w s t) u o (live_without w t u (Some o) ne e)
       (granted w s t u o ne e g))
 
+  -- WHAT IS LESS WITHOUT IT
+
+  -- the extents that are used
+  used_above : (active : ℕ → Option (Open M)) (t n : ℕ) → n ≤ t
+      → used_active M (set t None active) n ≡ used_active M active n
+  used_above active t zero h = refl
+  used_above active t (suc n) h =
+      let e : used_by M (set t None active n) ≡ used_by M (active n) = ap (used_by M)
+      (set_other t None active n (λ q. omega (arith, q, h))) in
+      omega (arith, used_above active t n (omega (arith, h)), e)
+
+  used_below : (active : ℕ → Option (Open M)) (t n : ℕ) → t < n
+      → used_active M (set t None active) n + used_by M (active t) ≡ used_active M active n
+  used_below active t zero h = absurd (omega (arith, h))
+  used_below active t (suc n) h = go (cases_eq n t) (used_below active t n)
+    where
+      go : (n ≡ t) ⊎ (n ≢ t)
+          → (t < n → used_active M (set t None active) n + used_by M (active t) ≡ used_active M active n)
+          → (used_active M (set t None active) n + used_by M (set t None active n)) + used_by M
+          (active t) ≡ used_active M active n + used_by M (active n)
+      go (inl q) i =
+          let a : used_by M (set t None active n) ≡ 0 = ap (used_by M) (set_same t None active n q) in
+          let b : used_by M (active n) ≡ used_by M (active t) = ap (λ z. used_by M (active z)) q in
+          omega (arith, a, b, used_above active t n (omega (arith, q)))
+      go (inr ne) i =
+          let a : used_by M (set t None active n) ≡ used_by M (active n) = ap (used_by M) (set_other t None active n ne)
+          in
+          omega (arith, a, i (omega (arith, h, ne)))
+
+  used_without : (w : World M) → Sound M w → (t : ℕ) (o : Open M) → w.active t ≡ Some o
+      → extents_used M (without_open M t w) + used_by M (Some o) ≡ extents_used M w
+  used_without w s t o l =
+      let here : used_by M (w.active t) ≡ used_by M (Some o) = ap (used_by M) l in
+      omega (arith, used_below w.active t terminal_limit (s.each t o l).terminal.1, here)
+
+  -- the transactions that are open
+  one_fewer : (w : World M) → IsReached M w → (t : ℕ) (o : Open M) → w.active t ≡ Some o
+      → count_open M w.active terminal_limit ≡ suc (count_open M (without_open M t w).active terminal_limit)
+  one_fewer w r t o l =
+      let c = steps_are_counted M L w (without_open M t w) (Rollback t) Rolled_back r (rolls_back t o l) in
+      c.open_count
+
   -- REFUSALS
+
+  full_without : (w : World M) → Sound M w → (t u : ℕ) (o p : Open M) (c : Change) (q : Position) → u ≢ t
+      → w.active t ≡ Some o → w.active u ≡ Some p
+      → IsGranted M w u (ask (tx_of M u p) p.now.position (tables M w))
+      → act (tx_of M u p) p.now.position (tables M w) ≡ Go (Some c) q
+      → holds_extent M (Some o) ≡ false → IsFull M w p c → IsFull M (without_open M t w) p c
+  full_without w s t u o p c q ne l e g r none f = (
+    subst (λ v. (fill_of M p.lengths).1 < size_of (record_of w.layout c v)) same f.0,
+    let few = leb-false 1 (used_by M (Some o)) none in omega (arith, f.1, used_without w s t o l, few),
+  )
+    where
+      same : row_at (tables M w) (key_of c) ≡ row_at (tables M (without_open M t w)) (key_of c)
+      same =
+          row_alone M L w s u p c q e g r
+          ∙ sym (row_alone M L (without_open M t w) (sound_drop M L w s t) u p c q (live_without w t u (Some p) ne e)
+          (granted w s t u p ne e g) (sym (same_act w s t u p ne e g) ∙ r))
 
   busy_without : (w : World M) (t u : ℕ) (n : Name) (m : Mode) (x : ℕ) → x ≢ t → IsInTheWay M w u n m x
       → IsInTheWay M (without_open M t w) u n m x
@@ -132,10 +210,10 @@ module _ (M : Machine) (L : Laws M) where
   -- STEPS OF OTHERS
 
   -- what a step of others does beside the transaction: it is refused and gives way, or is answered so without it too
-  pub data Beside (w : World M) (t : ℕ) (i : Step M) (a : Answer M) (v : World M) : Type 0 where
-    gave_way : gives_way M t i a ≡ true → is_idle M a ≡ true → v ≡ w → Beside w t i a v
-    stands : gives_way M t i a ≡ false → (o : Open M) → v.active t ≡ Some o
-        → Next M (without_open M t w) i a (without_open M t v) → Beside w t i a v
+  pub data Beside (w : World M) (t : ℕ) (o : Open M) (i : Step M) (a : Answer M) (v : World M) : Type 0 where
+    gave_way : gives_way M t (Some o) i a ≡ true → is_idle M a ≡ true → v ≡ w → Beside w t o i a v
+    stands : gives_way M t (Some o) i a ≡ false → v.active t ≡ Some o
+        → Next M (without_open M t w) i (answer_without M a) (without_open M t v) → Beside w t o i a v
 
   still_open : (w : World M) (t u : ℕ) (o : Open M) (v : Option (Open M)) → u ≢ t → w.active t ≡ Some o
       → set u v w.active t ≡ Some o
@@ -191,92 +269,149 @@ module _ (M : Machine) (L : Laws M) where
           → Next M (without_open M t w) i a (without_open M t v)
       at_end (x, m, e) = subst (Next M (without_open M t w) i a) e m
 
-  -- a refusal of another that is there without the transaction too
-  stays : (w : World M) (t : ℕ) (o : Open M) → w.active t ≡ Some o → (i : Step M) (a : Answer M)
-      → gives_way M t i a ≡ false → Next M (without_open M t w) i a (without_open M t w) → Beside w t i a w
-  stays w t o l i a b n = stands b o l n
-
-  pub beside : (w : World M) → Sound M w → (t : ℕ) (o : Open M) → w.active t ≡ Some o
-      → (i : Step M) (a : Answer M) (v : World M) → works_on M i ≢ Some t → Next M w i a v → Beside w t i a v
-  beside w s t o l _ _ _ h (begins u q b) =
+  beside_sound : (w : World M) → IsReached M w → Sound M w → (t : ℕ) (o : Open M) → w.active t ≡ Some o
+      → (i : Step M) (a : Answer M) (v : World M) → works_on M i ≢ Some t → Next M w i a v → Beside w t o i a v
+  beside_sound w r' s t o l _ _ _ h (begins u q b) =
       let ne : u ≢ t = λ z. some_none o (sym l ∙ (ap w.active (sym z) ∙ b.closed)) in
       let k = still_open w t u o (Some (open_at_begin M w u q)) ne l in
-      stands refl o k (accepted w s t o o l _ _ _ h (begins u q b) refl k)
-  beside w s t o l _ _ _ h (goes_on u p c q e g r room) =
+      stands refl k (accepted w s t o o l _ _ _ h (begins u q b) refl k)
+  beside_sound w r' s t o l _ _ _ h (goes_on u p c q e g r room) =
       let k = still_open w t u o
       (Some (open_after M w.layout p (ask (tx_of M u p) p.now.position (tables M w)) c q (tables M w)))
       (λ z. h (ap Some z)) l in
-      stands refl o k (accepted w s t o o l _ _ _ h (goes_on u p c q e g r room) refl k)
-  beside w s t o l _ _ _ h (commits u p reply e g r) =
+      stands refl k (accepted w s t o o l _ _ _ h (goes_on u p c q e g r room) refl k)
+  beside_sound w r' s t o l _ _ _ h (commits u p reply e g r) =
       let k = still_open w t u o None (λ z. h (ap Some z)) l in
-      stands refl o k (accepted w s t o o l _ _ _ h (commits u p reply e g r) refl k)
-  beside w s t o l _ _ _ h (saves u p e) =
+      stands refl k (accepted w s t o o l _ _ _ h (commits u p reply e g r) refl k)
+  beside_sound w r' s t o l _ _ _ h (saves u p e) =
       let k = still_open w t u o (Some (record p { mark = p.now; mark_lengths = p.lengths })) (λ z. h (ap Some z)) l in
-      stands refl o k (accepted w s t o o l _ _ _ h (saves u p e) refl k)
-  beside w s t o l _ _ _ h (goes_back u p e) =
+      stands refl k (accepted w s t o o l _ _ _ h (saves u p e) refl k)
+  beside_sound w r' s t o l _ _ _ h (goes_back u p e) =
       let k = still_open w t u o (Some (record p { now = p.mark; lengths = p.mark_lengths })) (λ z. h (ap Some z)) l in
-      stands refl o k (accepted w s t o o l _ _ _ h (goes_back u p e) refl k)
-  beside w s t o l _ _ _ h (rolls_back u p e) =
+      stands refl k (accepted w s t o o l _ _ _ h (goes_back u p e) refl k)
+  beside_sound w r' s t o l _ _ _ h (rolls_back u p e) =
       let k = still_open w t u o None (λ z. h (ap Some z)) l in
-      stands refl o k (accepted w s t o o l _ _ _ h (rolls_back u p e) refl k)
-  beside w s t o l _ _ _ h (reads m q f n b c e) =
-      stands refl o l (accepted w s t o o l _ _ _ h (reads m q f n b c e) refl l)
-  beside w s t o l _ _ _ h (audits m c b k) = stands refl o l (accepted w s t o o l _ _ _ h (audits m c b k) refl l)
-  beside w s t o l _ _ _ h (purges m b c) = stands refl o l (accepted w s t o o l _ _ _ h (purges m b c) refl l)
-  beside w s t o l _ _ _ h (rewinds m quiet b c) = absurd (some_none o (sym l ∙ quiet t))
-  beside w s t o l _ _ _ h (stops u p x e r) =
+      stands refl k (accepted w s t o o l _ _ _ h (rolls_back u p e) refl k)
+  beside_sound w r' s t o l _ _ _ h (reads m q f n b c e) =
+      stands refl l (accepted w s t o o l _ _ _ h (reads m q f n b c e) refl l)
+  beside_sound w r' s t o l _ _ _ h (audits m c b k) = stands refl l
+      (accepted w s t o o l _ _ _ h (audits m c b k) refl l)
+  beside_sound w r' s t o l _ _ _ h (purges m b c) = stands refl l (accepted w s t o o l _ _ _ h (purges m b c) refl l)
+  beside_sound w r' s t o l _ _ _ h (rewinds m quiet b c) = absurd (some_none o (sym l ∙ quiet t))
+  beside_sound w r' s t o l _ _ _ h (stops u p x e r) =
       let k = still_open w t u o None (λ z. h (ap Some z)) l in
-      stands refl o k (accepted w s t o o l _ _ _ h (stops u p x e r) refl k)
-  beside w s t o l _ _ _ h (fails u p x e g r) =
+      stands refl k (accepted w s t o o l _ _ _ h (stops u p x e r) refl k)
+  beside_sound w r' s t o l _ _ _ h (fails u p x e g r) =
       let k = still_open w t u o None (λ z. h (ap Some z)) l in
-      stands refl o k (accepted w s t o o l _ _ _ h (fails u p x e g r) refl k)
-  beside w s t o l _ _ _ h (is_busy u p n m x e r g) = go (cases_eq x t)
+      stands refl k (accepted w s t o o l _ _ _ h (fails u p x e g r) refl k)
+  beside_sound w r' s t o l _ _ _ h (is_busy u p n m x e r g) = go (cases_eq x t)
     where
       ne : u ≢ t
       ne = λ z. h (ap Some z)
 
-      go : (x ≡ t) ⊎ (x ≢ t) → Beside w t (Advance u) (Busy n x) w
+      go : (x ≡ t) ⊎ (x ≢ t) → Beside w t o (Advance u) (Busy n x) w
       go (inl same) = gave_way (eq-eqb x t same) refl refl
       go (inr other) =
-          stands (ne_eqb x t other) o l
+          stands (ne_eqb x t other) l
           (is_busy u p n m x (live_without w t u (Some p) ne e) (sym (same_ask w s t u p ne e) ∙ r)
           (busy_without w t u n m x other g))
-  beside w s t o l _ _ _ h (is_full u p c q e g r f) = gave_way refl refl refl
-  beside w s t o l _ _ _ h (is_rejected u q e r) = stands refl o l (is_rejected u q e (sym (same_turned w s t q) ∙ r))
-  beside w s t o l _ _ _ h (is_open u q p r e) = go (cases_eq u t)
+  beside_sound w r' s t o l _ _ _ h (is_full u p c q e g r f) = go (holds_extent M (Some o)) refl
     where
-      go : (u ≡ t) ⊎ (u ≢ t) → Beside w t (Begin u q) Already_open w
+      ne : u ≢ t
+      ne = λ z. h (ap Some z)
+
+      go : (b : Bool) → holds_extent M (Some o) ≡ b → Beside w t o (Advance u) Undo_full w
+      go true holds = gave_way holds refl refl
+      go false none =
+          stands none l
+          (is_full u p c q (live_without w t u (Some p) ne e) (granted w s t u p ne e g)
+          (sym (same_act w s t u p ne e g) ∙ r) (full_without w s t u o p c q ne l e g r none f))
+  beside_sound w r' s t o l _ _ _ h (is_rejected u q e r) = stands refl l
+      (is_rejected u q e (sym (same_turned w s t q) ∙ r))
+  beside_sound w r' s t o l _ _ _ h (is_open u q p r e) = go (cases_eq u t)
+    where
+      go : (u ≡ t) ⊎ (u ≢ t) → Beside w t o (Begin u q) Already_open w
       go (inl same) = gave_way (eq-eqb u t same) refl refl
-      go (inr other) = stands (ne_eqb u t other) o l
+      go (inr other) = stands (ne_eqb u t other) l
           (is_open u q p (sym (same_turned w s t q) ∙ r) (live_without w t u (Some p) other e))
-  beside w s t o l _ _ _ h (number_is_rejected u q e r c k) =
+  beside_sound w r' s t o l _ _ _ h (number_is_rejected u q e r c k) =
       let ne : u ≢ t = λ z. some_none o (sym l ∙ (ap w.active (sym z) ∙ c)) in
-      stands refl o l (number_is_rejected u q e (sym (same_turned w s t q) ∙ r) (live_without w t u None ne c) k)
-  beside w s t o l _ _ _ h (query_is_rejected m q e r) = stands refl o l
+      stands refl l (number_is_rejected u q e (sym (same_turned w s t q) ∙ r) (live_without w t u None ne c) k)
+  beside_sound w r' s t o l _ _ _ h (query_is_rejected m q e r) = stands refl l
       (query_is_rejected m q e (sym (same_unasked w s t q) ∙ r))
-  beside w s t o l _ _ _ h (misses m q e r b c k) = stands refl o l
+  beside_sound w r' s t o l _ _ _ h (misses m q e r b c k) = stands refl l
       (misses m q e (sym (same_unasked w s t q) ∙ r) b c k)
-  beside w s t o l _ _ _ h (not_open i u e f) =
-      stands refl o l (not_open i u e (live_without w t u None (λ z. h (e ∙ ap Some z)) f))
-  beside w s t o l _ _ _ h (too_old i m e p b) = stands refl o l (too_old i m e (past_without w s t o l i p) b)
-  beside w s t o l _ _ _ h (future i m e p b) = stands refl o l (future i m e (past_without w s t o l i p) b)
-  beside w s t o l _ _ _ h (not_quiet m n e) = gave_way refl refl refl
-  beside w s t o l _ _ _ h (lacks_memory_at_begin u q b) =
+  beside_sound w r' s t o l _ _ _ h (not_open i u e f) =
+      stands refl l (not_open i u e (live_without w t u None (λ z. h (e ∙ ap Some z)) f))
+  beside_sound w r' s t o l _ _ _ h (too_old i m e p b) = stands refl l (too_old i m e (past_without w s t o l i p) b)
+  beside_sound w r' s t o l _ _ _ h (future i m e p b) = stands refl l (future i m e (past_without w s t o l i p) b)
+  beside_sound w r' s t o l _ _ _ h (not_quiet m zero e) = gave_way refl refl refl
+  beside_sound w r' s t o l _ _ _ h (not_quiet m (suc n) e) =
+      let fewer : count_open M (without_open M t w).active terminal_limit ≡ suc n =
+      omega (arith, e, one_fewer w r' t o l) in
+      let told : suc n ≡ suc (suc n) - 1 = omega arith in
+      stands (lt-leb (suc (suc n)) 1 (omega arith)) l
+      (subst (λ (k : ℕ). Next M (without_open M t w) (Rewind m) (Not_quiet k) (without_open M t w)) told
+      (not_quiet m n fewer))
+  beside_sound w r' s t o l _ _ _ h (lacks_memory_at_begin u q b) =
       let ne : u ≢ t = λ z. some_none o (sym l ∙ (ap w.active (sym z) ∙ b.closed)) in
-      stands refl o l (lacks_memory_at_begin u q (may_begin w s t u q ne b))
-  beside w s t o l _ _ _ h (lacks_memory u p e m) =
+      stands refl l (lacks_memory_at_begin u q (may_begin w s t u q ne b))
+  beside_sound w r' s t o l _ _ _ h (lacks_memory u p e m) =
       let ne : u ≢ t = λ z. h (ap Some z) in
       let a = ask (tx_of M u p) p.now.position (tables M w) in
-      stands refl o l
+      stands refl l
       (lacks_memory u p (live_without w t u (Some p) ne e)
       (subst (MayLackMemory M (without_open M t w) u p) (same_ask w s t u p ne e) (may_lack w s t u p ne e a refl m)))
 
-  pub others_see_nothing : Others_see_nothing M
-  others_see_nothing w v i a t o r l h n b = go (beside w (reached_sound M L w r) t o l i a v h n)
+  pub beside : (w : World M) → IsReached M w → (t : ℕ) (o : Open M) → w.active t ≡ Some o
+      → (i : Step M) (a : Answer M) (v : World M) → works_on M i ≢ Some t → Next M w i a v → Beside w t o i a v
+  beside w r t o l i a v h n = beside_sound w r (reached_sound M L w r) t o l i a v h n
+
+  others : (w v : World M) (i : Step M) (a : Answer M) (t : ℕ) (o : Open M) → IsReached M w → w.active t ≡ Some o
+      → works_on M i ≢ Some t → Next M w i a v → gives_way M t (Some o) i a ≡ false
+      → Next M (without_open M t w) i (answer_without M a) (without_open M t v)
+  others w v i a t o r l h n b = go (beside w r t o l i a v h n)
     where
-      go : Beside w t i a v → Next M (without_open M t w) i a (without_open M t v)
+      go : Beside w t o i a v → Next M (without_open M t w) i (answer_without M a) (without_open M t v)
       go (gave_way c idle same) = absurd (false≢true (sym b ∙ c))
-      go (stands c p k m) = m
+      go (stands c k m) = m
+
+  -- so many are open
+  open_told : (w : World M) (i : Step M) (a : Answer M) (v : World M) (n : ℕ) → Next M w i a v → a ≡ Not_quiet n
+      → count_open M w.active terminal_limit ≡ n
+  open_told w _ _ _ n (not_quiet m k e) a = let here : suc k ≡ n = cc in e ∙ here
+  open_told w _ _ _ n x a = cc
+
+  -- why a step gives way
+  data Cause (w : World M) (t : ℕ) (o : Open M) (a : Answer M) : Type 0 where
+    has_open : (p : Open M) → w.active t ≡ Some p → Cause w t o a
+    has_all : holds_extent M (Some o) ≡ true → w.extents ≤ extents_used M w → Cause w t o a
+    counts : (n : ℕ) → a ≡ Not_quiet n → count_open M w.active terminal_limit ≡ n → Cause w t o a
+
+  cause : (w : World M) (i : Step M) (a : Answer M) (v : World M) (t : ℕ) (o : Open M) → Next M w i a v
+      → gives_way M t (Some o) i a ≡ true → Cause w t o a
+  cause w _ _ _ t o (is_busy u p m k x e g f) b =
+      has_open f.who (ap w.active (sym (eqb-true x t b)) ∙ f.is_open)
+  cause w _ _ _ t o (is_full u p c q e g f full) b = has_all b full.1
+  cause w _ _ _ t o (is_open u q p e f) b = has_open p (ap w.active (sym (eqb-true u t b)) ∙ f)
+  cause w _ _ _ t o (not_quiet m k e) b = counts (suc k) refl e
+  cause w _ _ _ t o n b = absurd (false≢true b)
+
+  -- a step that gives way is answered otherwise without the transaction
+  ways : (w v : World M) (i : Step M) (a : Answer M) (t : ℕ) (o : Open M) → IsReached M w → w.active t ≡ Some o
+      → Next M w i a v → gives_way M t (Some o) i a ≡ true
+      → (u : World M) → Next M (without_open M t w) i a u → ⊥
+  ways w v i a t o r l n b u k = go (cause (without_open M t w) i a u t o k b)
+    where
+      go : Cause (without_open M t w) t o a → ⊥
+      go (has_open p e) = some_none p (sym e ∙ set_same t None w.active t refl)
+      go (has_all holds all) =
+          let more = leb-true 1 (used_by M (Some o)) holds in
+          omega (arith, all, more, used_without w (reached_sound M L w r) t o l, extents_suffice M L w r)
+      go (counts m told e) = omega (arith, e, open_told w i a v m n told, one_fewer w r t o l)
+
+  pub others_see_nothing : Others_see_nothing M
+  others_see_nothing = record { others = others; ways = ways }
 
   -- STEPS OF ITS OWN
 

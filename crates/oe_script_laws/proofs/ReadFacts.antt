@@ -29,6 +29,7 @@ use Rattle.oe_script.specs.Script as script
 use Rattle.oe_script.specs.Script.{State, moment_in, Answers, Asks, LineAnswer}
 use Rattle.oe_script.proofs.LineFacts.{one_command}
 use Rattle.oe_script_laws.specs.Deeds.{Entry, steps_of, answers_of}
+use Rattle.oe_script_laws.specs.Commits.{commits_of_steps}
 use Rattle.oe_script_laws.specs.Laws.{Tells, IsRead, IsOneRun, Reads_are_of_moments}
 use Rattle.oe_script_laws.proofs.MomentFacts.{version_at}
 use Rattle.oe_runs.proofs.AnswerFacts.{answer_once, rejected_once}
@@ -78,7 +79,8 @@ step_asked w _ _ _ m q n h = cc
 -- and its text
 query_told : (w : World system) (q : Query) (m : ℕ) (x : Answer) (w' : World system) (text : List ℕ)
     (made : IsReached system w) → text ≡ answer_line x
-    → Asked w m q (answer_in (step.Read m q) x) w' → IsRead made.base w q m text × (w' ≡ w)
+    → Asked w m q (answer_in (step.Read m q) x) w'
+    → IsRead made.base (commits_of_steps made.steps made.answers) w q m text × (w' ≡ w)
 query_told w q m x w' text made t (tells n l u f h e same) = (
   inr (
     n,
@@ -133,21 +135,21 @@ query_told w q m x w' text made t (is_future n l e same) = (
 of_world : (w : World system) (made : IsReached system w) (n : ℕ) (line text : List ℕ) (s : State) (m : MomentChoice)
     (q : Query)
     → Asks (Some w) line (command.Read m q) → LineAnswer (Some w) n line text s
-    → IsRead made.base w q (moment_in w m) text × (s ≡ Some w)
+    → IsRead made.base (commits_of_steps made.steps made.answers) w q (moment_in w m) text × (s ≡ Some w)
 of_world w made n line text s m q asks (inr (bad, e, same)) = absurd (bad (command.Read m q) asks)
 of_world w made n line text s m q asks (inl (d, other, a)) =
     go (subst (λ (z : Command). Answers (Some w) z text s) (one_command line d (command.Read m q) other.says asks.says)
     a)
   where
-    go : script.Stepped w (step.Read (moment_in w m) q) text s → IsRead made.base w q (moment_in w m) text
-        × (s ≡ Some w)
+    go : script.Stepped w (step.Read (moment_in w m) q) text s
+        → IsRead made.base (commits_of_steps made.steps made.answers) w q (moment_in w m) text × (s ≡ Some w)
     go (x, w', next, t, same) =
         let told_so = query_told w q (moment_in w m) x w' text made t
         (step_asked w _ _ w' (moment_in w m) q next refl) in
         (told_so.0, same ∙ ap Some told_so.1)
 
 -- the population is the base of a script's world
-abbrev from_population : (es : List Entry) (w : World system) → IsOneRun es w → IsReached system w
+abbrev pub from_population : (es : List Entry) (w : World system) → IsOneRun es w → IsReached system w
 from_population es w r = record {
   base = r.rows;
   extents = r.ring.extents;
@@ -162,4 +164,5 @@ pub reads_are_of_moments : Reads_are_of_moments
 reads_are_of_moments = record {
   of_world = of_world;
   of_script = λ es w r n line text s m q. of_world w (from_population es w r) n line text s m q;
+  of_version = λ es w r m. version_at w m (from_population es w r);
 }

@@ -31,10 +31,12 @@ use Rattle.oe_script.specs.Script as script
 use Rattle.oe_script.specs.Script.{State, moment_in, Answers, Asks, LineAnswer}
 use Rattle.oe_script.proofs.LineFacts.{one_command}
 use Rattle.oe_script_laws.specs.Deeds.{Entry, steps_of, answers_of}
+use Rattle.oe_script_laws.specs.Commits.{Transaction, commits_of_steps}
 use Rattle.oe_script_laws.specs.Moments.{IsRewound, IsRewoundTo}
 use Rattle.oe_script_laws.specs.Laws.{IsOneRun, Rewinds_restore}
 use Rattle.oe_runs.proofs.AnswerFacts.{answer_once}
 use Rattle.oe_script_laws.proofs.MomentFacts.{purged_step, by_other, total_none, version_at}
+use Rattle.oe_script_laws.proofs.ReadFacts.{from_population}
 
 -- WHAT A RUN GOES ON FROM
 
@@ -89,7 +91,8 @@ step_rewinds w _ _ _ m n h = cc
 -- and its text
 rewind_told : (w : World system) (m : ℕ) (x : Answer) (w' : World system) (text : List ℕ) (s : State)
     (made : IsReached system w) → text ≡ answer_line x → s ≡ Some w'
-    → Rewinds w m (answer_in (step.Rewind m) x) w' → IsRewound made.base w m text s
+    → Rewinds w m (answer_in (step.Rewind m) x) w'
+    → IsRewound made.base (commits_of_steps made.steps made.answers) w m text s
 rewind_told w m x w' text s made t same (restores q l u rows newest e) =
     inl (
       q,
@@ -126,13 +129,14 @@ rewind_told w m x w' text s made t same (is_future q l e v) =
 
 answered : (w : World system) (made : IsReached system w) (n : ℕ) (line text : List ℕ) (s : State) (m : MomentChoice)
     → Asks (Some w) line (command.Rewind m) → LineAnswer (Some w) n line text s
-    → IsRewound made.base w (moment_in w m) text s
+    → IsRewound made.base (commits_of_steps made.steps made.answers) w (moment_in w m) text s
 answered w made n line text s m asks (inr (bad, e, same)) = absurd (bad (command.Rewind m) asks)
 answered w made n line text s m asks (inl (d, other, a)) =
     go (subst (λ (z : Command). Answers (Some w) z text s) (one_command line d (command.Rewind m) other.says asks.says)
     a)
   where
-    go : script.Stepped w (step.Rewind (moment_in w m)) text s → IsRewound made.base w (moment_in w m) text s
+    go : script.Stepped w (step.Rewind (moment_in w m)) text s
+        → IsRewound made.base (commits_of_steps made.steps made.answers) w (moment_in w m) text s
     go (x, w', next, t, same) = rewind_told w (moment_in w m) x w' text s made t same
         (step_rewinds w _ _ w' (moment_in w m) next refl)
 
@@ -143,7 +147,10 @@ to_population : (es : List Entry) (w : World system) (r : IsOneRun es w) (n : �
     → IsRewoundTo r.rows w text s
 to_population es w r n line text s h asks a = go (answered w r.ran.reached n line text s (moment.At 0) asks a)
   where
-    go : IsRewound r.ran.reached.base w 0 text s → IsRewoundTo r.rows w text s
+    commits : List Transaction
+    commits = commits_of_steps r.ran.reached.steps r.ran.reached.answers
+
+    go : IsRewound r.ran.reached.base commits w 0 text s → IsRewoundTo r.rows w text s
     go (inl (q, l, u, version, (v, same, rows, newest), t)) =
         inl (q, (v, same, rows ∙ (first_at w ∙ (of_population es w r h).0), newest), t)
     go (inr (inl refused)) = inr refused
@@ -157,5 +164,6 @@ rewinds_restore = record {
   by_other = by_other;
   of_population = of_population;
   answered = answered;
+  of_script = λ es w r. answered w (from_population es w r);
   to_population = to_population;
 }

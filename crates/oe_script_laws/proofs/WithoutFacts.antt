@@ -17,6 +17,8 @@ use Rattle.oe_theory.proofs.Theorems.{reached_sound}
 use Rattle.oe_requests.specs.declared.requests.Request.{Request}
 use Rattle.oe_model.specs.System.{system}
 use Rattle.oe_model.proofs.SystemLaws.{laws}
+use Rattle.oe_requests.specs.declared.refusals.Refusal.{Refusal}
+use Rattle.oe_requests.specs.declared.refusals.Refusal.TheVariants as refusal
 use Rattle.oe_requests.specs.declared.answers.Answer.{Answer}
 use Rattle.oe_requests.specs.declared.answers.Answer.TheVariants as answer
 use Rattle.oe_requests.specs.declared.steps.Step.{Step}
@@ -26,15 +28,16 @@ use Rattle.oe_lines.specs.declared.commands.Command.{Command}
 use Rattle.oe_lines.specs.declared.commands.Command.TheVariants as command
 use Rattle.oe_lines.specs.declared.commands.MomentChoice.{MomentChoice}
 use Rattle.oe_lines.specs.declared.commands.MomentChoice.TheVariants as moment
-use Rattle.oe_core.specs.Steps.{step_in, answer_in}
+use Rattle.oe_core.specs.Steps.{step_in, other_refusal, refusal_in, answer_in}
 use Rattle.oe_script.specs.Script.{State, moment_in, shown_text, IsAllowed, Asks}
 use Rattle.oe_filelines.specs.Lines.{IsInLine}
-use Rattle.oe_script_laws.specs.Beside.{gives_way, without_open}
+use Rattle.oe_script_laws.specs.Beside.{gives_way, answer_without, without_open}
 use Rattle.oe_script_laws.specs.Deeds.{Deed, No_form, Opening, Shown, Steps, Entry, step_of, IsUpTo, Takes, Stepped}
 use Rattle.oe_script_laws.specs.Deeds.{Was}
 use Rattle.oe_script_laws.specs.Deeds.{Passed, lines_of, texts_of}
-use Rattle.oe_script_laws.specs.Without.{is_own, gave_way, is_rolled_back, next_line, nexts, before_last, Without, ends}
-use Rattle.oe_script_laws.specs.Without.{was_own, went_away, shows, stays}
+use Rattle.oe_script_laws.specs.Without.{is_own, gave_way, line_answer_without, deed_without, is_rolled_back}
+use Rattle.oe_script_laws.specs.Without.{next_line, nexts}
+use Rattle.oe_script_laws.specs.Without.{before_last, Without, ends, was_own, went_away, shows, stays}
 use Rattle.oe_script_laws.specs.Laws.{IsReachedState, Lines_without_rollback, Outputs_without_rollback}
 use Rattle.oe_script_laws.proofs.BesideFacts.{Beside, gave_way as gave_way_here, stands, beside, Own}
 use Rattle.oe_script_laws.proofs.BesideFacts.{ended as ended_here}
@@ -163,35 +166,82 @@ abbrev Mores : ℕ → World system → Step → World system → Type 0
 Mores zero w i v = w ≡ v
 Mores (suc n) w i v = (mid : World system) × Next system w (step_in i) (answer_in i answer.More) mid × Mores n mid i v
 
-data Other (n : ℕ) (w : World system) (t : ℕ) (i : Step) (x : Answer) (w' : World system) : Type 0 where
-  away : gives_way system t (step_in i) (answer_in i x) ≡ true → (o : Open system) → w'.active t ≡ Some o
-      → Mores n (without_open system t w) i (without_open system t w') → Other n w t i x w'
-  stood : gives_way system t (step_in i) (answer_in i x) ≡ false → (o : Open system) → w'.active t ≡ Some o
-      → Takes n (without_open system t w) i x (without_open system t w') → Other n w t i x w'
+-- the answer without the transaction is the machine's
+other_without : (i : Step) (e : Refusal) → other_refusal i e ≡ answer_without system (other_refusal i e)
+other_without (step.Begin t q) e = refl
+other_without (step.Advance t) e = refl
+other_without (step.Save t) e = refl
+other_without (step.Back t) e = refl
+other_without (step.Rollback t) e = refl
+other_without (step.Read m q) e = refl
+other_without (step.Purge m) e = refl
+other_without (step.Rewind m) e = refl
+other_without (step.Audit c m) e = refl
+
+refusal_without : (i : Step) (e : Refusal)
+    → answer_in i (line_answer_without (answer.Refused e)) ≡ answer_without system (refusal_in i e)
+refusal_without i (refusal.Busy n u) = refl
+refusal_without i refusal.UndoFull = refl
+refusal_without i refusal.NoMemory = refl
+refusal_without i refusal.NotOpen = refl
+refusal_without i refusal.AlreadyOpen = refl
+refusal_without i (refusal.TooOld m) = refl
+refusal_without i (refusal.Future m) = refl
+refusal_without i (refusal.NotQuiet n) = refl
+refusal_without i (refusal.NoSuchRow k) = other_without i (refusal.NoSuchRow k)
+refusal_without i (refusal.RowExists k) = other_without i (refusal.RowExists k)
+refusal_without i (refusal.Overflow c) = other_without i (refusal.Overflow c)
+refusal_without i (refusal.Reference k) = other_without i (refusal.Reference k)
+refusal_without i refusal.KeyColumn = other_without i refusal.KeyColumn
+refusal_without i refusal.InvalidItem = other_without i refusal.InvalidItem
+refusal_without i refusal.NoCustomer = other_without i refusal.NoCustomer
+refusal_without i (refusal.NotPinned n) = other_without i (refusal.NotPinned n)
+
+same_without : (i : Step) (x : Answer) → answer_in i (line_answer_without x) ≡ answer_without system (answer_in i x)
+same_without i answer.Begun = refl
+same_without i answer.More = refl
+same_without i (answer.Committed m y) = refl
+same_without i answer.Saved = refl
+same_without i answer.Back = refl
+same_without i answer.RolledBack = refl
+same_without i (answer.Replied f) = refl
+same_without i (answer.Purged m) = refl
+same_without i (answer.Rewound m) = refl
+same_without i (answer.Audited v) = refl
+same_without i (answer.Refused e) = refusal_without i e
+
+data Other (n : ℕ) (w : World system) (t : ℕ) (o : Open system) (i : Step) (x : Answer) (w' : World system) : Type
+    0 where
+  away : gives_way system t (Some o) (step_in i) (answer_in i x) ≡ true → w'.active t ≡ Some o
+      → Mores n (without_open system t w) i (without_open system t w') → Other n w t o i x w'
+  stood : gives_way system t (Some o) (step_in i) (answer_in i x) ≡ false → w'.active t ≡ Some o
+      → Takes n (without_open system t w) i (line_answer_without x) (without_open system t w') → Other n w t o i x w'
 
 other_taken : (n : ℕ) (w : World system) (t : ℕ) (o : Open system) → IsReached system w → w.active t ≡ Some o
     → (i : Step) (x : Answer) (w' : World system)
-    → theory.works_on system (step_in i) ≢ Some t → Takes n w i x w' → Other n w t i x w'
-other_taken zero w t o r l i x w' h k = go
-    (beside system laws w (reached_sound system laws w r) t o l (step_in i) (answer_in i x) w' h k)
+    → theory.works_on system (step_in i) ≢ Some t → Takes n w i x w' → Other n w t o i x w'
+other_taken zero w t o r l i x w' h k = go (beside system laws w r t o l (step_in i) (answer_in i x) w' h k)
   where
-    go : Beside system laws w t (step_in i) (answer_in i x) w' → Other zero w t i x w'
-    go (gave_way_here b idle same) = away b o (ap (λ (z : World system). z.active t) same ∙ l)
+    go : Beside system laws w t o (step_in i) (answer_in i x) w' → Other zero w t o i x w'
+    go (gave_way_here b idle same) = away b (ap (λ (z : World system). z.active t) same ∙ l)
         (ap (without_open system t) (sym same))
-    go (stands b p lives m) = stood b p lives m
+    go (stands b lives m) =
+        stood b lives
+        (subst (λ (a : theory.Answer system). Next system (without_open system t w) (step_in i) a
+        (without_open system t w')) (sym (same_without i x)) m)
 other_taken (suc n) w t o r l i x w' h (mid, more, k) =
-    go (beside system laws w (reached_sound system laws w r) t o l (step_in i) (answer_in i answer.More) mid h more)
-    (λ p lives. other_taken n mid t p (still_reached w mid _ _ r more) lives i x w' h k)
+    go (beside system laws w r t o l (step_in i) (answer_in i answer.More) mid h more)
+    (λ lives. other_taken n mid t o (still_reached w mid _ _ r more) lives i x w' h k)
   where
     later : Next system (without_open system t w) (step_in i) (answer_in i answer.More) (without_open system t mid)
-        → Other n mid t i x w' → Other (suc n) w t i x w'
-    later m (away b p lives q) = away b p lives (without_open system t mid, m, q)
-    later m (stood b p lives q) = stood b p lives (without_open system t mid, m, q)
+        → Other n mid t o i x w' → Other (suc n) w t o i x w'
+    later m (away b lives q) = away b lives (without_open system t mid, m, q)
+    later m (stood b lives q) = stood b lives (without_open system t mid, m, q)
 
-    go : Beside system laws w t (step_in i) (answer_in i answer.More) mid
-        → ((p : Open system) → mid.active t ≡ Some p → Other n mid t i x w') → Other (suc n) w t i x w'
+    go : Beside system laws w t o (step_in i) (answer_in i answer.More) mid
+        → (mid.active t ≡ Some o → Other n mid t o i x w') → Other (suc n) w t o i x w'
     go (gave_way_here b idle same) f = absurd (false≢true b)
-    go (stands b p lives m) f = later m (f p lives)
+    go (stands b lives m) f = later m (f lives)
 
 -- what a `run` had done, as lines
 nexts_passed : (n : ℕ) (t : ℕ) (w v : World system) → IsInRange 1 64 t → Mores n w (step.Advance t) v
@@ -244,11 +294,40 @@ done_before u (command.Read m q) line n i x w v a e z k = nothing_before n w v i
 done_before u (command.Purge m) line n i x w v a e z k = nothing_before n w v i x z k
 done_before u (command.Rewind m) line n i x w v a e z k = nothing_before n w v i x z k
 
+-- a `run` ends so without the transaction too
+ends_without : (x : Answer) → x ≢ answer.More → line_answer_without x ≢ answer.More
+ends_without answer.Begun ne e = cc
+ends_without answer.More ne e = ne refl
+ends_without (answer.Committed m y) ne e = cc
+ends_without answer.Saved ne e = cc
+ends_without answer.Back ne e = cc
+ends_without answer.RolledBack ne e = cc
+ends_without (answer.Replied f) ne e = cc
+ends_without (answer.Purged m) ne e = cc
+ends_without (answer.Rewound m) ne e = cc
+ends_without (answer.Audited v) ne e = cc
+ends_without (answer.Refused (refusal.NotQuiet n)) ne e = cc
+ends_without (answer.Refused f) ne e = cc
+
+up_without : (c : Command) (n : ℕ) (x : Answer) → IsUpTo c n x → IsUpTo c n (line_answer_without x)
+up_without (command.Open scale ring) n x up = up
+up_without (command.Begin t q) n x up = up
+up_without (command.Next t) n x up = up
+up_without (command.Run t) n x up = ends_without x up
+up_without (command.Save t) n x up = up
+up_without (command.Back t) n x up = up
+up_without (command.Rollback t) n x up = up
+up_without (command.Show b) n x up = up
+up_without (command.Audit c m) n x up = up
+up_without (command.Read m q) n x up = up
+up_without (command.Purge m) n x up = up
+up_without (command.Rewind m) n x up = up
+
 -- LINE BY LINE
 
 -- what is left of these lines, from the world in which the transaction is forgotten
 abbrev IsLeft : ℕ → World system → List Entry → State → Type 0
-IsLeft t w es s = (left : List Entry) × Without t es left × Passed (Some (without_open system t w)) left s
+IsLeft t w es s = (left : List Entry) × Without t w es left × Passed (Some (without_open system t w)) left s
     × (All IsInLine (lines_of es) → All IsInLine (lines_of left))
 
 -- and of those that follow
@@ -264,13 +343,14 @@ module _ (t : ℕ) (w : World system) (o : Open system) (r : IsReached system w)
     (es : List Entry) (mid s : State)
     (rest : Passed mid es s) (more : IsLeftAfter t mid es s) where
   -- a line that stays
-  kept : (d : Deed) → is_own t d ≡ false → gave_way t d ≡ false → (v : World system)
-      → Was (Some (without_open system t w)) line d (Some (without_open system t v)) → IsLeft t v es s
+  kept : (d : Deed) → is_own t d ≡ false → gave_way t (Some o) d ≡ false → (v : World system)
+      → Was (Some w) line d (Some v)
+      → Was (Some (without_open system t w)) line (deed_without d) (Some (without_open system t v)) → IsLeft t v es s
       → IsLeft t w (record { line = line; deed = d } ∷ es) s
-  kept d a b v was (left, gone, passed, each) = (
-    record { line = line; deed = d } ∷ left,
-    stays (record { line = line; deed = d }) es left a b gone,
-    (Some (without_open system t v), was, passed),
+  kept d a b v was so (left, gone, passed, each) = (
+    record { line = line; deed = deed_without d } ∷ left,
+    stays w v (record { line = line; deed = d }) es left a (ap (λ z. gave_way t z d) l ∙ b) was gone,
+    (Some (without_open system t v), so, passed),
     λ h. All-cons IsInLine line (lines_of left) (All-head IsInLine line (lines_of es) h)
         (each (All-tail IsInLine line (lines_of es) h)),
   )
@@ -278,7 +358,8 @@ module _ (t : ℕ) (w : World system) (o : Open system) (r : IsReached system w)
   -- one that was none of the forms
   bad_here : ((c : Command) → Asks (Some w) line c → ⊥) → mid ≡ Some w → is_rolled_back t es ≡ true
       → IsLeft t w (record { line = line; deed = No_form } ∷ es) s
-  bad_here bad same h = kept No_form refl refl w (λ c a. bad c (asks_any (without_open system t w) w line c a), refl)
+  bad_here bad same h =
+      kept No_form refl refl w (bad, refl) (λ c a. bad c (asks_any (without_open system t w) w line c a), refl)
       (more w o same r l h)
 
   -- a line that shows something
@@ -288,7 +369,7 @@ module _ (t : ℕ) (w : World system) (o : Open system) (r : IsReached system w)
       let (left, gone, passed, each) = more w o same r l h in
       let other = shown_text b (without_open system t w) in (
         record { line = line; deed = Shown other } ∷ left,
-        shows line text other es left gone,
+        shows w line text other es left gone,
         (
           Some (without_open system t w),
           (b, asks_any w (without_open system t w) line (command.Show b) asks, (refl, refl)),
@@ -306,13 +387,16 @@ module _ (t : ℕ) (w : World system) (o : Open system) (r : IsReached system w)
     reached : IsReached system w'
     reached = takes_reached n w i x w' r takes
 
+    was_here : Was (Some w) line (Steps n i x) (Some w')
+    was_here = (c, w', asks, e, up, takes, refl)
+
     -- one of its own
     own_here : is_of system t (step_in i) ≡ true → Own system laws w t (answer_in i x) w'
         → cond (is_rollback system (answer_in i x)) true
         (cond (is_commit system (answer_in i x)) false (is_rolled_back t es)) ≡ true → IsLeft t w (here ∷ es) s
     own_here mine (ended_here b gone) h = (
       es,
-      ends here es mine b,
+      ends w here es mine b,
       subst (λ (z : State). Passed z es s) (same ∙ ap Some gone) rest,
       λ all. All-tail IsInLine line (lines_of es) all,
     )
@@ -326,7 +410,7 @@ module _ (t : ℕ) (w : World system) (o : Open system) (r : IsReached system w)
         (subst (λ (z : Bool). cond z true (cond (is_commit system (answer_in i x)) false (is_rolled_back t es))
         ≡ true) b h)) in (
           left,
-          was_own here es left mine b gone,
+          was_own w w' here es left mine b was_here gone,
           subst (λ (z : World system). Passed (Some z) left s) kept_so passed,
           λ all. each (All-tail IsInLine line (lines_of es) all),
         )
@@ -336,24 +420,24 @@ module _ (t : ℕ) (w : World system) (o : Open system) (r : IsReached system w)
         later false q = q
 
     -- one of others
-    other_here : is_of system t (step_in i) ≡ false → Other n w t i x w' → is_rolled_back t es ≡ true
+    other_here : is_of system t (step_in i) ≡ false → Other n w t o i x w' → is_rolled_back t es ≡ true
         → IsLeft t w (here ∷ es) s
-    other_here theirs (stood b p lives took) h =
-        kept (Steps n i x) theirs b w' (
+    other_here theirs (stood b lives took) h =
+        kept (Steps n i x) theirs b w' was_here (
           c,
           without_open system t w',
           asks_any w (without_open system t w) line c asks,
           sym (same_step w t c)
               ∙ e,
-          up,
+          up_without c n x up,
           took,
           refl,
-        ) (more w' p same reached lives h)
-    other_here theirs (away b p lives k) h =
-        let (left, gone, passed, each) = more w' p same reached lives h in
+        ) (more w' o same reached lives h)
+    other_here theirs (away b lives k) h =
+        let (left, gone, passed, each) = more w' o same reached lives h in
         let before = done_before w c line n i x (without_open system t w) (without_open system t w') asks e up k in (
           before_last (Steps n i x) ++ left,
-          went_away here es left theirs b gone,
+          went_away w w' here es left theirs (ap (λ z. gave_way t z (Steps n i x)) l ∙ b) was_here gone,
           passed_append (Some (without_open system t w)) (before_last (Steps n i x)) left
               (Some (without_open system t w')) s before.0 passed,
           λ all. subst (All IsInLine) (sym (lines_append (before_last (Steps n i x)) left))
@@ -389,47 +473,63 @@ lines_left (e ∷ es) t w o s r l (mid, was, rest) h =
 
 -- FROM ITS BEGIN ON
 
+-- what is left of the lines after its begin, from the world on that this leaves
+abbrev IsLeftOf : ℕ → State → List Entry → World system → State → Type 0
+IsLeftOf t mid after w s = (begun : World system) × (mid ≡ Some begun) × (left : List Entry)
+    × Without t begun after left × Passed (Some w) left s
+    × (All IsInLine (lines_of after) → All IsInLine (lines_of left))
+
 begins_so : (w : World system) (t : ℕ) (q : Request) (line : List ℕ) (after : List Entry) (mid s : State)
     → IsReached system w
     → Stepped (Some w) line 0 (step.Begin t q) answer.Begun mid → Passed mid after s → is_rolled_back t after ≡ true
-    → (left : List Entry) × Without t after left × Passed (Some w) left s
-    × (All IsInLine (lines_of after) → All IsInLine (lines_of left))
+    → IsLeftOf t mid after w s
 begins_so w t q line after mid s r (c, w', asks, e, up, next, same) p h =
     let (o, lives, gone) = began system laws w (reached_sound system laws w r) t q w' next in
     let (left, without, passed, each) = lines_left after t w' o s (still_reached w w' _ _ r next) lives
     (subst (λ (z : State). Passed z after s) same p) h in
-    (left, without, subst (λ (z : World system). Passed (Some z) left s) gone passed, each)
+    (w', same, left, without, subst (λ (z : World system). Passed (Some z) left s) gone passed, each)
+
+-- and of a whole script
+abbrev IsLeftWhole : State → List Entry → Entry → ℕ → List Entry → State → Type 0
+IsLeftWhole s before first t after s' = (begun : World system) × Passed s (before ++ first ∷ []) (Some begun)
+    × (left : List Entry) × Without t begun after left × Passed s (before ++ left) s'
+    × (All IsInLine (lines_of after) → All IsInLine (lines_of left))
 
 left_whole : (s s' : State) (before after : List Entry) (first : Entry) (t : ℕ) (q : Request) → IsReachedState s
     → first.deed ≡ Steps 0 (step.Begin t q) answer.Begun → Passed s (before ++ first ∷ after) s'
     → is_rolled_back t after ≡ true
-    → (left : List Entry) × Without t after left × Passed s (before ++ left) s'
-    × (All IsInLine (lines_of after) → All IsInLine (lines_of left))
+    → IsLeftWhole s before first t after s'
 left_whole s s' before after first t q l is p h =
     let (here, passed, (mid, was, rest)) = passed_split s before (first ∷ after) s' p in
-    go here passed (passed_reached s before here l passed) mid (subst (λ (d : Deed). Was here first.line d mid) is was)
-    rest
+    go here passed (passed_reached s before here l passed) mid was
+    (subst (λ (d : Deed). Was here first.line d mid) is was) rest
   where
     go : (here : State) → Passed s before here → IsReachedState here → (mid : State)
+        → Was here first.line first.deed mid
         → Was here first.line (Steps 0 (step.Begin t q) answer.Begun) mid → Passed mid after s'
-        → (left : List Entry) × Without t after left × Passed s (before ++ left) s'
-        × (All IsInLine (lines_of after) → All IsInLine (lines_of left))
-    go None passed r mid was rest = absurd was
-    go (Some w) passed r mid was rest =
-        let (left, without, more, each) = begins_so w t q first.line after mid s' r was rest h in
-        (left, without, passed_append s before left (Some w) s' passed more, each)
+        → IsLeftWhole s before first t after s'
+    go None passed r mid whole was rest = absurd was
+    go (Some w) passed r mid whole was rest =
+        let (begun, same, left, without, more, each) = begins_so w t q first.line after mid s' r was rest h in (
+          begun,
+          passed_append s before (first ∷ []) (Some w) (Some begun) passed (mid, whole, sym same),
+          left,
+          without,
+          passed_append s before left (Some w) s' passed more,
+          each,
+        )
 
 pub lines_without_rollback : Lines_without_rollback
 lines_without_rollback s s' before after first t q l is p h =
-    let (left, without, passed, each) = left_whole s s' before after first t q l is p h in
-    (left, without, passed)
+    let (begun, here, left, without, passed, each) = left_whole s s' before after first t q l is p h in
+    (begun, here, left, without, passed)
 
 -- OF A WHOLE INPUT
 
 pub outputs_without_rollback : Outputs_without_rollback
 outputs_without_rollback begun input out o before after first t q is_begun told is h =
-    let (left, without, passed, each) = left_whole begun o.state before after first t q (begun_reached begun is_begun)
-    is told.passed h in
+    let (w, here, left, without, passed, each) = left_whole begun o.state before after first t q
+    (begun_reached begun is_begun) is told.passed h in
     let run = lines_are_deeds.back begun 0 (before ++ left) o.state passed in
     let old : All IsInLine (lines_of before ++ first.line ∷ lines_of after) =
     subst (All IsInLine) (sym told.lines ∙ lines_append before (first ∷ after)) o.each in
@@ -437,6 +537,8 @@ outputs_without_rollback begun input out o before after first t q is_begun told 
     subst (All IsInLine) (sym (lines_append before left))
     (All-append IsInLine (lines_of before) (lines_of left) (front (lines_of before) old)
     (each (All-tail IsInLine first.line (lines_of after) (back (lines_of before) old)))) in (
+      w,
+      here,
       left,
       without,
       (

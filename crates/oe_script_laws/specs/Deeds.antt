@@ -14,7 +14,9 @@ use Rattle.oe_lines.specs.declared.commands.Command.TheVariants as command
 use Rattle.oe_lines.specs.declared.commands.Display.{Display}
 use Rattle.oe_core.specs.Steps.{step_in, answer_in}
 use Rattle.oe_io.specs.Lines.{bad_line}
+use Rattle.oe_runs.specs.Run.{steps_in, answers_in}
 use Rattle.oe_script.specs.Script.{State, moment_in, step_answer, Answers, Asks}
+use Rattle.oe_script_laws.specs.Commits.{Transaction, commits_of_steps}
 
 -- what a line was: none of the forms; an opening, or what it showed, with its text; or n times a step that was answered
 -- `more`, as a `run` has it, and then that step with this answer
@@ -115,3 +117,7 @@ steps_of (e ∷ es) = steps_in_deed e.deed ++ steps_of es
 abbrev pub answers_of : List Entry → List Answer
 answers_of [] = []
 answers_of (e ∷ es) = answers_in_deed e.deed ++ answers_of es
+
+-- the commits that lines behind an opening tell of, with their answers, the newest first
+abbrev pub commits_of : List Entry → List Transaction
+commits_of es = commits_of_steps (steps_in (steps_of es)) (answers_in (steps_of es) (answers_of es))

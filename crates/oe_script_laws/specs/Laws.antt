@@ -42,8 +42,8 @@ use Rattle.oe_script.specs.Session.{ScriptRan}
 use Rattle.oe_script.specs.Script.{State, moment_in, Asks, LineAnswer, RunOfLines, last_text, Output}
 use Rattle.oe_filelines.specs.Lines.{with_line_end}
 use Rattle.oe_script_laws.specs.Deeds.{Deed, No_form, Opening, Shown, Steps, Entry, Passed, lines_of, texts_of}
-use Rattle.oe_script_laws.specs.Deeds.{steps_of}
-use Rattle.oe_script_laws.specs.Deeds.{answers_of}
+use Rattle.oe_script_laws.specs.Deeds.{steps_of, answers_of, commits_of}
+use Rattle.oe_script_laws.specs.Commits.{Transaction, commits_of_steps}
 use Rattle.oe_script_laws.specs.Without.{is_rolled_back, Without}
 use Rattle.oe_script_laws.specs.Moments.{IsVersion, IsRewound, IsRewoundTo}
 
@@ -145,17 +145,17 @@ abbrev pub Tells : Outcome QueryReply Refusal → List ℕ → Type 0
 Tells (Here f) text = text ≡ answer_line (answer.Replied f)
 Tells (Missing e) text = text ≡ answer_line (answer.Refused e)
 
-abbrev pub IsReadAt : Rows → World system → Query → ℕ → List ℕ → Type 0
-IsReadAt base w q m text =
-    ((horizon system w ≤ m) × (m ≤ newest system w) × IsVersion base w m (at system w m)
+abbrev pub IsReadAt : Rows → List Transaction → World system → Query → ℕ → List ℕ → Type 0
+IsReadAt base commits w q m text =
+    ((horizon system w ≤ m) × (m ≤ newest system w) × IsVersion base commits w m (at system w m)
     × Tells (answer_of q (at system w m)) text)
     ⊎ ((m < horizon system w) × (text ≡ answer_line (answer.Refused (refusal.TooOld (horizon system w)))))
     ⊎ ((newest system w < m) × (text ≡ answer_line (answer.Refused (refusal.Future (newest system w)))))
 
-abbrev pub IsRead : Rows → World system → Query → ℕ → List ℕ → Type 0
-IsRead base w q m text =
+abbrev pub IsRead : Rows → List Transaction → World system → Query → ℕ → List ℕ → Type 0
+IsRead base commits w q m text =
     ((e : Refusal) × (query_rejection q (tables system w) ≡ Some e) × (text ≡ answer_line (answer.Refused e)))
-    ⊎ ((query_rejection q (tables system w) ≡ None) × IsReadAt base w q m text)
+    ⊎ ((query_rejection q (tables system w) ≡ None) × IsReadAt base commits w q m text)
 
 -- The lines of a script up to its opening, and what follows of those after it. They are one run of the machine, from
 -- the population that was opened: each of its transactions ends whole, although others overlap it; the same
@@ -195,12 +195,16 @@ pub record Reads_are_of_moments : Type 0 where
   pub of_world : (w : World system) (made : IsReached system w) (n : ℕ) (line text : List ℕ) (s : State)
       (m : MomentChoice) (q : Query)
       → Asks (Some w) line (command.Read m q) → LineAnswer (Some w) n line text s
-      → IsRead made.base w q (moment_in w m) text × (s ≡ Some w)
+      → IsRead made.base (commits_of_steps made.steps made.answers) w q (moment_in w m) text × (s ≡ Some w)
   -- and behind each line of a script, from the population that it opened
   pub of_script : (es : List Entry) (w : World system) (r : IsOneRun es w) (n : ℕ) (line text : List ℕ) (s : State)
       (m : MomentChoice) (q : Query)
       → Asks (Some w) line (command.Read m q) → LineAnswer (Some w) n line text s
-      → IsRead r.rows w q (moment_in w m) text × (s ≡ Some w)
+      → IsRead r.rows (commits_of r.after) w q (moment_in w m) text × (s ≡ Some w)
+  -- of each moment that is kept there, whether a line asks or not
+  pub of_version : (es : List Entry) (w : World system) (r : IsOneRun es w) (m : ℕ) → horizon system w ≤ m
+      → m ≤ newest system w
+      → IsVersion r.rows (commits_of r.after) w m (at system w m)
 
 -- what a run goes on from, and where a rewind leads
 pub record Rewinds_restore : Type 0 where
@@ -218,20 +222,26 @@ pub record Rewinds_restore : Type 0 where
   pub answered : (w : World system) (made : IsReached system w) (n : ℕ) (line text : List ℕ) (s : State)
       (m : MomentChoice)
       → Asks (Some w) line (command.Rewind m) → LineAnswer (Some w) n line text s
-      → IsRewound made.base w (moment_in w m) text s
+      → IsRewound made.base (commits_of_steps made.steps made.answers) w (moment_in w m) text s
+  -- behind each line of a script too, from the population that it opened
+  pub of_script : (es : List Entry) (w : World system) (r : IsOneRun es w) (n : ℕ) (line text : List ℕ) (s : State)
+      (m : MomentChoice)
+      → Asks (Some w) line (command.Rewind m) → LineAnswer (Some w) n line text s
+      → IsRewound r.rows (commits_of r.after) w (moment_in w m) text s
   -- as long as nothing is purged `rewind 0` gives the population back
   pub to_population : (es : List Entry) (w : World system) (r : IsOneRun es w) (n : ℕ) (line text : List ℕ) (s : State)
       → AreUnpurged (answers_of r.after) → Asks (Some w) line (command.Rewind (moment.At 0))
       → LineAnswer (Some w) n line text s → IsRewoundTo r.rows w text s
 
--- A transaction begins in the line `first`, and is rolled back in those that follow. Without its lines the others are
--- answered the same, and leave the same state
+-- A transaction begins in the line `first`, which leaves the world `begun`, and is rolled back in those that follow.
+-- Without its lines the others are answered the same, and leave the same state
 abbrev pub Lines_without_rollback : Type 0
 Lines_without_rollback =
     (s s' : State) (before after : List Entry) (first : Entry) (t : ℕ) (q : Request) → IsReachedState s
     → first.deed ≡ Steps 0 (step.Begin t q) answer.Begun → Passed s (before ++ first ∷ after) s'
     → is_rolled_back t after ≡ true
-    → (left : List Entry) × Without t after left × Passed s (before ++ left) s'
+    → (begun : World system) × Passed s (before ++ first ∷ []) (Some begun)
+    × (left : List Entry) × Without t begun after left × Passed s (before ++ left) s'
 
 -- a script begins with nothing open, or opened on a population
 abbrev pub IsBegun : State → Type 0
@@ -257,7 +267,8 @@ Outputs_without_rollback =
     (t : ℕ) (q : Request) → IsBegun begun
     → IsOutputOf begun input out o (before ++ first ∷ after) → first.deed ≡ Steps 0 (step.Begin t q) answer.Begun
     → is_rolled_back t after ≡ true
-    → (left : List Entry) × Without t after left
+    → (w : World system) × Passed begun (before ++ first ∷ []) (Some w)
+    × (left : List Entry) × Without t w after left
     × OutputTo begun (flat_map with_line_end (lines_of (before ++ left)) ++ o.last)
     (texts_of 0 (before ++ left) ++ last_text (length (lines_of (before ++ left)) + 1) o.last) o.state
 

@@ -41,7 +41,8 @@ pub fn movements_hold()
 
 /// Each line that asks a query of a moment that is kept is answered what is found in the version of
 /// that moment, whatever is open: in what the first commits leave, up to that moment, run one at a
-/// time, each with its whole effect.
+/// time, each with its whole effect. These are the commits that the script's lines and answers tell
+/// of (`commits_of`), also those that purges have forgotten.
 pub fn reads_are_of_moments()
     ensures { Reads_are_of_moments }
 {}
@@ -55,21 +56,23 @@ pub fn scripts_are_runs()
 {}
 
 /// Each line that asks for a rewind to a moment that is kept, while nothing is open, leaves the
-/// moment's version; to moment 0, as long as nothing was purged, the population. A purge makes the
-/// version of its moment the base that a run goes on from.
+/// moment's version, of the commits that the script's lines and answers tell of; to moment 0, as
+/// long as nothing was purged, the population. A purge makes the version of its moment the base
+/// that a run goes on from.
 pub fn rewinds_restore()
     ensures { Rewinds_restore }
 {}
 
 /// Beside an open transaction each step of others is answered as it is without that transaction,
-/// unless it gives way to it: its answer is `Busy` with that terminal, `UndoFull`, `AlreadyOpen` or
-/// `NotQuiet`.
+/// but that `NotQuiet` counts one fewer, unless it gives way to it: its answer is `Busy` with that
+/// terminal, `AlreadyOpen` of it, `NotQuiet 1`, or `UndoFull` while it holds an extent. A step that
+/// gives way is answered otherwise without it.
 pub fn others_see_nothing()
     ensures { Others_see_nothing system }
 {}
 
-/// A script without the lines of a transaction that was rolled back has the same other answers, and
-/// leaves the same state.
+/// A script without the lines of a transaction that was rolled back, and without those that gave way
+/// to it, has the same other answers, and leaves the same state; but `NotQuiet` counts one fewer.
 pub fn rollback_leaves_no_trace()
     ensures { Lines_without_rollback }
 {}
