@@ -15,7 +15,6 @@ use oe_rows::{Layout, Table};
 use oe_script::listeners::Quiet;
 use oe_script::session::Session;
 use oe_store::Tables;
-use oe_texts::Pending;
 use oe_values::ExtentCount;
 use std::alloc::Global;
 use std::process::Abort;
@@ -100,13 +99,7 @@ pub(crate) fn session_on(rt: &impl Abort, alloc: Global, planted: &[Planted]) ->
     };
     let are_made = plant_all(&mut tables, planted).is_some();
     assert!(rt; are_made);
-    Session {
-        core: Some(core_on(rt, alloc, tables)),
-        line: ArrayVec::new(),
-        over: false,
-        count: 0,
-        out: Pending::new(),
-    }
+    Session::on(core_on(rt, alloc, tables))
 }
 
 /// Lines, and their answers.

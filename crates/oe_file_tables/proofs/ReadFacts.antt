@@ -2,12 +2,9 @@
 use Rattle.std.proofs.Common.{◌≡◌, ◌≢◌, ℕ, ◌+◌, ◌<◌, ◌≤◌, inl, inr, Bool, true, false, List, [], ◌∷◌}
 use Rattle.std.proofs.Common.{◌++◌, length, take, drop, get_or, Option, Some, None, sym, ap, subst, ◌∙◌, refl}
 use Rattle.std.proofs.Common.{append_assoc, arith}
-use Rattle.std.specs.Prelude.{All, ⊤, Result, Ok, Err}
+use Rattle.std.specs.Prelude.{⊤, Result, Ok, Err}
 use Rattle.oe_io.specs.Ports.{Source, Reads}
-use Rattle.std.specs.List.{flat_map}
 use Rattle.std.proofs.lemmas.List.{append-nil, length_push}
-use Rattle.std.proofs.lemmas.List.Elements.{All-push, All-append}
-use Rattle.std.proofs.lemmas.Grind.{flat_map-append}
 use Rattle.oe_rows.specs.declared.keys.Table.{Table}
 use Rattle.oe_file_tables.specs.declared.faults.TableFault.{TableFault}
 use Rattle.oe_file_tables.specs.declared.faults.Wrong.{Wrong}
@@ -16,15 +13,14 @@ use Rattle.oe_file_rows.specs.declared.forms.LineFault.{LineFault}
 use Rattle.oe_file_tables.specs.declared.formats.Format.{Format}
 use Rattle.oe_file_tables.specs.declared.formats.Format.TheVariants as written
 use Rattle.oe_file_tables.specs.declared.lines.Numbered.{Numbered}
-use Rattle.oe_file_tables.specs.declared.lines.Reading as reading
+use Rattle.oe_file_tables.specs.declared.lines.TableLines as taker
 use Rattle.oe_file_tables.specs.Fault.{Told, in_64_bits, with_fault, with_faults}
 use Rattle.oe_file_tables.specs.Format.{text_in, heads, null_place, spelled_as}
 use Rattle.oe_file_tables.specs.Record.{line_of}
-use Rattle.oe_filelines.specs.Lines.{IsInLine, with_line_end, with_last}
-use Rattle.oe_filelines.proofs.LineFacts.{all_none, not_begun}
+use Rattle.oe_filelines.specs.Lines.{Finished}
 use Rattle.oe_file_tables.specs.Lines.{said_of, IsWrong, counts, Taken, Begins}
 use Rattle.oe_file_tables.specs.Lines.{TakesRow}
-use Rattle.oe_file_tables.specs.Lines.{TakesHeading, TakesCount, TakesFault, Stands, Holds, AreAll}
+use Rattle.oe_file_tables.specs.Lines.{TakesHeading, TakesCount, TakesFault, Stands, AreAll, FileRead}
 use Rattle.oe_file_tables.specs.Tables.{TableReadAs, TableRead, ReadWellAs, ReadWell}
 use Rattle.oe_file_tables.specs.Twice.{twice_in}
 use Rattle.oe_file_tables.proofs.RecordFacts.{some_inj}
@@ -32,7 +28,7 @@ use Rattle.oe_file_tables.proofs.TwiceFacts.{none_each, once}
 use Rattle.oe_rows.specs.declared.keys.Key.{Key}
 use Rattle.std.specs.Cmp.{IsTotalOrder}
 use Rattle.std.specs.declared.cmp.Ordering.{Ordering}
-use Rattle.oe_file_tables.specs.Reading.{CountsOne, TakesOne, TakesRead, Standing, Finished}
+use Rattle.oe_file_tables.specs.Reading.{CountsOne, TakesOne, TakesRead, TableTaken}
 
 -- ---- the number of the next line
 
@@ -156,114 +152,38 @@ module _ {K X : Type 0} (spells : ℕ → List ℕ → K × X → Type 0) (table
         h.1,
       ))
 
--- ---- the input so far
+-- ---- the lines of a file
 
-module _ {K X : Type 0} (format : Format) (spells : ℕ → List ℕ → K × X → Type 0) (table : Table) where
-  pub standing_start : (start : Told TableFault) (r : reading.Reading K X) → r.lot.rows ≡ [] → r.lot.count ≡ 0
-      → r.lot.is_counted ≡ false → r.lot.is_headed ≡ false → r.line.items ≡ [] → r.over ≡ false
-      → Standing format spells table start [] r start
-  standing_start start r e f g k h o = record {
-    lines = [];
-    line = [];
-    whole = refl;
-    each = all_none IsInLine;
-    tail = all_none (λ b. b ≢ 10);
-    stands = ([], rw (e, g, k) Begins, refl, f);
-    holds = rw (h, o) (refl, omega arith);
-  }
+module _ {K X : Type 0} (spells : ℕ → List ℕ → K × X → Type 0) (table : Table) where
+  pub stands_start : (format : Format) (start : Told TableFault) (counted headed : Bool) (count : ℕ)
+      (rows : List (Numbered K X)) → rows ≡ [] → count ≡ 0 → counted ≡ false → headed ≡ false
+      → Stands format spells table start [] counted headed count rows start
+  stands_start format start counted headed count rows e f g k = ([], rw (e, g, k) Begins, refl, f)
 
-  pub standing_bytes : (start : Told TableFault) (input more : List ℕ) (r r' : reading.Reading K X)
-      (told : Told TableFault) → IsInLine more → r'.lot ≡ r.lot
-      → ((line : List ℕ) → Holds r.line.items r.over line → Holds r'.line.items r'.over (line ++ more))
-      → Standing format spells table start input r told → Standing format spells table start (input ++ more) r' told
-  standing_bytes start input more r r' told free same keeps s = record {
-    lines = s.lines;
-    line = s.line ++ more;
-    whole = ap (λ z. z ++ more) s.whole ∙ append_assoc (flat_map with_line_end s.lines) s.line more;
-    each = s.each;
-    tail = All-append (λ b. b ≢ 10) s.line more s.tail free;
-    stands =
-        subst (λ l. Stands format spells table start s.lines l.is_counted l.is_headed l.count l.rows told)
-        (sym same) s.stands;
-    holds = keeps s.line s.holds;
-  }
+  -- a file is read as its lines were taken
+  pub file_read : (old new : Option Source) (bytes : List ℕ) (start now : taker.TableLines K X) → AreAll old new bytes
+      → Finished (TableTaken spells table start) bytes now
+      → FileRead start.format spells table old new start.faults.now now.lot.now.rows now.faults.now
+  file_read old new bytes start now all f = (
+    bytes,
+    all,
+    (f.0, now.lot.now.is_counted, now.lot.now.is_headed, f.2.3.0, f.1, f.2.3.1, f.2.3.2),
+  )
 
-  pub standing_line : (start : Told TableFault) (input last : List ℕ) (r r' : reading.Reading K X)
-      (told told' : Told TableFault) → IsInLine last
-      → ((line : List ℕ) → Holds r.line.items r.over line → (start : Told TableFault) (ls : List (List ℕ))
-      → Stands format spells table start ls r.lot.is_counted r.lot.is_headed r.lot.count r.lot.rows told
-      → Stands format spells table start (ls ++ (line ++ last) ∷ []) r'.lot.is_counted r'.lot.is_headed r'.lot.count
-      r'.lot.rows told')
-      → r'.line.items ≡ [] → r'.over ≡ false
-      → Standing format spells table start input r told
-      → Standing format spells table start ((input ++ last) ++ 10 ∷ []) r' told'
-  standing_line start input last r r' told told' free takes e o s =
-      let line = s.line ++ last in
-      record {
-        lines = s.lines ++ line ∷ [];
-        line = [];
-        whole = ap (λ z. (z ++ last) ++ 10 ∷ []) s.whole
-            ∙ ap (λ z. z ++ 10 ∷ []) (append_assoc (flat_map with_line_end s.lines) s.line last)
-            ∙ append_assoc (flat_map with_line_end s.lines) line (10 ∷ [])
-            ∙ ap (λ z. flat_map with_line_end s.lines ++ z) (sym (append-nil (line ++ 10 ∷ [])))
-            ∙ sym (flat_map-append with_line_end s.lines (line ∷ [])) ∙ sym (append-nil _);
-        each = All-push IsInLine s.lines line s.each (All-append (λ b. b ≢ 10) s.line last s.tail free);
-        tail = all_none (λ b. b ≢ 10);
-        stands = takes s.line s.holds start s.lines s.stands;
-        holds = rw (e, o) (refl, omega arith);
-      }
+pub stands_in : {format other : Format} {K X : Type 0} {spells : ℕ → List ℕ → K × X → Type 0} {table : Table}
+    {start : Told TableFault} {ls : List (List ℕ)} {b h : Bool} {n : ℕ} {rows : List (Numbered K X)}
+    {told : Told TableFault} → format ≡ other → Stands format spells table start ls b h n rows told
+    → Stands other spells table start ls b h n rows told
+stands_in {spells = spells} {table = table} {start = start} {ls = ls} {b = b} {h = h} {n = n} {rows = rows}
+    {told = told} e s = subst (λ f. Stands f spells table start ls b h n rows told) e s
 
-  -- the end of the input
-
-  pub finished_none : (start : Told TableFault) (input : List ℕ) (r : reading.Reading K X) (told : Told TableFault)
-      → r.line.items ≡ [] → r.over ≡ false
-      → Standing format spells table start input r told → Finished format spells table start input r told
-  finished_none start input r told e o s =
-      let empty : s.line ≡ [] = sym (subst (λ b. Holds r.line.items b s.line) o s.holds).0 ∙ e in (
-        s.lines,
-        r.lot.is_counted,
-        r.lot.is_headed,
-        s.stands.0,
-        record {
-          whole = s.lines;
-          last = s.line;
-          bytes_are = s.whole;
-          each = s.each;
-          tail = s.tail;
-          lines_are = ap (with_last s.lines) (sym empty);
-        },
-        s.stands.1,
-        s.stands.2,
-      )
-
-  pub finished_line : (start : Told TableFault) (input : List ℕ) (r r' : reading.Reading K X)
-      (told told' : Told TableFault) → (r.over ≡ false → 0 < length r.line.items)
-      → ((line : List ℕ) → Holds r.line.items r.over line → (start : Told TableFault) (ls : List (List ℕ))
-      → Stands format spells table start ls r.lot.is_counted r.lot.is_headed r.lot.count r.lot.rows told
-      → Stands format spells table start (ls ++ line ∷ []) r'.lot.is_counted r'.lot.is_headed r'.lot.count
-      r'.lot.rows told')
-      → Standing format spells table start input r told → Finished format spells table start input r' told'
-  finished_line start input r r' told told' begun takes s = by_line s.line refl
-    where
-      by_line : (line : List ℕ) → s.line ≡ line → Finished format spells table start input r' told'
-      by_line [] e = absurd (not_begun 4_096 r.line.items r.over (subst (Holds r.line.items r.over) e s.holds) begun)
-      by_line (b ∷ line) e =
-          let stands = takes s.line s.holds start s.lines s.stands in (
-            s.lines ++ s.line ∷ [],
-            r'.lot.is_counted,
-            r'.lot.is_headed,
-            stands.0,
-            record {
-              whole = s.lines;
-              last = s.line;
-              bytes_are = s.whole;
-              each = s.each;
-              tail = s.tail;
-              lines_are = ap (λ z. s.lines ++ z ∷ []) e ∙ sym (ap (with_last s.lines) e);
-            },
-            stands.1,
-            stands.2,
-          )
+pub file_read_as : {K X : Type 0} (format : Format) (spells : ℕ → List ℕ → K × X → Type 0) (table : Table)
+    (old new : Option Source) (start : Told TableFault) (rows rows' : List (Numbered K X))
+    (told told' : Told TableFault) → rows' ≡ rows → told' ≡ told
+    → FileRead format spells table old new start rows told → FileRead format spells table old new start rows' told'
+file_read_as format spells table old new start rows rows' told told' e f r =
+    subst (λ z. FileRead format spells table old new start z told') (sym e)
+    (subst (λ z. FileRead format spells table old new start rows z) (sym f) r)
 
 -- ---- what calls of the reader gave
 

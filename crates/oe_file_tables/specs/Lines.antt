@@ -6,7 +6,6 @@ use Rattle.oe_rows.specs.declared.keys.Table.{Table}
 use Rattle.oe_values.specs.Front.{◌>>=◌, after_of, decimal_of, alone}
 use Rattle.oe_io.specs.Ports.{Source}
 use Rattle.oe_filelines.specs.Lines.{AreLines}
-use Rattle.oe_filelines.specs.Lines as lines
 use Rattle.oe_file_tables.specs.declared.faults.TableFault.{TableFault}
 use Rattle.oe_file_tables.specs.declared.faults.Wrong.{Wrong}
 use Rattle.oe_file_tables.specs.declared.faults.Wrong.TheVariants as wrong
@@ -100,7 +99,3 @@ module _ {K X : Type 0} (format : Format) (spells : ℕ → List ℕ → K × X 
   abbrev pub FileRead : Option Source → Option Source → Told TableFault → List (Numbered K X) → Told TableFault → Type 0
   FileRead old new start rows told =
       (bytes : List ℕ) × AreAll old new bytes × IsRead bytes start rows told
-
--- the bytes of a line so far, of 4,096 at most
-abbrev pub Holds : List ℕ → Bool → List ℕ → Type 0
-Holds = lines.Holds 4_096

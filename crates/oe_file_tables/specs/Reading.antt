@@ -1,19 +1,17 @@
 -- A file that is read, between two bytes.
-use Rattle.std.specs.Prelude.{◌≡◌, ◌≢◌, ℕ, ◌+◌, ◌⊎◌, Bool, List, [], ◌∷◌, ◌++◌, All, None, Result, Ok, Err}
-use Rattle.std.specs.List.{flat_map}
+use Rattle.std.specs.Prelude.{◌≡◌, ◌≢◌, ℕ, ◌+◌, ◌⊎◌, Bool, List, [], ◌∷◌, ◌++◌, None, Result, Ok, Err}
 use Rattle.oe_rows.specs.declared.keys.Table.{Table}
 use Rattle.oe_file_rows.specs.declared.forms.LineFault.{LineFault}
 use Rattle.oe_file_tables.specs.declared.faults.TableFault.{TableFault}
 use Rattle.oe_file_tables.specs.declared.faults.Wrong.TheVariants as wrong
 use Rattle.oe_file_tables.specs.declared.lines.Numbered.{Numbered}
-use Rattle.oe_file_tables.specs.declared.lines.Reading as reading
+use Rattle.oe_file_tables.specs.declared.lines.TableLines as taker
 use Rattle.oe_file_tables.specs.Fault.{Told, with_fault}
 use Rattle.oe_file_tables.specs.declared.formats.Format.{Format}
 use Rattle.oe_file_tables.specs.declared.formats.Format.TheVariants as written
 use Rattle.oe_file_tables.specs.Format.{null_place, spelled_as}
 use Rattle.oe_file_tables.specs.Record.{line_of}
-use Rattle.oe_filelines.specs.Lines.{IsInLine, with_line_end}
-use Rattle.oe_file_tables.specs.Lines.{beside_rows, Stands, Holds, IsRead}
+use Rattle.oe_file_tables.specs.Lines.{beside_rows, Stands}
 
 -- a count came that is right, or another
 abbrev pub CountsOne : Table → (headed : Bool) → ℕ → ℕ → Told TableFault → Told TableFault → Type 0
@@ -42,18 +40,11 @@ module _ {K X : Type 0} (format : Format) (spells : ℕ → List ℕ → K × X 
       ⊎ ((format ≡ written.Csv) × (line_of (null_place table) text ≡ None) × (rows' ≡ rows)
       × (told' ≡ with_fault (record { table = table; line = n; wrong = wrong.NoRecord }) told)))
 
-  -- the lines of this input were taken, and the beginning of the next is held
-  pub record Standing (start : Told TableFault) (input : List ℕ) (r : reading.Reading K X) (told : Told TableFault)
-      : Type 0 where
-    pub lines : List (List ℕ)
-    pub line : List ℕ
-    pub whole : input ≡ flat_map with_line_end lines ++ line
-    pub each : All IsInLine lines
-    pub tail : IsInLine line
-    pub stands : Stands format spells table start lines r.lot.is_counted r.lot.is_headed r.lot.count r.lot.rows
-        told
-    pub holds : Holds r.line.items r.over line
-
-  -- all lines of this input were taken
-  abbrev pub Finished : Told TableFault → List ℕ → reading.Reading K X → Told TableFault → Type 0
-  Finished start input r told = IsRead format spells table input start r.lot.rows told
+-- these lines of a table's file were taken, and their faults told
+abbrev pub TableTaken : {K X : Type 0} → (ℕ → List ℕ → K × X → Type 0) → Table → taker.TableLines K X
+    → List (List ℕ) → taker.TableLines K X → Type 0
+TableTaken spells table start ls now =
+    (now.lot.ghost_name ≡ start.lot.ghost_name) × (now.faults.ghost_name ≡ start.faults.ghost_name)
+    × (now.format ≡ start.format)
+    × Stands start.format spells table start.faults.now ls now.lot.now.is_counted now.lot.now.is_headed
+    now.lot.now.count now.lot.now.rows now.faults.now

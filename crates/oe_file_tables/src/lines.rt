@@ -7,8 +7,8 @@ ghost use Rattle.oe_io.specs.Ports.{Source};
 ghost use Rattle.oe_file_tables.specs.declared.faults.Wrong.TheVariants as wrong;
 ghost use Rattle.oe_file_tables.specs.declared.faults.TableFault.{TableFault};
 ghost use Rattle.oe_file_tables.specs.Fault.{Told, in_64_bits, with_fault};
-ghost use Rattle.oe_file_tables.specs.Lines.{said_of, beside_rows, Stands, Holds, FileRead};
-ghost use Rattle.oe_file_tables.specs.Reading.{TakesOne, TakesRead, CountsOne, Standing, Finished};
+ghost use Rattle.oe_file_tables.specs.Lines.{said_of, beside_rows, Stands, FileRead};
+ghost use Rattle.oe_file_tables.specs.Reading.{TakesOne, TakesRead, CountsOne, TableTaken};
 ghost use Rattle.oe_file_tables.specs.declared.formats.Format.{Format};
 ghost use Rattle.oe_file_tables.specs.declared.formats.Format.TheVariants as written;
 
@@ -17,9 +17,8 @@ use crate::faults::{Faults, TableFault, Wrong};
 use crate::formats::{Format, ends_in_return, heads, null_place, text_in};
 use crate::records::{Record, Unread};
 use crate::rows::RowLine;
-use arrayvec::ArrayVec;
-use memchr::memchr;
 use oe_file_rows::LineFault;
+use oe_filelines::{HeldLine, LineTaker};
 use oe_io::ports::Intake;
 use oe_rows::Table;
 use oe_values::TableKey;
@@ -75,14 +74,12 @@ struct Lot<K: TableKey, R> {
     values: Record,
 }
 
-// The rows so far, and the line that is read.
+// What takes the lines of a file: rows go to the lot, and what is wrong with a line to the faults.
 #[derive(Drop)]
-struct Reading<K: TableKey, R> {
-    lot: Lot<K, R>,
-    // The beginning of a line whose end was not read yet.
-    line: ArrayVec<u8, LINE>,
-    // The line is too long, and its bytes are not kept.
-    over: bool,
+struct TableLines<'a, K: TableKey, R> {
+    format: Format,
+    lot: &'a mut Lot<K, R>,
+    faults: &'a mut Faults,
 }
 
 /// Reads `rows N`, which may be a file's last line.
@@ -105,6 +102,21 @@ fn beside_rows(is_headed: bool) -> u64
 }
 
 impl<K: TableKey + Drop, R: RowLine<K> + Drop> Lot<K, R> {
+    // No line was taken.
+    fn new(alloc: Global) -> Self
+        ensures { (format : Format) (start : Told TableFault) →
+            Stands format R.spells R.own_table start [] result.is_counted result.is_headed
+            result.count result.rows start }
+    {
+        Lot {
+            rows: Gathered::new(alloc),
+            count: 0,
+            is_counted: false,
+            is_headed: false,
+            values: Record::new(alloc),
+        }
+    }
+
     // Tells what is wrong with the line.
     fn tell(&self, wrong: Wrong, faults: &mut Faults)
         ensures { faults.new
@@ -252,140 +264,39 @@ impl<K: TableKey + Drop, R: RowLine<K> + Drop> Lot<K, R> {
     }
 }
 
-impl<K: TableKey + Drop, R: RowLine<K> + Drop> Reading<K, R> {
-    // Nothing is read.
-    fn new(alloc: Global) -> Self
-        ensures { (format : Format) (start : Told TableFault) →
-            Standing format R.spells R.own_table start [] result start }
-    {
-        Reading {
-            lot: Lot {
-                rows: Gathered::new(alloc),
-                count: 0,
-                is_counted: false,
-                is_headed: false,
-                values: Record::new(alloc),
-            },
-            line: ArrayVec::new(),
-            over: false,
-        }
+impl<K: TableKey + Drop, R: RowLine<K> + Drop> LineTaker<LINE> for TableLines<'_, K, R> {
+    type Error = Stop;
+
+    ghost taken = { TableTaken R.spells R.own_table };
+
+    fn take_line(&mut self, line: &[u8]) -> Result<(), Stop> {
+        self.lot.take_line(self.format, line, self.faults)
     }
 
-    // Keeps further bytes of a line.
-    fn keep(&mut self, bytes: &[u8])
-        ensures lot { self.new.lot ≡ self.old.lot }
-        ensures line { (line : List ℕ) → Holds self.old.line.items self.old.over line →
-            Holds self.new.line.items self.new.over (line ++ bytes.now) }
-    {
-        if self.over {
-            return;
-        }
-        if self.line.try_extend_from_slice(bytes).is_err() {
-            self.over = true;
-        }
-    }
-
-    // Ends a line that was kept.
-    #[inline(never)]
-    fn end_kept(&mut self, format: Format, faults: &mut Faults) -> Result<(), Stop>
-        ensures taken { OnOk result ((line : List ℕ) →
-            Holds self.old.line.items self.old.over line →
-            (start : Told TableFault) (ls : List (List ℕ)) →
-            Stands format R.spells R.own_table start ls self.old.lot.is_counted
-            self.old.lot.is_headed self.old.lot.count self.old.lot.rows faults.old →
-            Stands format R.spells R.own_table start (ls ++ line ∷ []) self.new.lot.is_counted
-            self.new.lot.is_headed self.new.lot.count self.new.lot.rows faults.new) }
-        ensures line { self.new.line.items ≡ [] }
-        ensures over { self.new.over ≡ false }
-    {
-        let over = self.over;
-        self.over = false;
-        if over {
-            self.line.clear();
-            self.lot.take_long(faults);
-            return Ok(());
-        }
-        let taken = self.lot.take_line(format, self.line.as_slice(), faults);
-        self.line.clear();
-        taken
-    }
-
-    // Ends a line with these last bytes.
-    fn end_line(&mut self, format: Format, last: &[u8], faults: &mut Faults) -> Result<(), Stop>
-        ensures taken { OnOk result ((line : List ℕ) →
-            Holds self.old.line.items self.old.over line →
-            (start : Told TableFault) (ls : List (List ℕ)) →
-            Stands format R.spells R.own_table start ls self.old.lot.is_counted
-            self.old.lot.is_headed self.old.lot.count self.old.lot.rows faults.old →
-            Stands format R.spells R.own_table start (ls ++ (line ++ last.now) ∷ [])
-            self.new.lot.is_counted self.new.lot.is_headed self.new.lot.count
-            self.new.lot.rows faults.new) }
-        ensures line { self.new.line.items ≡ [] }
-        ensures over { self.new.over ≡ false }
-    {
-        if self.is_begun() || LINE < last.len() {
-            self.keep(last);
-            return self.end_kept(format, faults);
-        }
-        self.lot.take_line(format, last, faults)
-    }
-
-    // Tells whether a line was begun whose end was not read yet.
-    fn is_begun(&self) -> bool
-        ensures none { result ≡ false → (self.now.over ≡ false) × (self.now.line.items ≡ []) }
-        ensures some { result ≡ true → self.now.over ≡ false → 0 < length self.now.line.items }
-    {
-        self.over || !self.line.is_empty()
-    }
-
-    // Takes the next bytes of the file.
-    fn feed(&mut self, format: Format, piece: &[u8], faults: &mut Faults) -> Result<(), Stop>
-        ensures { OnOk result ((start : Told TableFault) (input : List ℕ) →
-            Standing format R.spells R.own_table start input self.old faults.old →
-            Standing format R.spells R.own_table start (input ++ piece.now) self.new faults.new) }
-    {
-        let mut rest = piece;
-        while let Some(n) = memchr(b'\n', rest) {
-            if let Err(stop) = self.end_line(format, &rest[..n], faults) {
-                return Err(stop);
-            }
-            rest = &rest[n + 1..];
-        }
-        self.keep(rest);
+    fn take_long(&mut self) -> Result<(), Stop> {
+        self.lot.take_long(self.faults);
         Ok(())
     }
+}
 
-    // Takes what is left at the end of the file.
-    fn finish(&mut self, format: Format, faults: &mut Faults) -> Result<(), Stop>
-        ensures { OnOk result ((start : Told TableFault) (input : List ℕ) →
-            Standing format R.spells R.own_table start input self.old faults.old →
-            Finished format R.spells R.own_table start input self.new faults.new) }
-    {
-        if self.is_begun() {
-            return self.end_kept(format, faults);
-        }
-        Ok(())
-    }
-
+impl<K: TableKey + Drop, R: RowLine<K> + Drop> TableLines<'_, K, R> {
     // Reads the file to its end.
-    fn run<S: Intake>(
-        &mut self,
-        format: Format,
-        source: &mut S,
-        faults: &mut Faults,
-    ) -> Result<(), Stop>
-        requires { (start : Told TableFault) →
-            Standing format R.spells R.own_table start [] self.old start }
-        ensures { OnOk result (FileRead format R.spells R.own_table (S.source source.old)
-            (S.source source.new) faults.old self.new.lot.rows faults.new) }
+    fn run<S: Intake>(&mut self, source: &mut S) -> Result<(), Stop>
+        requires { TableTaken R.spells R.own_table self.old [] self.old }
+        ensures lot { OnOk result (self.new.lot.ghost_name ≡ self.old.lot.ghost_name) }
+        ensures faults { OnOk result (self.new.faults.ghost_name ≡ self.old.faults.ghost_name) }
+        ensures read { OnOk result (FileRead self.old.format R.spells R.own_table
+            (S.source source.old) (S.source source.new) self.old.faults.now
+            self.new.lot.now.rows self.new.faults.now) }
     {
+        let mut held = HeldLine::new();
         let mut buf = [0u8; PIECE];
         for _ in 0..u64::MAX {
             match source.read(&mut buf) {
                 Err(_) => return Err(Stop::Read(R::table())),
-                Ok(0) => return self.finish(format, faults),
+                Ok(0) => return held.finish(self),
                 Ok(n) => {
-                    if let Err(stop) = self.feed(format, &buf[..n], faults) {
+                    if let Err(stop) = held.feed(&buf[..n], self) {
                         return Err(stop);
                     }
                 }
@@ -393,6 +304,29 @@ impl<K: TableKey + Drop, R: RowLine<K> + Drop> Reading<K, R> {
         }
         Err(Stop::Read(R::table()))
     }
+}
+
+// Takes the lines of a whole file.
+fn take_file<K: TableKey + Drop, R: RowLine<K> + Drop, S: Intake>(
+    lot: &mut Lot<K, R>,
+    format: Format,
+    source: &mut S,
+    faults: &mut Faults,
+) -> Result<(), Stop>
+    requires { (start : Told TableFault) → Stands format R.spells R.own_table start []
+        lot.old.is_counted lot.old.is_headed lot.old.count lot.old.rows start }
+    ensures { OnOk result (FileRead format R.spells R.own_table (S.source source.old)
+        (S.source source.new) faults.old lot.new.rows faults.new) }
+{
+    let mut lines = TableLines {
+        format,
+        lot,
+        faults,
+    };
+    if let Err(stop) = lines.run(source) {
+        return Err(stop);
+    }
+    Ok(())
 }
 
 /// Reads the rows of a file.
@@ -409,23 +343,16 @@ pub(crate) fn read_file<K: TableKey + Drop, R: RowLine<K> + Drop, S: Intake>(
     ensures { IfOk result (λ rows. FileRead format R.spells R.own_table (S.source source.old)
         (S.source source.new) faults.old rows faults.new) }
 {
-    let mut reading = Reading::new(alloc);
-    match reading.run(format, source, faults) {
-        Ok(()) => {
-            let Reading {
-                lot,
-                line: _,
-                over: _,
-            } = reading;
-            let Lot {
-                rows,
-                count: _,
-                is_counted: _,
-                is_headed: _,
-                values: _,
-            } = lot;
-            Ok(rows)
-        }
-        Err(stop) => Err(stop),
+    let mut lot = Lot::new(alloc);
+    if let Err(stop) = take_file(&mut lot, format, source, faults) {
+        return Err(stop);
     }
+    let Lot {
+        rows,
+        count: _,
+        is_counted: _,
+        is_headed: _,
+        values: _,
+    } = lot;
+    Ok(rows)
 }

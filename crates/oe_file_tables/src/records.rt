@@ -95,7 +95,8 @@ impl Record {
     // Takes a byte of a field.
     #[inline]
     fn add(&mut self, byte: u8, within: Within) -> Result<(), Unread>
-        ensures { ComesTo (line_onward self.old.line.items (of_field byte within self.old.before_null))
+        ensures { ComesTo (line_onward self.old.line.items
+            (of_field byte within self.old.before_null))
             self.new.line.items self.new.within self.new.before_null result }
     {
         if byte == b'\t' {

@@ -1,6 +1,6 @@
 -- A source's lines go on by one byte or one line.
-use Rattle.std.proofs.Common.{◌≡◌, ◌≢◌, ℕ, ◌+◌, ◌<◌, ◌≤◌, Bool, true, false, List, [], ◌∷◌, ◌++◌, length, take, drop}
-use Rattle.std.proofs.Common.{◌⊎◌, inl, inr, get_or, Option, Some, None, sym, ap, subst, ◌∙◌, refl, append_assoc, arith}
+use Rattle.std.proofs.Common.{◌≡◌, ◌≢◌, ℕ, ◌+◌, ◌<◌, ◌≤◌, List, [], ◌∷◌, ◌++◌, length, take, drop}
+use Rattle.std.proofs.Common.{get_or, Option, Some, None, sym, ap, subst, ◌∙◌, refl, append_assoc, arith}
 use Rattle.std.specs.Prelude.{All, ⊤, Ok}
 use Rattle.std.specs.Io.KnownBytes.{ReadConsumes}
 use Rattle.std.specs.List.{flat_map}
@@ -9,26 +9,14 @@ use Rattle.std.proofs.lemmas.List.Elements.{All-push, All-append}
 use Rattle.std.proofs.lemmas.Grind.{flat_map-append}
 use Rattle.std.proofs.lemmas.Bool.{eqb-true, eq-eqb}
 use Rattle.memchr.specs.Find.{IsFirstByte, Nowhere, Passes, is_byte}
-use Rattle.oe_filelines.specs.Lines.{IsInLine, with_line_end, with_last, AreAll, Holds, Standing, Finished}
+use Rattle.oe_filelines.specs.Lines.{IsInLine, with_line_end, with_last, AreAll, Held, Holds, Standing, Finished}
 
 -- ---- what is held
 
-pub over_long : (held : List ℕ) (over : Bool) (line : List ℕ) → Holds 65_536 held over line
-    → (over ≡ true) ⊎ (65_536 < length held) → 65_536 < length line
-over_long held true line h o = h
-over_long held false line h (inl e) = absurd (cc)
-over_long held false line h (inr l) = omega (arith, l, ap length h.0)
-
-pub held_is : (longest : ℕ) (held : List ℕ) (over : Bool) (line : List ℕ) → over ≡ false → Holds longest held over line
-    → held ≡ line
-held_is longest held true line e h = absurd (cc)
-held_is longest held false line e h = h.0
-
 -- a line that was begun has a byte
-pub not_begun : (longest : ℕ) (held : List ℕ) (over : Bool) → Holds longest held over []
-    → (over ≡ false → 0 < length held) → ⊥
-not_begun longest held true h begun = omega (arith, h)
-not_begun longest held false h begun = omega (arith, begun refl, ap length h.0)
+pub not_begun : (longest : ℕ) (held : Held) → Holds longest held [] → (held ≡ Some [] → ⊥) → ⊥
+not_begun longest (Some bytes) h begun = begun (ap Some h.0)
+not_begun longest None h begun = omega (arith, h)
 
 -- ---- where a line ends in a piece
 
@@ -56,23 +44,22 @@ with_end p n first =
 pub all_none : {A : Type 0} (P : A → Type 0) → All P []
 all_none P k d h = absurd (omega (arith, h))
 
-module _ {T : Type 0} (taken : T → List (List ℕ) → T → Type 0) (start : T) where
-  pub standing_start : (held : List ℕ) (over : Bool) → held ≡ [] → over ≡ false → taken start [] start
-      → Standing taken start [] held over start
-  standing_start held over h o begins = record {
+module _ {T : Type 0} (longest : ℕ) (taken : List (List ℕ) → T → Type 0) where
+  pub standing_start : (held : Held) (now : T) → held ≡ Some [] → taken [] now → Standing longest taken [] held now
+  standing_start held now none begins = record {
     lines = [];
     line = [];
     whole = refl;
     each = all_none IsInLine;
     tail = all_none (λ b. b ≢ 10);
     stands = begins;
-    holds = rw (h, o) (refl, omega arith);
+    holds = subst (λ h. Holds longest h []) (sym none) (refl, omega arith);
   }
 
-  pub standing_bytes : (input more held held' : List ℕ) (over over' : Bool) (now : T) → IsInLine more
-      → ((line : List ℕ) → Holds 65_536 held over line → Holds 65_536 held' over' (line ++ more))
-      → Standing taken start input held over now → Standing taken start (input ++ more) held' over' now
-  standing_bytes input more held held' over over' now free keeps s = record {
+  pub standing_bytes : (input more : List ℕ) (held held' : Held) (now : T) → IsInLine more
+      → ((line : List ℕ) → Holds longest held line → Holds longest held' (line ++ more))
+      → Standing longest taken input held now → Standing longest taken (input ++ more) held' now
+  standing_bytes input more held held' now free keeps s = record {
     lines = s.lines;
     line = s.line ++ more;
     whole = ap (λ z. z ++ more) s.whole ∙ append_assoc (flat_map with_line_end s.lines) s.line more;
@@ -82,13 +69,13 @@ module _ {T : Type 0} (taken : T → List (List ℕ) → T → Type 0) (start : 
     holds = keeps s.line s.holds;
   }
 
-  pub standing_line : (input last held held' : List ℕ) (over over' : Bool) (now now' : T) → IsInLine last
-      → ((line : List ℕ) → Holds 65_536 held over line → (start : T) (ls : List (List ℕ)) → taken start ls now
-      → taken start (ls ++ (line ++ last) ∷ []) now')
-      → held' ≡ [] → over' ≡ false
-      → Standing taken start input held over now
-      → Standing taken start ((input ++ last) ++ 10 ∷ []) held' over' now'
-  standing_line input last held held' over over' now now' free takes e o s =
+  pub standing_line : (input last : List ℕ) (held held' : Held) (now now' : T) → IsInLine last
+      → ((line : List ℕ) → Holds longest held line → (ls : List (List ℕ)) → taken ls now
+      → taken (ls ++ (line ++ last) ∷ []) now')
+      → held' ≡ Some []
+      → Standing longest taken input held now
+      → Standing longest taken ((input ++ last) ++ 10 ∷ []) held' now'
+  standing_line input last held held' now now' free takes e s =
       let line = s.line ++ last in
       record {
         lines = s.lines ++ line ∷ [];
@@ -100,16 +87,16 @@ module _ {T : Type 0} (taken : T → List (List ℕ) → T → Type 0) (start : 
             ∙ sym (flat_map-append with_line_end s.lines (line ∷ [])) ∙ sym (append-nil _);
         each = All-push IsInLine s.lines line s.each (All-append (λ b. b ≢ 10) s.line last s.tail free);
         tail = all_none (λ b. b ≢ 10);
-        stands = takes s.line s.holds start s.lines s.stands;
-        holds = rw (e, o) (refl, omega arith);
+        stands = takes s.line s.holds s.lines s.stands;
+        holds = subst (λ h. Holds longest h []) (sym e) (refl, omega arith);
       }
 
   -- the end of the input
 
-  pub finished_none : (input held : List ℕ) (over : Bool) (now : T) → held ≡ [] → over ≡ false
-      → Standing taken start input held over now → Finished taken start input now
-  finished_none input held over now e o s =
-      let empty : s.line ≡ [] = sym (held_is 65_536 held over s.line o s.holds) ∙ e in (
+  pub finished_none : (input : List ℕ) (held : Held) (now : T) → held ≡ Some []
+      → Standing longest taken input held now → Finished taken input now
+  finished_none input held now e s =
+      let empty : s.line ≡ [] = sym (subst (λ h. Holds longest h s.line) e s.holds).0 in (
         s.lines,
         record {
           whole = s.lines;
@@ -122,14 +109,14 @@ module _ {T : Type 0} (taken : T → List (List ℕ) → T → Type 0) (start : 
         s.stands,
       )
 
-  pub finished_line : (input held : List ℕ) (over : Bool) (now now' : T) → (over ≡ false → 0 < length held)
-      → ((line : List ℕ) → Holds 65_536 held over line → (start : T) (ls : List (List ℕ)) → taken start ls now
-      → taken start (ls ++ line ∷ []) now')
-      → Standing taken start input held over now → Finished taken start input now'
-  finished_line input held over now now' begun takes s = by_line s.line refl
+  pub finished_line : (input : List ℕ) (held : Held) (now now' : T) → (held ≡ Some [] → ⊥)
+      → ((line : List ℕ) → Holds longest held line → (ls : List (List ℕ)) → taken ls now
+      → taken (ls ++ line ∷ []) now')
+      → Standing longest taken input held now → Finished taken input now'
+  finished_line input held now now' begun takes s = by_line s.line refl
     where
-      by_line : (line : List ℕ) → s.line ≡ line → Finished taken start input now'
-      by_line [] e = absurd (not_begun 65_536 held over (subst (Holds 65_536 held over) e s.holds) begun)
+      by_line : (line : List ℕ) → s.line ≡ line → Finished taken input now'
+      by_line [] e = absurd (not_begun longest held (subst (Holds longest held) e s.holds) begun)
       by_line (b ∷ line) e = (
         s.lines ++ s.line ∷ [],
         record {
@@ -140,8 +127,23 @@ module _ {T : Type 0} (taken : T → List (List ℕ) → T → Type 0) (start : 
           tail = s.tail;
           lines_are = ap (λ z. s.lines ++ z ∷ []) e ∙ sym (ap (with_last s.lines) e);
         },
-        takes s.line s.holds start s.lines s.stands,
+        takes s.line s.holds s.lines s.stands,
       )
+
+-- what took the lines may be told in other words
+pub standing_map : {T U : Type 0} (longest : ℕ) (taken : List (List ℕ) → T → Type 0)
+    (told : List (List ℕ) → U → Type 0) (input : List ℕ) (held : Held) (now : T) (then : U)
+    → ((ls : List (List ℕ)) → taken ls now → told ls then)
+    → Standing longest taken input held now → Standing longest told input held then
+standing_map longest taken told input held now then says s = record {
+  lines = s.lines;
+  line = s.line;
+  whole = s.whole;
+  each = s.each;
+  tail = s.tail;
+  stands = says s.lines s.stands;
+  holds = s.holds;
+}
 
 -- ---- what calls of the reader gave
 

@@ -30,25 +30,35 @@ AreAll None new bytes = ⊤
 AreAll (Some a) None bytes = ⊥
 AreAll (Some a) (Some b) bytes = (a ≡ bytes) × (b ≡ [])
 
--- the bytes of a line so far: held whole while they fit, and only known to be too many afterwards
-abbrev pub Holds : (longest : ℕ) → List ℕ → Bool → List ℕ → Type 0
-Holds longest held false line = (held ≡ line) × (length line ≤ longest)
-Holds longest held true line = longest < length line
+-- what is held of a line: its bytes so far, or that they are too many
+abbrev pub Held : Type 0
+Held = Option (List ℕ)
 
-module _ {T : Type 0} (taken : T → List (List ℕ) → T → Type 0) (start : T) where
+-- the bytes of a line so far: held whole while they fit, and only known to be too many afterwards
+abbrev pub Holds : (longest : ℕ) → Held → List ℕ → Type 0
+Holds longest (Some held) line = (held ≡ line) × (length line ≤ longest)
+Holds longest None line = longest < length line
+
+-- what is held where the bytes are these, or were too many
+abbrev pub held_of : List ℕ → (over : Bool) → Held
+held_of bytes false = Some bytes
+held_of bytes true = None
+
+module _ {T : Type 0} (longest : ℕ) (taken : List (List ℕ) → T → Type 0) where
   -- the lines of this input were taken, and the beginning of the next is held
-  pub record Standing (input held : List ℕ) (over : Bool) (now : T) : Type 0 where
+  pub record Standing (input : List ℕ) (held : Held) (now : T) : Type 0 where
     pub lines : List (List ℕ)
     pub line : List ℕ
     pub whole : input ≡ flat_map with_line_end lines ++ line
     pub each : All IsInLine lines
     pub tail : IsInLine line
-    pub stands : taken start lines now
-    pub holds : Holds 65_536 held over line
+    pub stands : taken lines now
+    pub holds : Holds longest held line
 
+module _ {T : Type 0} (taken : List (List ℕ) → T → Type 0) where
   -- all lines of this input were taken
   abbrev pub Finished : List ℕ → T → Type 0
-  Finished input now = (lines : List (List ℕ)) × AreLines input lines × taken start lines now
+  Finished input now = (lines : List (List ℕ)) × AreLines input lines × taken lines now
 
   -- a source was read to its end, and all lines of its bytes were taken
   abbrev pub LinesRead : Option (List ℕ) → Option (List ℕ) → T → Type 0

@@ -1,11 +1,12 @@
 //! Lines end in byte 10; the last may lack its end. A line that lies whole in a piece is handed on
-//! from there; of any other its beginning is held. Memory for that may run out, and a read may
-//! fail: then nothing is promised of what took the lines.
-ghost use Rattle.std.specs.Prelude.{◌≡◌, ◌<◌, ◌≤◌, ◌++◌, ◌∷◌, [], ℕ, List, length, false, true, OnOk};
+//! from there; of any other its beginning is held. A line may not be taken, and a read may fail:
+//! then nothing is promised of what took the lines.
+ghost use Rattle.std.specs.Prelude.{◌≡◌, ◌<◌, ◌≤◌, ◌++◌, ◌∷◌, [], ℕ, List, length, Some, OnOk};
 ghost use Rattle.oe_filelines.specs.Lines.{Holds, Standing, Finished, LinesRead};
 
+use crate::held::HeldLine;
 use memchr::memchr;
-use std::alloc::{AllocError, Global};
+use std::alloc::AllocError;
 use std::io;
 use std::io::Read;
 use thiserror::Error;
@@ -27,136 +28,89 @@ pub enum Stop {
     NoMemory,
 }
 
-/// What takes lines, one after another.
-pub trait LineTaker {
+/// What takes lines of at most `LONGEST` bytes, one after another.
+pub trait LineTaker<const LONGEST: usize> {
+    /// Why a line was not taken.
+    type Error;
+
     /// From the first state these lines were taken, and it stands so now.
     ghost taken: { Self → List (List ℕ) → Self → Type 0 };
 
     /// Takes the next line, without its end.
-    fn take_line(&mut self, line: &[u8]) -> Result<(), AllocError>
-        requires { length line.now ≤ 65_536 }
+    fn take_line(&mut self, line: &[u8]) -> Result<(), Self::Error>
+        requires { length line.now ≤ LONGEST }
         ensures { OnOk result ((start : Self) (lines : List (List ℕ)) →
             taken start lines self.old → taken start (lines ++ line.now ∷ []) self.new) };
 
     /// Takes the next line, which has too many bytes.
-    fn take_long(&mut self) -> Result<(), AllocError>
+    fn take_long(&mut self) -> Result<(), Self::Error>
         ensures { OnOk result ((start : Self) (lines : List (List ℕ)) (line : List ℕ) →
-            65_536 < length line → taken start lines self.old →
+            LONGEST < length line → taken start lines self.old →
             taken start (lines ++ line ∷ []) self.new) };
 }
 
-// The beginning of a line whose end was not read yet.
-#[derive(Drop)]
-struct Held {
-    line: Vec<u8>,
-    // The line is too long, and its bytes are not kept.
-    over: bool,
-}
-
-impl Held {
-    // Nothing is held.
-    fn new(alloc: Global) -> Held
-        ensures line { result.line.items ≡ [] }
-        ensures over { result.over ≡ false }
-    {
-        Held {
-            line: Vec::new(alloc),
-            over: false,
-        }
-    }
-
-    // Tells whether a line was begun.
-    fn is_begun(&self) -> bool
-        ensures none { result ≡ false → (self.now.over ≡ false) × (self.now.line.items ≡ []) }
-        ensures some { result ≡ true → self.now.over ≡ false → 0 < length self.now.line.items }
-    {
-        self.over || !self.line.is_empty()
-    }
-
-    // Tells whether the line that is held is too long.
-    fn is_over(&self) -> bool
-        ensures long { result ≡ true → (line : List ℕ) →
-            Holds 65_536 self.now.line.items self.now.over line → 65_536 < length line }
-        ensures short { result ≡ false → length self.now.line.items ≤ 65_536 }
-        ensures held { result ≡ false → (line : List ℕ) →
-            Holds 65_536 self.now.line.items self.now.over line → self.now.line.items ≡ line }
-    {
-        self.over || LINE < self.line.len()
-    }
-
-    // Holds further bytes of a line.
-    fn keep(&mut self, bytes: &[u8]) -> Result<(), AllocError>
-        ensures { OnOk result ((line : List ℕ) → Holds 65_536 self.old.line.items self.old.over line →
-            Holds 65_536 self.new.line.items self.new.over (line ++ bytes.now)) }
-    {
-        if self.over {
-            return Ok(());
-        }
-        if LINE < bytes.len() || LINE - bytes.len() < self.line.len() {
-            self.over = true;
-            return Ok(());
-        }
-        self.line.extend_from_slice(bytes)
-    }
-
-    // Ends a line that is held.
+impl<const LONGEST: usize> HeldLine<LONGEST> {
+    // Ends the line.
     #[inline(never)]
-    fn end<T: LineTaker>(&mut self, taker: &mut T) -> Result<(), AllocError>
-        ensures taken { OnOk result ((line : List ℕ) →
-            Holds 65_536 self.old.line.items self.old.over line → (start : T) (lines : List (List ℕ)) →
-            T.taken start lines taker.old → T.taken start (lines ++ line ∷ []) taker.new) }
-        ensures line { self.new.line.items ≡ [] }
-        ensures over { self.new.over ≡ false }
+    fn end<T: LineTaker<LONGEST>>(&mut self, taker: &mut T) -> Result<(), T::Error>
+        ensures taken { OnOk result ((line : List ℕ) → Holds LONGEST self.old line →
+            (start : T) (lines : List (List ℕ)) → T.taken start lines taker.old →
+            T.taken start (lines ++ line ∷ []) taker.new) }
+        ensures held { self.new ≡ Some [] }
     {
-        let over = self.is_over();
-        self.over = false;
-        if over {
-            self.line.clear();
+        let Some(line) = self.text() else {
+            self.clear();
             return taker.take_long();
-        }
-        let taken = taker.take_line(self.line.as_slice());
-        self.line.clear();
+        };
+        let taken = taker.take_line(line);
+        self.clear();
         taken
     }
 
-    // Ends a line with these last bytes, which may be too many where none are held.
+    // Ends the line with these last bytes, which may be too many where none are held.
     #[inline(never)]
-    fn end_with<T: LineTaker>(&mut self, last: &[u8], taker: &mut T) -> Result<(), AllocError>
-        ensures taken { OnOk result ((line : List ℕ) →
-            Holds 65_536 self.old.line.items self.old.over line → (start : T) (lines : List (List ℕ)) →
-            T.taken start lines taker.old →
+    fn end_with<T: LineTaker<LONGEST>>(
+        &mut self,
+        last: &[u8],
+        taker: &mut T,
+    ) -> Result<(), T::Error>
+        ensures taken { OnOk result ((line : List ℕ) → Holds LONGEST self.old line →
+            (start : T) (lines : List (List ℕ)) → T.taken start lines taker.old →
             T.taken start (lines ++ (line ++ last.now) ∷ []) taker.new) }
-        ensures line { OnOk result (self.new.line.items ≡ []) }
-        ensures over { OnOk result (self.new.over ≡ false) }
+        ensures held { self.new ≡ Some [] }
     {
-        if let Err(error) = self.keep(last) {
-            return Err(error);
-        }
+        self.keep(last);
         self.end(taker)
     }
 
-    // Ends a line with these last bytes.
+    // Ends the line with these last bytes.
     #[inline]
-    fn end_line<T: LineTaker>(&mut self, last: &[u8], taker: &mut T) -> Result<(), AllocError>
-        ensures taken { OnOk result ((line : List ℕ) →
-            Holds 65_536 self.old.line.items self.old.over line → (start : T) (lines : List (List ℕ)) →
-            T.taken start lines taker.old →
+    fn end_line<T: LineTaker<LONGEST>>(
+        &mut self,
+        last: &[u8],
+        taker: &mut T,
+    ) -> Result<(), T::Error>
+        ensures taken { OnOk result ((line : List ℕ) → Holds LONGEST self.old line →
+            (start : T) (lines : List (List ℕ)) → T.taken start lines taker.old →
             T.taken start (lines ++ (line ++ last.now) ∷ []) taker.new) }
-        ensures line { OnOk result (self.new.line.items ≡ []) }
-        ensures over { OnOk result (self.new.over ≡ false) }
+        ensures held { self.new ≡ Some [] }
     {
-        if self.is_begun() || LINE < last.len() {
+        if self.is_begun() || LONGEST < last.len() {
             return self.end_with(last, taker);
         }
         taker.take_line(last)
     }
 
-    // Takes the next bytes of the source.
-    fn feed<T: LineTaker>(&mut self, piece: &[u8], taker: &mut T) -> Result<(), AllocError>
+    /// Takes the next bytes of a source: each line that ends in them is handed on, and the
+    /// beginning of the next is held.
+    pub fn feed<T: LineTaker<LONGEST>>(
+        &mut self,
+        piece: &[u8],
+        taker: &mut T,
+    ) -> Result<(), T::Error>
         ensures { OnOk result ((start : T) (input : List ℕ) →
-            Standing T.taken start input self.old.line.items self.old.over taker.old →
-            Standing T.taken start (input ++ piece.now) self.new.line.items self.new.over
-            taker.new) }
+            Standing LONGEST (T.taken start) input self.old taker.old →
+            Standing LONGEST (T.taken start) (input ++ piece.now) self.new taker.new) }
     {
         let mut rest = piece;
         while let Some(n) = memchr(b'\n', rest) {
@@ -165,14 +119,15 @@ impl Held {
             }
             rest = &rest[n + 1..];
         }
-        self.keep(rest)
+        self.keep(rest);
+        Ok(())
     }
 
-    // Takes what is left at the end of the source.
-    fn finish<T: LineTaker>(&mut self, taker: &mut T) -> Result<(), AllocError>
+    /// Takes the end of a source: a last line that lacks its end is handed on.
+    pub fn finish<T: LineTaker<LONGEST>>(&mut self, taker: &mut T) -> Result<(), T::Error>
         ensures { OnOk result ((start : T) (input : List ℕ) →
-            Standing T.taken start input self.old.line.items self.old.over taker.old →
-            Finished T.taken start input taker.new) }
+            Standing LONGEST (T.taken start) input self.old taker.old →
+            Finished (T.taken start) input taker.new) }
     {
         if self.is_begun() {
             return self.end(taker);
@@ -182,11 +137,14 @@ impl Held {
 }
 
 // Reads the source to its end.
-fn run<S: Read, T: LineTaker>(held: &mut Held, source: &mut S, taker: &mut T) -> Result<(), Stop>
-    requires line { held.old.line.items ≡ [] }
-    requires over { held.old.over ≡ false }
+fn run<S: Read, T: LineTaker<LINE, Error = AllocError>>(
+    held: &mut HeldLine<LINE>,
+    source: &mut S,
+    taker: &mut T,
+) -> Result<(), Stop>
+    requires held { held.old ≡ Some [] }
     requires begins { T.taken taker.old [] taker.old }
-    ensures { OnOk result (LinesRead T.taken taker.old (S.remaining source.old)
+    ensures { OnOk result (LinesRead (T.taken taker.old) (S.remaining source.old)
         (S.remaining source.new) taker.new) }
 {
     let mut buf = [0u8; PIECE];
@@ -212,15 +170,14 @@ fn run<S: Read, T: LineTaker>(held: &mut Held, source: &mut S, taker: &mut T) ->
 /// Reads a source to its end, and hands each line on.
 ///
 /// Nothing is promised of `taker` where a read fails or there is no memory.
-pub fn read_lines<S: Read, T: LineTaker>(
-    alloc: Global,
+pub fn read_lines<S: Read, T: LineTaker<LINE, Error = AllocError>>(
     source: &mut S,
     taker: &mut T,
 ) -> Result<(), Stop>
     requires { T.taken taker.old [] taker.old }
-    ensures { OnOk result (LinesRead T.taken taker.old (S.remaining source.old)
+    ensures { OnOk result (LinesRead (T.taken taker.old) (S.remaining source.old)
         (S.remaining source.new) taker.new) }
 {
-    let mut held = Held::new(alloc);
+    let mut held = HeldLine::new();
     run(&mut held, source, taker)
 }

@@ -1,9 +1,10 @@
 -- How a script starts, goes on by a piece, and ends.
-use Rattle.std.proofs.Common.{◌≡◌, ℕ, ◌+◌, ◌^◌, ◌<◌, ◌≤◌, Bool, false, List, [], ◌++◌, length, take, Option, Some, None}
+use Rattle.std.proofs.Common.{◌≡◌, ℕ, ◌+◌, ◌^◌, ◌<◌, ◌≤◌, List, [], ◌++◌, length, take, Option, Some, None}
 use Rattle.std.proofs.Common.{Result, Ok, Err, inl, inr, append_assoc, sym, ap, ◌∙◌, refl, subst, arith}
 use Rattle.std.proofs.lemmas.List.{append-nil, length-append, length-take}
 use Rattle.oe_io.specs.declared.ports.Failed.{Failed}
 use Rattle.oe_script.specs.declared.session.ScriptFault.TheVariants.{Read, Write}
+use Rattle.oe_filelines.specs.Lines.{Held}
 use Rattle.oe_io.specs.Ports.{Source, Sink, Reads, Sent, Cut}
 use Rattle.oe_script.specs.declared.session.ScriptFault.{ScriptFault}
 use Rattle.oe_admission.specs.Programs.{IsLive}
@@ -53,10 +54,10 @@ module _ (begun : State) (live : IsLive begun) where
   output_as input other out e o = rw (← e) o
 
   pub standing_start : {L : Type 0} (hears : L → Heard → L → Type 0) (l : L) (now : Option Sink) (waits : List ℕ)
-      (core : State) (count : ℕ) (held : List ℕ) (over : Bool) →
-      core ≡ begun → held ≡ [] → over ≡ false → count ≡ 0 → waits ≡ []
-      → Standing begun hears l l now [] now waits core count held over
-  standing_start hears l now waits core count held over e f g h i = rw (e, f, g, h, i)
+      (core : State) (count : ℕ) (held : Held) →
+      core ≡ begun → held ≡ Some [] → count ≡ 0 → waits ≡ []
+      → Standing begun hears l l now [] now waits core count held
+  standing_start hears l now waits core count held e f h i = rw (e, f, h, i)
       ([], [], reach_start begun live, (refl, omega arith), sent_none now [], [], hears_start begun live, refl)
 
   -- where nothing waits, all whole lines are answered
@@ -89,18 +90,18 @@ module _ (begun : State) (live : IsLive begun) where
 
   module _ {L : Type 0} (hears : L → Heard → L → Type 0) (before after : L) where
     pub ran_unread : (a b z : Option Source) (c d : Option Sink) (read buf waits : List ℕ) (calls : ℕ) (core : State)
-        (count : ℕ) (held : List ℕ) (over : Bool) (x : Failed) →
+        (count : ℕ) (held : Held) (x : Failed) →
         ReadSoFar a b read calls → Reads b z (Err x) buf → waits ≡ []
-        → Standing begun hears before after c read d waits core count held over
+        → Standing begun hears before after c read d waits core count held
         → ScriptHeard begun (λ told. HearsEach hears before told after) a z c d (Err Read)
     unfolding answered_reached
-    ran_unread None b z c d read buf waits calls core count held over x p q e s = tt
-    ran_unread (Some a) None z c d read buf waits calls core count held over x p q e s = absurd p
-    ran_unread (Some a) (Some b) None c d read buf waits calls core count held over x p q e s = absurd q
-    ran_unread (Some a) (Some b) (Some z) None d read buf waits calls core count held over x p q e s = tt
-    ran_unread (Some a) (Some b) (Some z) (Some c) None read buf waits calls core count held over x p q e s =
+    ran_unread None b z c d read buf waits calls core count held x p q e s = tt
+    ran_unread (Some a) None z c d read buf waits calls core count held x p q e s = absurd p
+    ran_unread (Some a) (Some b) None c d read buf waits calls core count held x p q e s = absurd q
+    ran_unread (Some a) (Some b) (Some z) None d read buf waits calls core count held x p q e s = tt
+    ran_unread (Some a) (Some b) (Some z) (Some c) None read buf waits calls core count held x p q e s =
         absurd s.4
-    ran_unread (Some a) (Some b) (Some z) (Some c) (Some d) read buf waits calls core count held over x p q e s = (
+    ran_unread (Some a) (Some b) (Some z) (Some c) (Some d) read buf waits calls core count held x p q e s = (
       inl (q.1 ∙ ap (λ n. n + 1) p.1),
       s.4.1,
       answered_reached a z c d read s.1 waits core count s.0 (p.0 ∙ ap (λ r. read ++ r) (sym q.0)) e s.4 s.2,
@@ -110,16 +111,16 @@ module _ (begun : State) (live : IsLive begun) where
     )
 
     pub ran_long : (a b : Option Source) (c d : Option Sink) (read waits : List ℕ) (calls : ℕ) (core : State)
-        (count : ℕ) (held : List ℕ) (over : Bool) →
+        (count : ℕ) (held : Held) →
         2 ^ 64 ≤ calls + 1 → ReadSoFar a b read calls → waits ≡ []
-        → Standing begun hears before after c read d waits core count held over
+        → Standing begun hears before after c read d waits core count held
         → ScriptHeard begun (λ told. HearsEach hears before told after) a b c d (Err Read)
     unfolding answered_reached
-    ran_long None b c d read waits calls core count held over h p e s = tt
-    ran_long (Some a) None c d read waits calls core count held over h p e s = absurd p
-    ran_long (Some a) (Some b) None d read waits calls core count held over h p e s = tt
-    ran_long (Some a) (Some b) (Some c) None read waits calls core count held over h p e s = absurd s.4
-    ran_long (Some a) (Some b) (Some c) (Some d) read waits calls core count held over h p e s = (
+    ran_long None b c d read waits calls core count held h p e s = tt
+    ran_long (Some a) None c d read waits calls core count held h p e s = absurd p
+    ran_long (Some a) (Some b) None d read waits calls core count held h p e s = tt
+    ran_long (Some a) (Some b) (Some c) None read waits calls core count held h p e s = absurd s.4
+    ran_long (Some a) (Some b) (Some c) (Some d) read waits calls core count held h p e s = (
       inr (p.1, omega (arith, p.2, ap length p.0, length-append read b.remaining)),
       s.4.1,
       answered_reached a b c d read s.1 waits core count s.0 p.0 e s.4 s.2,

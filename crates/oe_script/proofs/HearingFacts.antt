@@ -4,6 +4,7 @@ use Rattle.std.proofs.Common.{sym, ap, ◌∙◌, subst, refl, inl, inr, arith}
 use Rattle.std.specs.Prelude.{◌⊎◌}
 use Rattle.oe_script.specs.declared.listeners.Place.{Place}
 use Rattle.oe_script.specs.declared.listeners.Place.TheVariants as place
+use Rattle.oe_filelines.specs.Lines.{Held}
 use Rattle.oe_script.specs.Script.{State, LineAnswer, Holds}
 use Rattle.oe_script.specs.Hearing.{Heard, HearsEach, HearsLine, IsBad, Takes, last_heard, place_of}
 
@@ -29,28 +30,24 @@ module _ {L : Type 0} (hears : L → Heard → L → Type 0) where
     (l', subst (λ z. hears l (record { number = n; line = line; place = z }) l') e h, refl),
   )
 
-  pub heard_long : (s : State) (n : ℕ) (line held : List ℕ) (over : Bool) (l l' : L) → over ≡ true
-      → Holds held over line → hears l (record { number = n; line = []; place = place.Long }) l'
+  pub heard_long : (s : State) (n : ℕ) (line : List ℕ) (held : Held) (l l' : L) → held ≡ None
+      → Holds held line → hears l (record { number = n; line = []; place = place.Long }) l'
       → IsHeard hears s n line l l'
-  heard_long s n line held true l l' e long h =
+  heard_long s n line None l l' e long h =
       (record { number = n; line = []; place = place.Long } ∷ [], inr (inr (long, refl)), (l', h, refl))
-  heard_long s n line held false l l' e long h = let no : ⊥ = cc in absurd no
+  heard_long s n line (Some bytes) l l' e long h = let no : ⊥ = cc in absurd no
 
-  pub heard_last : (n : ℕ) (line held : List ℕ) (over : Bool) (l l' : L)
-      → (over ≡ true) ⊎ (0 < length held) → Holds held over line
+  pub heard_last : (n : ℕ) (line : List ℕ) (held : Held) (l l' : L) → (held ≡ Some [] → ⊥) → Holds held line
       → hears l (record { number = n; line = []; place = place.Unended }) l'
       → HearsEach hears l (last_heard n line) l'
-  heard_last n [] held true l l' some holds h = absurd (omega (arith, holds))
-  heard_last n [] held false l l' (inl e) holds h = let no : ⊥ = cc in absurd no
-  heard_last n [] held false l l' (inr some) holds h = absurd (omega (arith, some, ap length holds.0))
-  heard_last n (b ∷ bs) held over l l' some holds h = (l', h, refl)
+  heard_last n [] None l l' begun holds h = absurd (omega (arith, holds))
+  heard_last n [] (Some bytes) l l' begun holds h = absurd (begun (ap Some holds.0))
+  heard_last n (b ∷ bs) held l l' begun holds h = (l', h, refl)
 
-  pub heard_none : (n : ℕ) (line held : List ℕ) (over : Bool) (l : L) → over ≡ false → held ≡ []
-      → Holds held over line → HearsEach hears l (last_heard n line) l
-  heard_none n [] held over l e none holds = refl
-  heard_none n (b ∷ bs) held true l e none holds = let no : ⊥ = cc in absurd no
-  heard_none n (b ∷ bs) held false l e none holds =
-      let same : b ∷ bs ≡ [] = sym holds.0 ∙ none in let no : ⊥ = cc in absurd no
+  pub heard_none : (n : ℕ) (line : List ℕ) (held : Held) (l : L) → held ≡ Some [] → Holds held line
+      → HearsEach hears l (last_heard n line) l
+  heard_none n line held l none holds =
+      subst (λ z. HearsEach hears l (last_heard n z) l) (subst (λ x. Holds x line) none holds).0 refl
 
 -- a line that is no command leaves the state
 pub same_state : (s : State) (n : ℕ) (line text : List ℕ) (s' : State) → LineAnswer s n line text s'

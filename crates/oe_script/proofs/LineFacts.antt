@@ -37,6 +37,7 @@ use Rattle.oe_io.specs.Lines.{bad_line}
 use Rattle.oe_script.specs.Script.{State, moment_in, step_answer, Stepped, IsAllowed, Answers, Asks, LineAnswer}
 use Rattle.oe_script.specs.Script.{RunOfLines}
 use Rattle.oe_script.specs.Script.{Holds, shown_text, RunsIn}
+use Rattle.oe_filelines.specs.Lines.{Held}
 pub use Rattle.oe_admission.specs.Programs.{IsLive}
 use Rattle.oe_admission.proofs.LiveFacts.{next_live}
 use Rattle.oe_io.specs.Ports.{Sink, Sent, Cut, Streams}
@@ -241,16 +242,6 @@ pub taken : (w : World system) (n : ℕ) (line : List ℕ) (asked c : Command) (
 taken w n line asked c text s' short says e a answers =
     inl (c, record { short = short; says = subst (Says line) e says; allowed = a }, answers)
 
--- a line that fits is held whole
-pub held_line : (held : List ℕ) (over : Bool) (line : List ℕ) → over ≡ false → Holds held over line → held ≡ line
-held_line held false line e h = h.0
-held_line held true line e h = let none : ⊥ = cc in absurd none
-
--- a line of which nothing came before
-pub fresh_line : (held : List ℕ) (over : Bool) (line last : List ℕ) → over ≡ false → held ≡ [] → Holds held over line
-    → line ++ last ≡ last
-fresh_line held over line last e none h = ap (λ z. z ++ last) (sym (held_line held over line e h) ∙ none)
-
 -- the line was answered, and its text waits
 pub told_here : (w w' : World system) (n : ℕ) (line : List ℕ) (asked c : Command) (sink : Option Sink)
     (old new text : List ℕ)
@@ -309,7 +300,7 @@ replied_bad s n line old new waited waits (Ok x) bad h = (bad_line n, refused s 
 replied_bad s n line old new waited waits (Err e) bad h = (refl, bad_line n, s, refused s n line bad, h)
 
 -- a line that is too long is none of them
-pub too_long : (s : State) (held : List ℕ) (over : Bool) (line : List ℕ) → over ≡ true → Holds held over line
+pub too_long : (s : State) (held : Held) (line : List ℕ) → held ≡ None → Holds held line
     → (c : Command) → Asks s line c → ⊥
-too_long s held true line e h c asks = let short = asks.short in absurd (omega (arith, h, short))
-too_long s held false line e h c asks = let no : ⊥ = cc in no
+too_long s None line e h c asks = let short = asks.short in absurd (omega (arith, h, short))
+too_long s (Some bytes) line e h c asks = let no : ⊥ = cc in no

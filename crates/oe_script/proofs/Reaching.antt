@@ -1,5 +1,5 @@
 -- A session goes on by one byte or one line.
-use Rattle.std.proofs.Common.{◌≡◌, ◌≢◌, ℕ, suc, ◌+◌, Bool, false, List, [], ◌∷◌, ◌++◌, length, Option, None, Result, Ok}
+use Rattle.std.proofs.Common.{◌≡◌, ◌≢◌, ℕ, suc, ◌+◌, List, [], ◌∷◌, ◌++◌, length, Option, Some, None, Result, Ok}
 use Rattle.std.proofs.Common.{Err, append_assoc, sym, ap, ◌∙◌, refl, subst, inl, inr, arith}
 use Rattle.std.specs.Prelude.{All, ◌⊎◌}
 use Rattle.std.specs.List.{flat_map}
@@ -9,7 +9,7 @@ use Rattle.std.proofs.lemmas.Grind.{flat_map-append}
 use Rattle.std.proofs.lemmas.Bool.{cases_eq}
 use Rattle.oe_io.specs.Ports.{Sink, Sent, Cut, Streams}
 use Rattle.oe_script.specs.Outcome.{Replies}
-use Rattle.oe_filelines.specs.Lines.{IsInLine, with_line_end}
+use Rattle.oe_filelines.specs.Lines.{IsInLine, with_line_end, Held}
 use Rattle.oe_script.specs.Script.{State, LineAnswer, RunOfLines, last_text, Output, Holds}
 use Rattle.oe_script.specs.Script.{Reached}
 use Rattle.oe_script.specs.Hearing.{Heard, HearsLine, HearsRun, HearsReached, HearsAll, HearsEach, HeardFront, Attends}
@@ -211,10 +211,9 @@ module _ (begun : State) (live : IsLive begun) where
   module _ {L : Type 0} (hears : L → Heard → L → Type 0) (before : L) where
     -- all of the input is a front of it
     front_here : (l l' : L) (start now : Option Sink) (input waits : List ℕ) (core : State) (count : ℕ)
-        (held : List ℕ) (over : Bool) → l' ≡ l → Standing begun hears before l start input now waits core count held
-        over
+        (held : Held) → l' ≡ l → Standing begun hears before l start input now waits core count held
         → HeardFront begun input (λ told. HearsEach hears before told l')
-    front_here l l' start now input waits core count held over e s = record {
+    front_here l l' start now input waits core count held e s = record {
       front = input;
       rest = [];
       out = s.1;
@@ -230,11 +229,11 @@ module _ (begun : State) (live : IsLive begun) where
 
     -- bytes within a line
     pub stand_bytes : (l : L) (start now : Option Sink) (input waits : List ℕ) (core : State) (count : ℕ)
-        (held held' : List ℕ) (over over' : Bool) (more : List ℕ) → IsInLine more →
-        ((line : List ℕ) → Holds held over line → Holds held' over' (line ++ more)) →
-        Standing begun hears before l start input now waits core count held over
-        → Standing begun hears before l start (input ++ more) now waits core count held' over'
-    stand_bytes l start now input waits core count held held' over over' more h grows s = (
+        (held held' : Held) (more : List ℕ) → IsInLine more →
+        ((line : List ℕ) → Holds held line → Holds held' (line ++ more)) →
+        Standing begun hears before l start input now waits core count held
+        → Standing begun hears before l start (input ++ more) now waits core count held'
+    stand_bytes l start now input waits core count held held' more h grows s = (
       s.0 ++ more,
       s.1,
       reach_bytes input s.1 core count s.0 more h s.2,
@@ -247,14 +246,14 @@ module _ (begun : State) (live : IsLive begun) where
 
     -- the end of a line, whose last bytes come with it
     pub stand_line : {T E : Type 0} (l l' : L) (start now after : Option Sink) (input waits waits' : List ℕ)
-        (core core' : State) (count : ℕ) (held : List ℕ) (over : Bool) (last : List ℕ) (r : Result T E) →
+        (core core' : State) (count : ℕ) (held : Held) (last : List ℕ) (r : Result T E) →
         IsInLine last →
-        ((line : List ℕ) → Holds held over line
+        ((line : List ℕ) → Holds held line
         → Replies core (count + 1) (line ++ last) core' now waits after waits' r) →
-        ((line : List ℕ) → Holds held over line → Attends hears core (count + 1) (line ++ last) l l' r) →
-        Standing begun hears before l start input now waits core count held over
-        → Fed begun hears before l' start ((input ++ last) ++ 10 ∷ []) after waits' core' (count + 1) [] false r
-    stand_line l l' start now after input waits waits' core core' count held over last (Ok x) h answer hear s =
+        ((line : List ℕ) → Holds held line → Attends hears core (count + 1) (line ++ last) l l' r) →
+        Standing begun hears before l start input now waits core count held
+        → Fed begun hears before l' start ((input ++ last) ++ 10 ∷ []) after waits' core' (count + 1) (Some []) r
+    stand_line l l' start now after input waits waits' core core' count held last (Ok x) h answer hear s =
         let a = answer s.0 s.3 in
         let t = hear s.0 s.3 in
         let r = reach_bytes input s.1 core count s.0 last h s.2 in (
@@ -268,7 +267,7 @@ module _ (begun : State) (live : IsLive begun) where
               (hears_bytes input s.1 core count s.0 last h s.2 s.5 s.6) t.1,
           each_append hears before s.5 l t.0 l' s.7 t.2,
         )
-    stand_line l l' start now after input waits waits' core core' count held over last (Err x) h answer hear s = (
+    stand_line l l' start now after input waits waits' core core' count held last (Err x) h answer hear s = (
       λ more.
           let a = answer s.0 s.3 in
           let end = (input ++ last) ++ 10 ∷ [] in
@@ -281,15 +280,15 @@ module _ (begun : State) (live : IsLive begun) where
           ),
       front_more (input ++ last) (10 ∷ []) (λ told. HearsEach hears before told l')
           (front_more input last (λ told. HearsEach hears before told l')
-          (front_here l l' start now input waits core count held over (hear s.0 s.3) s)),
+          (front_here l l' start now input waits core count held (hear s.0 s.3) s)),
     )
 
     -- what waits is written
     pub stand_flush : {T E : Type 0} (l : L) (start now after : Option Sink) (input waits waits' : List ℕ)
-        (core : State) (count : ℕ) (held : List ℕ) (over : Bool) (r : Result T E) →
-        Streams now waits after waits' [] r → Standing begun hears before l start input now waits core count held over
-        → Fed begun hears before l start input after waits' core count held over r
-    stand_flush l start now after input waits waits' core count held over (Ok x) a s = (
+        (core : State) (count : ℕ) (held : Held) (r : Result T E) →
+        Streams now waits after waits' [] r → Standing begun hears before l start input now waits core count held
+        → Fed begun hears before l start input after waits' core count held r
+    stand_flush l start now after input waits waits' core count held (Ok x) a s = (
       s.0,
       s.1,
       s.2,
@@ -300,7 +299,7 @@ module _ (begun : State) (live : IsLive begun) where
       s.6,
       s.7,
     )
-    stand_flush l start now after input waits waits' core count held over (Err x) a s = (
+    stand_flush l start now after input waits waits' core count held (Err x) a s = (
       λ more.
           let o = reach_rest more input s.1 core count s.0 s.2 in (
             s.1 ++ o.0,
@@ -309,50 +308,50 @@ module _ (begun : State) (live : IsLive begun) where
                 (cut_as start after [] (s.1 ++ []) s.1 (append-nil s.1)
                 (sent_cut start now after [] waits s.1 [] s.4 a)),
           ),
-      front_here l l start now input waits core count held over refl s,
+      front_here l l start now input waits core count held refl s,
     )
 
     -- the end of the input
     pub end_cut : (l : L) (start now after : Option Sink) (input waits : List ℕ) (core : State) (count : ℕ)
-        (held : List ℕ) (over : Bool) →
-        ((line : List ℕ) → Holds held over line → Cut now waits after (last_text (count + 1) line)) →
-        Standing begun hears before l start input now waits core count held over
+        (held : Held) →
+        ((line : List ℕ) → Holds held line → Cut now waits after (last_text (count + 1) line)) →
+        Standing begun hears before l start input now waits core count held
         → (out : List ℕ) × Output begun input out × Cut start [] after out
         × HeardFront begun input (λ told. HearsEach hears before told l)
-    end_cut l start now after input waits core count held over last s = (
+    end_cut l start now after input waits core count held last s = (
       s.1 ++ last_text (count + 1) s.0,
       reach_output input s.1 core count s.0 s.2,
       sent_cut start now after [] waits s.1 (last_text (count + 1) s.0) s.4 (last s.0 s.3),
-      front_here l l start now input waits core count held over refl s,
+      front_here l l start now input waits core count held refl s,
     )
 
     pub end_flush : (l : L) (start now mid after : Option Sink) (input waits waits' : List ℕ) (core : State)
-        (count : ℕ) (held : List ℕ) (over : Bool) →
-        ((line : List ℕ) → Holds held over line → Sent now waits mid waits' (last_text (count + 1) line))
-        → Cut mid waits' after [] → Standing begun hears before l start input now waits core count held over
+        (count : ℕ) (held : Held) →
+        ((line : List ℕ) → Holds held line → Sent now waits mid waits' (last_text (count + 1) line))
+        → Cut mid waits' after [] → Standing begun hears before l start input now waits core count held
         → (out : List ℕ) × Output begun input out × Cut start [] after out
         × HeardFront begun input (λ told. HearsEach hears before told l)
-    end_flush l start now mid after input waits waits' core count held over last flushed s =
+    end_flush l start now mid after input waits waits' core count held last flushed s =
         let out = s.1 ++ last_text (count + 1) s.0 in
         let sent = sent_then start now mid [] waits waits' s.1 (last_text (count + 1) s.0) s.4 (last s.0 s.3) in (
           out,
           reach_output input s.1 core count s.0 s.2,
           cut_nil start after out (sent_cut start mid after [] waits' out [] sent flushed),
-          front_here l l start now input waits core count held over refl s,
+          front_here l l start now input waits core count held refl s,
         )
       where
         cut_nil : (a b : Option Sink) (t : List ℕ) → Cut a [] b (t ++ []) → Cut a [] b t
         cut_nil a b t p = rw append-nil at p
 
     pub end_sent : (l l' : L) (start now mid after : Option Sink) (input waits waits' end : List ℕ) (core : State)
-        (count : ℕ) (held : List ℕ) (over : Bool) →
-        end ≡ [] → ((line : List ℕ) → Holds held over line → Sent now waits mid waits' (last_text (count + 1) line))
+        (count : ℕ) (held : Held) →
+        end ≡ [] → ((line : List ℕ) → Holds held line → Sent now waits mid waits' (last_text (count + 1) line))
         → Sent mid waits' after end []
-        → ((line : List ℕ) → Holds held over line → HearsEach hears l (last_heard (count + 1) line) l')
-        → Standing begun hears before l start input now waits core count held over
+        → ((line : List ℕ) → Holds held line → HearsEach hears l (last_heard (count + 1) line) l')
+        → Standing begun hears before l start input now waits core count held
         → (out : List ℕ) × (o : Output begun input out) × Sent start [] after [] out
         × (told : List Heard) × HearsAll begun input out o told × HearsEach hears before told l'
-    end_sent l l' start now mid after input waits waits' end core count held over e last flushed hear s =
+    end_sent l l' start now mid after input waits waits' end core count held e last flushed hear s =
         let out = s.1 ++ last_text (count + 1) s.0 in
         let sent = sent_then start now mid [] waits waits' s.1 (last_text (count + 1) s.0) s.4 (last s.0 s.3) in (
           out,
@@ -367,23 +366,22 @@ module _ (begun : State) (live : IsLive begun) where
         sent_nil a b t p = rw append-nil at p
 
     pub standing_as : (l : L) (start now : Option Sink) (input other waits : List ℕ) (core : State) (count : ℕ)
-        (held : List ℕ) (over : Bool) → input ≡ other →
-        Standing begun hears before l start input now waits core count held over
-        → Standing begun hears before l start other now waits core count held over
-    standing_as l start now input other waits core count held over e s =
-        subst (λ z. Standing begun hears before l start z now waits core count held over) e s
+        (held : Held) → input ≡ other →
+        Standing begun hears before l start input now waits core count held
+        → Standing begun hears before l start other now waits core count held
+    standing_as l start now input other waits core count held e s =
+        subst (λ z. Standing begun hears before l start z now waits core count held) e s
 
     -- the same session, where its parts are told in other words
     pub standing_same : (l : L) (start now : Option Sink) (input waits waits' : List ℕ) (core core' : State)
-        (count count' : ℕ) (held held' : List ℕ) (over over' : Bool) → waits ≡ waits' → core ≡ core' → count ≡ count'
-        → held ≡ held' → over ≡ over' → Standing begun hears before l start input now waits core count held over
-        → Standing begun hears before l start input now waits' core' count' held' over'
-    standing_same l start now input waits waits' core core' count count' held held' over over' e f g h k s =
-        subst (λ z. Standing begun hears before l start input now waits' core' count' held' z) k
-        (subst (λ z. Standing begun hears before l start input now waits' core' count' z over) h
-        (subst (λ z. Standing begun hears before l start input now waits' core' z held over) g
-        (subst (λ z. Standing begun hears before l start input now waits' z count held over) f
-        (subst (λ z. Standing begun hears before l start input now z core count held over) e s))))
+        (count count' : ℕ) (held held' : Held) → waits ≡ waits' → core ≡ core' → count ≡ count' → held ≡ held'
+        → Standing begun hears before l start input now waits core count held
+        → Standing begun hears before l start input now waits' core' count' held'
+    standing_same l start now input waits waits' core core' count count' held held' e f g h s =
+        subst (λ z. Standing begun hears before l start input now waits' core' count' z) h
+        (subst (λ z. Standing begun hears before l start input now waits' core' z held) g
+        (subst (λ z. Standing begun hears before l start input now waits' z count held) f
+        (subst (λ z. Standing begun hears before l start input now z core count held) e s)))
 
   -- more input behind a failure
   pub broken_more : (start now : Option Sink) (input more : List ℕ) (IsKnown : List Heard → Type 0)

@@ -1,8 +1,8 @@
 -- What a script is answered.
-use Rattle.std.specs.Prelude.{◌≡◌, ◌≢◌, ℕ, zero, suc, ◌+◌, ◌≤◌, ◌<◌, ◌⊎◌, Bool, true, false, All, List, [], ◌∷◌, ◌++◌}
+use Rattle.std.specs.Prelude.{◌≡◌, ◌≢◌, ℕ, zero, suc, ◌+◌, ◌≤◌, ◌<◌, ◌⊎◌, All, List, [], ◌∷◌, ◌++◌}
 use Rattle.std.specs.Prelude.{length, Option, Some, None, codes}
 use Rattle.std.specs.List.{flat_map}
-use Rattle.oe_filelines.specs.Lines.{IsInLine, with_line_end}
+use Rattle.oe_filelines.specs.Lines.{IsInLine, with_line_end, Held}
 use Rattle.oe_filelines.specs.Lines as lines
 use Rattle.oe_theory.specs.World.{World, newest, tables}
 use Rattle.oe_theory.specs.Next.{Next}
@@ -141,7 +141,7 @@ pub record Output (begun : State) (input out : List ℕ) : Type 0 where
   pub text : out ≡ answers ++ last_text (length lines + 1) last
 
 -- the bytes of a line so far, of 1,024 at most
-abbrev pub Holds : List ℕ → Bool → List ℕ → Type 0
+abbrev pub Holds : Held → List ℕ → Type 0
 Holds = lines.Holds 1_024
 
 -- of the input these lines were answered, by this output, and a beginning of the next line was read

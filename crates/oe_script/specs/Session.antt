@@ -1,11 +1,12 @@
 -- A session between two bytes of its input, and how a script ends.
-use Rattle.std.specs.Prelude.{◌≡◌, ℕ, ◌+◌, ◌^◌, ◌≤◌, ◌⊎◌, Bool, List, [], ◌++◌, length, ⊤, Option, Some, None}
+use Rattle.std.specs.Prelude.{◌≡◌, ℕ, ◌+◌, ◌^◌, ◌≤◌, ◌⊎◌, List, [], ◌++◌, length, ⊤, Option, Some, None}
 use Rattle.std.specs.Prelude.{Result, Ok, Err, MatchResult}
 use Rattle.oe_admission.specs.Programs.{IsLive}
 use Rattle.oe_core.specs.Core.{CoreState, world_of}
 use Rattle.oe_script.specs.declared.session.Session.{Session}
 use Rattle.oe_script.specs.declared.session.ScriptFault.{ScriptFault}
 use Rattle.oe_script.specs.declared.session.ScriptFault.TheVariants.{Read, Write}
+use Rattle.oe_filelines.specs.Lines.{Held}
 use Rattle.oe_io.specs.Ports.{Source, Sink, Sent, Cut}
 use Rattle.oe_script.specs.Script.{State, Output, Holds, Reached}
 use Rattle.oe_script.specs.Hearing.{Heard, HearsAll, HearsEach, HearsReached, HeardFront}
@@ -19,9 +20,9 @@ state_of (Some c) = Some (world_of c)
 -- of its lines.
 abbrev pub Standing : {L : Type 0} → State → (L → Heard → L → Type 0) → L → L → Option Sink → List ℕ → Option Sink
     → List ℕ
-    → State → ℕ → List ℕ → Bool → Type 0
-Standing begun hears first last start input now waits state count held over =
-    (line : List ℕ) × (out : List ℕ) × (r : Reached begun input out state count line) × Holds held over line
+    → State → ℕ → Held → Type 0
+Standing begun hears first last start input now waits state count held =
+    (line : List ℕ) × (out : List ℕ) × (r : Reached begun input out state count line) × Holds held line
     × Sent start [] now waits out
     × (told : List Heard) × HearsReached begun input out state count line r told × HearsEach hears first told last
 
@@ -32,9 +33,9 @@ Broken begun start input now = (more : List ℕ) → (out : List ℕ) × Output 
 
 abbrev pub Fed : {L T E : Type 0} → State → (L → Heard → L → Type 0) → L → L → Option Sink → List ℕ → Option Sink
     → List ℕ
-    → State → ℕ → List ℕ → Bool → Result T E → Type 0
-Fed begun hears first last start input now waits state count held over r =
-    MatchResult r (λ _. Standing begun hears first last start input now waits state count held over)
+    → State → ℕ → Held → Result T E → Type 0
+Fed begun hears first last start input now waits state count held r =
+    MatchResult r (λ _. Standing begun hears first last start input now waits state count held)
     (λ _. Broken begun start input now × HeardFront begun input (λ told. HearsEach hears first told last))
 
 -- A dialogue: what was open when it began, the listener then, and what had been written.
@@ -47,14 +48,14 @@ pub record Dialogue (L : Type 0) : Type 0 where
 -- In a dialogue the session stands behind this input, with the listener and what is written as they are now.
 abbrev pub StandsIn : {L : Type 0} → Dialogue L → (L → Heard → L → Type 0) → List ℕ → L → Option Sink → Session → Type 0
 StandsIn d hears input last now s =
-    Standing d.begun hears d.first last d.start input now s.out.items (state_of s.core) s.count s.line.items s.over
+    Standing d.begun hears d.first last d.start input now s.out.items (state_of s.core) s.count s.line
 
 -- So it does once a call has ended well. Else a call of the writer failed: what was written is a beginning of an output
 -- of the input, and the listener heard of some first lines.
 abbrev pub FedIn : {L T E : Type 0} → Dialogue L → (L → Heard → L → Type 0) → List ℕ → L → Option Sink → Session
     → Result T E → Type 0
 FedIn d hears input last now s r =
-    Fed d.begun hears d.first last d.start input now s.out.items (state_of s.core) s.count s.line.items s.over r
+    Fed d.begun hears d.first last d.start input now s.out.items (state_of s.core) s.count s.line r
 
 -- The input is answered whole, all of it is written, and the listener heard of it.
 abbrev pub Ended : {L T E : Type 0} → State → (L → Heard → L → Type 0) → L → L → Option Sink → List ℕ → Option Sink

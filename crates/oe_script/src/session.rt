@@ -1,5 +1,5 @@
 //! One script's run: what is open, the line that is read, and the output that waits.
-ghost use Rattle.std.specs.Prelude.{◌≡◌, ◌<◌, ◌≤◌, ◌+◌, ◌++◌, ◌∷◌, ◌^◌, ◌⊎◌, ℕ, List, [], length, Option, None, Some, true, false, OnOk};
+ghost use Rattle.std.specs.Prelude.{◌≡◌, ◌<◌, ◌≤◌, ◌+◌, ◌++◌, ◌∷◌, ◌^◌, ℕ, List, [], length, Option, None, Some, OnOk};
 ghost use Rattle.oe_io.specs.Ports.{Streams};
 ghost use Rattle.oe_script.specs.Hearing.{place_of, Attends, HearsEach};
 ghost use Rattle.oe_script.specs.Script.{Holds, last_text};
@@ -12,6 +12,7 @@ use crate::outcome::answer_line;
 use arrayvec::ArrayVec;
 use memchr::memchr;
 use oe_core::Core;
+use oe_filelines::HeldLine;
 use oe_io::output::{flush, put_bad};
 use oe_io::ports::{Failed, Intake, Outlet};
 use oe_texts::Pending;
@@ -28,9 +29,7 @@ pub const PIECE: usize = 65_536;
 pub struct Session {
     pub core: Option<Core>,
     /// The beginning of a line whose end was not read yet.
-    pub line: ArrayVec<u8, LINE>,
-    /// The line is too long, and its bytes are not kept.
-    pub over: bool,
+    pub line: HeldLine<LINE>,
     /// How many lines came before.
     pub count: u128,
     pub out: Pending,
@@ -52,8 +51,7 @@ impl Session {
     pub fn new() -> Session
         ensures { result ≡ record {
           core = None;
-          line = record { items = [] };
-          over = false;
+          line = Some [];
           count = 0;
           out = record { items = [] };
         } }
@@ -65,8 +63,7 @@ impl Session {
     pub fn on(core: Core) -> Session
         ensures { result ≡ record {
           core = Some core;
-          line = record { items = [] };
-          over = false;
+          line = Some [];
           count = 0;
           out = record { items = [] };
         } }
@@ -78,16 +75,14 @@ impl Session {
     fn begun(core: Option<Core>) -> Session
         ensures { result ≡ record {
           core = core;
-          line = record { items = [] };
-          over = false;
+          line = Some [];
           count = 0;
           out = record { items = [] };
         } }
     {
         Session {
             core,
-            line: ArrayVec::new(),
-            over: false,
+            line: HeldLine::new(),
             count: 0,
             out: ArrayVec::new(),
         }
@@ -98,7 +93,6 @@ impl Session {
         let Session {
             core,
             line: _,
-            over: _,
             count: _,
             out: _,
         } = self;
@@ -118,8 +112,7 @@ impl Session {
         listener: &mut H,
     ) -> Result<(), ScriptFault>
         requires live { IsLive (state_of self.old.core) }
-        requires line { self.old.line.items ≡ [] }
-        requires over { self.old.over ≡ false }
+        requires line { self.old.line ≡ Some [] }
         requires count { self.old.count ≡ 0 }
         requires out { self.old.out.items ≡ [] }
         ensures { ScriptHeard (state_of self.old.core)
@@ -194,7 +187,7 @@ impl Session {
             }
             rest = &rest[n + 1..];
         }
-        self.keep(rest);
+        self.line.keep(rest);
         Ok(())
     }
 
@@ -206,7 +199,7 @@ impl Session {
             → StandsIn d H.hears input listener.old (W.sink to.old) self.old
             → EndedIn d H.hears input listener.new (W.sink to.new) result }
     {
-        let is_begun = self.is_begun();
+        let is_begun = self.line.is_begun();
         let number = self.count + 1;
         if let Err(e) = self.end_last(to) {
             return Err(e);
@@ -223,33 +216,14 @@ impl Session {
     /// Answers a last line that has no end.
     fn end_last<W: Outlet>(&mut self, to: &mut W) -> Result<(), Failed>
         requires { self.old.count + 1 < 2 ^ 128 }
-        ensures { (line : List ℕ) → Holds self.old.line.items self.old.over line →
+        ensures { (line : List ℕ) → Holds self.old.line line →
             Streams (W.sink to.old) self.old.out.items (W.sink to.new) self.new.out.items
             (last_text (self.old.count + 1) line) result }
     {
-        if self.over {
-            return put_bad(&mut self.out, to, self.count + 1);
-        }
-        if !self.line.is_empty() {
+        if self.line.is_begun() {
             return put_bad(&mut self.out, to, self.count + 1);
         }
         Ok(())
-    }
-
-    /// Keeps further bytes of a line.
-    fn keep(&mut self, bytes: &[u8])
-        ensures core { self.new.core ≡ self.old.core }
-        ensures count { self.new.count ≡ self.old.count }
-        ensures out { self.new.out ≡ self.old.out }
-        ensures line { (line : List ℕ) → Holds self.old.line.items self.old.over line →
-            Holds self.new.line.items self.new.over (line ++ bytes.now) }
-    {
-        if self.over {
-            return;
-        }
-        if self.line.try_extend_from_slice(bytes).is_err() {
-            self.over = true;
-        }
     }
 
     /// Ends a line with these last bytes, and answers it.
@@ -262,21 +236,20 @@ impl Session {
     ) -> Result<(), Failed>
         requires count { self.old.count + 1 < 2 ^ 128 }
         requires live { IsLive (state_of self.old.core) }
-        ensures answer { (line : List ℕ) → Holds self.old.line.items self.old.over line →
+        ensures answer { (line : List ℕ) → Holds self.old.line line →
             Replies (state_of self.old.core) (self.old.count + 1) (line ++ last.now)
             (state_of self.new.core) (W.sink to.old) self.old.out.items
             (W.sink to.new) self.new.out.items result }
-        ensures heard { (line : List ℕ) → Holds self.old.line.items self.old.over line →
+        ensures heard { (line : List ℕ) → Holds self.old.line line →
             Attends H.hears (state_of self.old.core) (self.old.count + 1) (line ++ last.now)
             listener.old listener.new result }
-        ensures line { self.new.line.items ≡ [] }
-        ensures over { self.new.over ≡ false }
+        ensures line { self.new.line ≡ Some [] }
         ensures count { self.new.count ≡ self.old.count + 1 }
         ensures live { IsLive (state_of self.new.core) }
     {
         self.count += 1;
-        if self.is_begun() || LINE < last.len() {
-            self.keep(last);
+        if self.line.is_begun() || LINE < last.len() {
+            self.line.keep(last);
             return self.end_kept(alloc, to, listener);
         }
         answer_whole(
@@ -290,14 +263,6 @@ impl Session {
         )
     }
 
-    /// Tells whether a line was begun whose end was not read yet.
-    fn is_begun(&self) -> bool
-        ensures fresh { result ≡ false → (self.now.over ≡ false) × (self.now.line.items ≡ []) }
-        ensures begun { result ≡ true → (self.now.over ≡ true) ⊎ (0 < length self.now.line.items) }
-    {
-        self.over || !self.line.is_empty()
-    }
-
     /// Ends a line of this number that was kept, and answers it.
     #[inline(never)]
     fn end_kept<W: Outlet, H: Listener>(
@@ -307,32 +272,29 @@ impl Session {
         listener: &mut H,
     ) -> Result<(), Failed>
         requires live { IsLive (state_of self.old.core) }
-        ensures answer { (line : List ℕ) → Holds self.old.line.items self.old.over line →
+        ensures answer { (line : List ℕ) → Holds self.old.line line →
             Replies (state_of self.old.core) self.old.count line (state_of self.new.core)
             (W.sink to.old) self.old.out.items (W.sink to.new) self.new.out.items result }
-        ensures heard { (line : List ℕ) → Holds self.old.line.items self.old.over line →
+        ensures heard { (line : List ℕ) → Holds self.old.line line →
             Attends H.hears (state_of self.old.core) self.old.count line
             listener.old listener.new result }
-        ensures line { self.new.line.items ≡ [] }
-        ensures over { self.new.over ≡ false }
+        ensures line { self.new.line ≡ Some [] }
         ensures count { self.new.count ≡ self.old.count }
         ensures live { IsLive (state_of self.new.core) }
     {
-        let over = self.over;
-        self.over = false;
-        if over {
+        let Some(line) = self.line.text() else {
             self.line.clear();
             if let Err(e) = put_bad(&mut self.out, to, self.count) {
                 return Err(e);
             }
             listener.hear(self.count, &[], Place::Long);
             return Ok(());
-        }
+        };
         let number = self.count;
         let answered = answer_whole(
             &mut self.core,
             alloc,
-            self.line.as_slice(),
+            line,
             number,
             &mut self.out,
             to,

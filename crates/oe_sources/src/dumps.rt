@@ -17,7 +17,7 @@ use crate::texts::text_of;
 use oe_columns::{LayoutFault, Wanted, heading_constants, heading_places};
 use oe_facts::Table;
 use oe_fields::Format;
-use oe_filelines::{LineTaker, Stop, read_lines};
+use oe_filelines::{LINE, LineTaker, Stop, read_lines};
 use std::alloc::{AllocError, Global};
 use std::io::Read;
 
@@ -94,7 +94,9 @@ fn take_long(reading: &Reading) -> Said
     reading.take_long()
 }
 
-impl<L: Ledger> LineTaker for DumpLines<L> {
+impl<L: Ledger> LineTaker<LINE> for DumpLines<L> {
+    type Error = AllocError;
+
     ghost taken = { DumpTaken L.holds };
 
     #[inline]
@@ -140,7 +142,7 @@ pub fn read_dump<S: Read + Drop, L: Ledger + Drop>(
     let mut lines = DumpLines {
         so_far: SoFar::new(alloc, Reading::new_ended(wanted), ledger),
     };
-    if let Err(stop) = read_lines(alloc, &mut source, &mut lines) {
+    if let Err(stop) = read_lines(&mut source, &mut lines) {
         return Err(stop);
     }
     let DumpLines { mut so_far } = lines;

@@ -9,7 +9,7 @@ use crate::texts::text_of;
 use oe_columns::Wanted;
 use oe_facts::Table;
 use oe_fields::Format;
-use oe_filelines::{LineTaker, Stop, read_lines};
+use oe_filelines::{LINE, LineTaker, Stop, read_lines};
 use std::alloc::{AllocError, Global};
 use std::io::Read;
 
@@ -19,7 +19,9 @@ pub struct TableLines<L> {
     so_far: SoFar<L>,
 }
 
-impl<L: Ledger> LineTaker for TableLines<L> {
+impl<L: Ledger> LineTaker<LINE> for TableLines<L> {
+    type Error = AllocError;
+
     ghost taken = { TableTaken L.holds };
 
     #[inline]
@@ -58,7 +60,7 @@ pub fn read_table<S: Read + Drop, L: Ledger + Drop>(
     let mut lines = TableLines {
         so_far: SoFar::new(alloc, Reading::new(table, wanted, format), ledger),
     };
-    match read_lines(alloc, &mut source, &mut lines) {
+    match read_lines(&mut source, &mut lines) {
         Ok(()) => {
             let TableLines { so_far } = lines;
             let SoFar {

@@ -9,8 +9,8 @@ loop-init g c = record {
   read = (
     [],
     read_none (g.S.Read.remaining c.args.source.now),
-    standing_start g.T.LineTaker.taken c.args.taker.now c.args.held.now.line.items c.args.held.now.over
-        c.requires.line c.requires.over c.requires.begins,
+    standing_start 65_536 (g.T.LineTaker.taken c.args.taker.now) c.args.held.now c.args.taker.now c.requires.held
+        c.requires.begins,
   );
 }
 

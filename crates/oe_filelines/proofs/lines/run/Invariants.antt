@@ -8,5 +8,5 @@ abbrev pub invariant-loop : goal.invariant-loop
 invariant-loop g l = record {
   room : length l.buf ≡ 65536;
   read : (read : List ℕ) × ReadSoFar (g.S.Read.remaining l.initial.source) (g.S.Read.remaining l.source) read
-      × Standing g.T.LineTaker.taken l.initial.taker read l.held.line.items l.held.over l.taker;
+      × Standing 65_536 (g.T.LineTaker.taken l.initial.taker) read l.held l.taker;
 }

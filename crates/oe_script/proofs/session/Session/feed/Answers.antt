@@ -1,5 +1,4 @@
-use Rattle.std.proofs.Common.{false}
-use Rattle.std.proofs.Common.{◌+◌, ◌++◌, ◌∷◌, [], take, drop, append_assoc, ap, ◌∙◌, Ok, Err, refl, sym, arith}
+use Rattle.std.proofs.Common.{◌+◌, ◌++◌, ◌∷◌, [], take, drop, append_assoc, ap, ◌∙◌, Some, Ok, Err, refl, sym, arith}
 use Rattle.std.proofs.lemmas.List.{append-nil, take_rest, length-append}
 use Rattle.oe_script.specs.Hearing.{HearsEach}
 use Rattle.oe_script.specs.Session.{state_of}
@@ -23,7 +22,7 @@ returns-in-Err-clause-fed g c = λ d input s.
     let broken = stand_line d.begun d.live g.H.Listener.hears d.first {T = Unit {0}} {E = Failed} l.listener
     c.end_line.new.listener
     d.start (g.W.Outlet.sink l.to) sink (input ++ t.0) was.out.items
-    new.out.items (state_of was.core) (state_of new.core) was.count was.line.items was.over
+    new.out.items (state_of was.core) (state_of new.core) was.count was.line
     last (Err c.in-Err.e) (before_end l.rest.now n found) c.in-Err.ensures.answer c.in-Err.ensures.heard
     (t.3 d input s) in
     broken_as d.begun d.live d.start sink _ (input ++ c.args.piece.now)
@@ -54,17 +53,16 @@ loop-n-preserved g c =
         λ d input s.
             standing_as d.begun d.live g.H.Listener.hears d.first c.end_line.new.listener d.start (g.W.Outlet.sink
             c.end_line.new.to) _ _
-            new.out.items (state_of new.core) new.count new.line.items new.over (to_end input t.0 last)
+            new.out.items (state_of new.core) new.count new.line (to_end input t.0 last)
             (standing_same d.begun d.live g.H.Listener.hears d.first c.end_line.new.listener d.start
             (g.W.Outlet.sink c.end_line.new.to) (((input ++ t.0) ++ last) ++ 10 ∷ []) new.out.items new.out.items
-            (state_of new.core) (state_of new.core) (was.count + 1) new.count [] new.line.items false new.over
-            refl refl (sym e.count) (sym e.line) (sym e.over)
+            (state_of new.core) (state_of new.core) (was.count + 1) new.count (Some []) new.line
+            refl refl (sym e.count) (sym e.line)
             (stand_line d.begun d.live g.H.Listener.hears d.first {T = Unit {0}} {E = Failed} l.listener
             c.end_line.new.listener d.start
             (g.W.Outlet.sink l.to) (g.W.Outlet.sink c.end_line.new.to)
             (input ++ t.0) was.out.items new.out.items (state_of was.core) (state_of new.core) was.count
-            was.line.items
-            was.over last (Ok tt) (before_end l.rest.now n found) e.answer e.heard (t.3 d input s))),
+            was.line last (Ok tt) (before_end l.rest.now n found) e.answer e.heard (t.3 d input s))),
       );
       live = e.live;
     }
@@ -74,19 +72,12 @@ returns-clause-fed g c = λ d input s.
     let l = c.loop-n in
     let t = l.invariant.taken in
     let was = l.self in
-    let new = c.keep.new.self in
-    let e = c.keep.ensures in
     let sink = g.W.Outlet.sink l.to in
-    standing_as d.begun d.live g.H.Listener.hears d.first l.listener d.start sink _ _ new.out.items (state_of new.core)
-    new.count
-    new.line.items new.over (append_assoc input t.0 l.rest.now ∙ ap (λ z. input ++ z) t.1)
-    (standing_same d.begun d.live g.H.Listener.hears d.first l.listener d.start sink ((input ++ t.0) ++ l.rest.now)
-    was.out.items
-    new.out.items (state_of was.core) (state_of new.core) was.count new.count new.line.items new.line.items new.over
-    new.over (ap (λ z. z.items) (sym e.out)) (ap state_of (sym e.core)) (sym e.count) refl refl
+    standing_as d.begun d.live g.H.Listener.hears d.first l.listener d.start sink _ _ was.out.items (state_of was.core)
+    was.count c.keep.new.self (append_assoc input t.0 l.rest.now ∙ ap (λ z. input ++ z) t.1)
     (stand_bytes d.begun d.live g.H.Listener.hears d.first l.listener d.start sink (input ++ t.0) was.out.items
-    (state_of was.core) was.count was.line.items new.line.items was.over new.over l.rest.now
-    (no_end l.rest.now c.in_default.ensures) e.line (t.3 d input s)))
+    (state_of was.core) was.count was.line c.keep.new.self l.rest.now (no_end l.rest.now c.in_default.ensures)
+    c.keep.ensures (t.3 d input s))
 
 pub loop-n-init : goal.loop-n-init
 loop-n-init g c =
@@ -99,7 +90,7 @@ loop-n-init g c =
         λ d input s.
             standing_as d.begun d.live g.H.Listener.hears d.first c.args.listener.now d.start
             (g.W.Outlet.sink c.args.to.now) input
-            (input ++ []) was.out.items (state_of was.core) was.count was.line.items was.over
+            (input ++ []) was.out.items (state_of was.core) was.count was.line
             (sym (append-nil input)) s,
       );
       live = c.requires.live;

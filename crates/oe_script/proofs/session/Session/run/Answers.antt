@@ -21,7 +21,7 @@ loop-init g c =
         read_none (g.R.Intake.source c.args.reader.now),
         standing_start (state_of c.args.self.now.core) c.requires.live g.H.Listener.hears c.args.listener.now
             (g.W.Outlet.sink c.args.writer.now) was.out.items
-            (state_of was.core) was.count was.line.items was.over refl r.line r.over r.count r.out,
+            (state_of was.core) was.count was.line refl r.line r.count r.out,
       );
     }
 
@@ -33,7 +33,7 @@ returns-in-Err g c =
     (g.R.Intake.source c.args.reader.now)
     (g.R.Intake.source c.loop.reader)
     (g.R.Intake.source c.read.new.self) (g.W.Outlet.sink c.args.writer.now) (g.W.Outlet.sink c.loop.writer)
-    i.0 c.read.new.buf s.out.items c.loop.counter (state_of s.core) s.count s.line.items s.over c.in-Err.field-0 i.1
+    i.0 c.read.new.buf s.out.items c.loop.counter (state_of s.core) s.count s.line c.in-Err.field-0 i.1
     c.in-Err.ensures.bytes c.loop.invariant.written i.2
 
 pub returns-in-Ok-finish : goal.returns-in-Ok-finish
@@ -130,5 +130,5 @@ returns g c =
     (g.R.Intake.source c.args.reader.now)
     (g.R.Intake.source c.loop.reader) (g.W.Outlet.sink c.args.writer.now)
     (g.W.Outlet.sink c.loop.writer)
-    i.0 s.out.items c.loop.counter (state_of s.core) s.count s.line.items s.over (omega arith) i.1
+    i.0 s.out.items c.loop.counter (state_of s.core) s.count s.line (omega arith) i.1
     c.loop.invariant.written i.2

@@ -12,5 +12,5 @@ invariant-loop g l = record {
   read : (read : List ℕ) × ReadSoFar (g.R.Intake.source l.initial.reader) (g.R.Intake.source l.reader) read l.counter
       × Standing (state_of l.initial.self.core) g.H.Listener.hears l.initial.listener l.listener (g.W.Outlet.sink
       l.initial.writer) read
-      (g.W.Outlet.sink l.writer) l.self.out.items (state_of l.self.core) l.self.count l.self.line.items l.self.over;
+      (g.W.Outlet.sink l.writer) l.self.out.items (state_of l.self.core) l.self.count l.self.line;
 }

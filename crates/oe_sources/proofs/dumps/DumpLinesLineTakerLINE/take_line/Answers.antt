@@ -4,7 +4,7 @@ use Rattle.oe_sources.specs.declared.readings.Reading.{Reading}
 use Rattle.oe_sources.specs.Reading.{Says, says}
 use Rattle.oe_sources.specs.Dump.{line_step, dump_step}
 use Rattle.oe_sources.proofs.SourceFacts.{line_stands, short_line}
-use Rattle.oe_sources.proofs.dumps.DumpLinesLineTaker.take_line.Goals as goal
+use Rattle.oe_sources.proofs.dumps.DumpLinesLineTakerLINE.take_line.Goals as goal
 
 pub returns : goal.returns
 returns g c = on_ok_weaker c.add.result

@@ -4,7 +4,7 @@ use Rattle.oe_sources.specs.declared.readings.Reading.{Reading}
 use Rattle.oe_sources.specs.Reading.{Says, says, step}
 use Rattle.oe_sources.specs.Tables.{file_step}
 use Rattle.oe_sources.proofs.SourceFacts.{line_stands, short_step}
-use Rattle.oe_sources.proofs.tables.TableLinesLineTaker.take_line.Goals as goal
+use Rattle.oe_sources.proofs.tables.TableLinesLineTakerLINE.take_line.Goals as goal
 
 pub returns : goal.returns
 returns g c = on_ok_weaker c.add.result

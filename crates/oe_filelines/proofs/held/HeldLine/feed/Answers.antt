@@ -1,10 +1,9 @@
 use Rattle.std.proofs.Common.{◌+◌, ◌++◌, ◌∷◌, [], take, drop, length, append_assoc, append-nil, ap, sym, ◌∙◌, refl}
 use Rattle.std.proofs.Common.{subst, ℕ, List, arith}
 use Rattle.std.proofs.lemmas.List.{take_rest, length-drop}
-use Rattle.std.proofs.lemmas.Result.{on_ok_weaker}
 use Rattle.oe_filelines.specs.Lines.{Standing}
 use Rattle.oe_filelines.proofs.LineFacts.{no_end, before_end, with_end, standing_bytes, standing_line}
-use Rattle.oe_filelines.proofs.lines.Held.feed.Goals as goal
+use Rattle.oe_filelines.proofs.held.HeldLine.feed.Goals as goal
 
 pub loop-n-init : goal.loop-n-init
 loop-n-init g c = record {
@@ -14,8 +13,7 @@ loop-n-init g c = record {
     refl,
     λ start input s.
         subst
-        (λ (i : List ℕ). Standing g.T.LineTaker.taken start i c.args.self.now.line.items c.args.self.now.over
-        c.args.taker.now)
+        (λ (i : List ℕ). Standing g.row.LONGEST (g.T.LineTaker.taken start) i c.args.self.now c.args.taker.now)
         (sym (append-nil input)) s,
   );
 }
@@ -41,24 +39,20 @@ loop-n-preserved g c =
             ∙ ap (λ z. t.0 ++ z) (sym parts) ∙ t.1,
         λ start input s.
             subst
-            (λ (i : List ℕ). Standing g.T.LineTaker.taken start i new.line.items new.over c.end_line.new.taker)
+            (λ (i : List ℕ). Standing g.row.LONGEST (g.T.LineTaker.taken start) i new c.end_line.new.taker)
             (ap (λ z. z ++ 10 ∷ []) (append_assoc input t.0 last) ∙ append_assoc input (t.0 ++ last) (10 ∷ []))
-            (standing_line g.T.LineTaker.taken start (input ++ t.0) last l.self.line.items new.line.items l.self.over
-            new.over l.taker c.end_line.new.taker (before_end l.rest.now n first)
-            c.in_default-end_line.ensures.taken c.in_default-end_line.ensures.line c.in_default-end_line.ensures.over
-            (t.2 start input s)),
+            (standing_line g.row.LONGEST (g.T.LineTaker.taken start) (input ++ t.0) last l.self new l.taker
+            c.end_line.new.taker (before_end l.rest.now n first)
+            (λ line h. c.in_default-end_line.ensures.taken line h start) c.end_line.ensures.held (t.2 start input s)),
       );
     }
 
 pub returns : goal.returns
-returns g c = on_ok_weaker c.keep.result
-    (λ keeps start input s.
+returns g c = λ start input s.
     let l = c.loop-n in
     let t = l.invariant.taken in
-    let new = c.keep.new.self in
     subst
-    (λ (i : List ℕ). Standing g.T.LineTaker.taken start i new.line.items new.over l.taker)
+    (λ (i : List ℕ). Standing g.row.LONGEST (g.T.LineTaker.taken start) i c.keep.new.self l.taker)
     (append_assoc input t.0 l.rest.now ∙ ap (λ z. input ++ z) t.1)
-    (standing_bytes g.T.LineTaker.taken start (input ++ t.0) l.rest.now l.self.line.items new.line.items l.self.over
-    new.over l.taker (no_end l.rest.now c.in_default.ensures) keeps (t.2 start input s)))
-    c.keep.ensures
+    (standing_bytes g.row.LONGEST (g.T.LineTaker.taken start) (input ++ t.0) l.rest.now l.self c.keep.new.self l.taker
+    (no_end l.rest.now c.in_default.ensures) c.keep.ensures (t.2 start input s))
