@@ -7,6 +7,9 @@ pub mod MoreFacts
 pub mod RecordedFacts
 mod ForgettingFacts
 mod ForgetsFacts
+mod ToldFacts
+mod ExactNameFacts
+mod KeptNameFacts
 pub mod LedFacts
 pub mod PurgeFacts
 pub mod LeftFacts

@@ -16,9 +16,11 @@ use Rattle.oe_log.specs.Stands.{model_records, undo_of}
 use Rattle.oe_journal.specs.GoesBack.{CanUnwind, CanUnwindAll, HavePlaces, AllHavePlaces}
 use Rattle.oe_log.specs.Moments.{store_with, newest}
 use Rattle.oe_journal.specs.Rewinds.{without_first_commit, without_newest}
+use Rattle.oe_journal.specs.ExactNames.{HasExactNames, KeepsExactNames}
 use Rattle.oe_journal.specs.Named.{GivesUpUnnamed}
 use Rattle.oe_journal.proofs.NamedFacts.{NamesAlike, reopened_names, alike_before, none_given_up, then_given_up}
 use Rattle.oe_journal.proofs.NamedFacts.{history_placed}
+use Rattle.oe_journal.proofs.KeptNameFacts.{reopened_exact}
 use Rattle.oe_journal.proofs.RewindFacts.{rewinds, quiet_still, left_over, IsNewest, newest_records}
 
 -- all of some records, counted by the log's
@@ -56,7 +58,28 @@ module _ (ts : tables.Places) (v u : SegmentLog) (t : ℕ) (n : IsNewest v t)
       h ∙ ap (λ z. unwind system z (rows ts)) (all_taken (records_at u t) ∙ own_are)
       ∙ ap (λ z. unwind_commits system (take 1 z) (rows ts)) (sym (first_are v t n))
 
--- opened again, they are named as before, so that places go as they are taken back
+-- opened again, its records are a terminal's open ones
+module _ (v u : SegmentLog) (t : ℕ) (n : IsNewest v t) (is : u ≡ with_reopening v v.committed)
+    (quiet : active_at v t ≡ None) where
+  abbrev older_commits : List (List Record)
+  older_commits = map (λ (c : Committed). model_records c.records) n.older
+
+  none_open : (undo_of v).active n.newest.terminal ≡ []
+  none_open = ap (λ k. (undo_of v).active k) n.own ∙ ap (λ a. model_records (records_in a)) quiet
+
+  opened_undo : undo_of u ≡ record {
+    active = set n.newest.terminal (model_records n.newest.records) (undo_of v).active;
+    history = older_commits;
+  }
+  opened_undo =
+      let within : n.newest.terminal < length v.terminals = subst (λ k. k < length v.terminals) (sym n.own) n.within in
+      ap undo_of is ∙ (stands.reopens v n.newest n.older n.are within).undo
+      ∙ (λ i. record {
+        active = set n.newest.terminal (model_records n.newest.records) (undo_of v).active;
+        history = drop 1 (first_are v t n i);
+      })
+
+-- they are named as before, so that places go as they are taken back
 pub newest_given_up : (ts ts' : tables.Places) (v u w x : SegmentLog) (t : ℕ) (n : IsNewest v t)
     → u ≡ with_reopening v v.committed → active_at v t ≡ None
     → GivesUpUnnamed ts ts' (undo_of u) (undo_of w) → x ≡ without_segment w t → records_at w t ≡ []
@@ -66,28 +89,21 @@ newest_given_up ts ts' v u w x t n is quiet given_up gone empty =
     (sym (ap undo_of gone ∙ (stands.drops w t empty).undo))
     (alike_before ts ts' (undo_of v) (undo_of u) (undo_of w) alike given_up)
   where
-    older : List (List Record)
-    older = map (λ (c : Committed). model_records c.records) n.older
-
-    within : n.newest.terminal < length v.terminals
-    within = subst (λ k. k < length v.terminals) (sym n.own) n.within
-
-    none : (undo_of v).active n.newest.terminal ≡ []
-    none = ap (λ k. (undo_of v).active k) n.own ∙ ap (λ a. model_records (records_in a)) quiet
-
-    undo_is : undo_of u ≡ record {
-      active = set n.newest.terminal (model_records n.newest.records) (undo_of v).active;
-      history = older;
-    }
-    undo_is = ap undo_of is ∙ (stands.reopens v n.newest n.older n.are within).undo
-        ∙ (λ i. record {
-          active = set n.newest.terminal (model_records n.newest.records) (undo_of v).active;
-          history = drop 1 (first_are v t n i);
-        })
-
     alike : NamesAlike (undo_of v) (undo_of u)
-    alike = subst (λ (d : Undo system). NamesAlike (undo_of v) d) (sym undo_is)
-        (reopened_names (undo_of v) n.newest.terminal (model_records n.newest.records) older none (first_are v t n))
+    alike = subst (λ (d : Undo system). NamesAlike (undo_of v) d) (sym (opened_undo v u t n is quiet))
+        (reopened_names (undo_of v) n.newest.terminal (model_records n.newest.records) (older_commits v u t n is quiet)
+        (none_open v u t n is quiet) (first_are v t n))
+
+-- and they tell the same names
+pub newest_exact : (ts ts' : tables.Places) (v u w x : SegmentLog) (t : ℕ) (n : IsNewest v t)
+    → u ≡ with_reopening v v.committed → active_at v t ≡ None
+    → KeepsExactNames ts ts' u w → x ≡ without_segment w t → records_at w t ≡ []
+    → KeepsExactNames ts ts' v x
+newest_exact ts ts' v u w x t n is quiet kept gone empty h =
+    subst (HasExactNames ts') (sym (ap undo_of gone ∙ (stands.drops w t empty).undo))
+    (kept (subst (HasExactNames ts) (sym (opened_undo v u t n is quiet))
+    (reopened_exact ts (undo_of v) n.newest.terminal (model_records n.newest.records) (older_commits v u t n is quiet)
+    (none_open v u t n is quiet) (first_are v t n) h)))
 
 -- ---- of the newest commits: of the newest `count` of u on ts, so many are left of u' on ts'
 pub record Undoes (ts ts' : tables.Places) (u u' : SegmentLog) (count left : ℕ) : Type 0 where

@@ -1,9 +1,10 @@
 -- The customers whom the lists of last names have to have: under their own C_LAST, and under those that records tell.
-use Rattle.std.specs.Prelude.{◌≡◌, ◌↔◌, ◌⊎◌, ℕ, ◌-◌, IsTrue, List, [], ◌∷◌, take}
+use Rattle.std.specs.Prelude.{◌≡◌, ◌↔◌, ◌⊎◌, ℕ, ◌-◌, Bool, IsTrue, List, [], ◌∷◌, take}
 use Rattle.std.specs.Option.{IsSomeAnd}
 use Rattle.oe_rows.specs.declared.keys.CustomerKey.{CustomerKey}
 use Rattle.oe_theory.specs.Undo.{Undo}
 use Rattle.oe_model.specs.Keys.{district_of_customer}
+use Rattle.oe_model.specs.Rows.{Rows}
 use Rattle.oe_model.specs.Changes.{Record}
 use Rattle.oe_model.specs.System.{system}
 use Rattle.oe_index.specs.Numbers.{list_number}
@@ -11,7 +12,7 @@ use Rattle.oe_layout.specs.Stored.{last_before}
 use Rattle.oe_store.specs.Places.{Places, rows}
 use Rattle.oe_store.specs.Names.{IsNamed}
 use Rattle.oe_log.specs.Log.{SegmentLog, total_count}
-use Rattle.oe_log.specs.Stands.{undo_of}
+use Rattle.oe_log.specs.Stands.{undo_of, rename_in}
 use Rattle.oe_journal.specs.Forgetting.{HasName}
 
 -- the record tells a C_LAST of the customer, which is of the list of that number
@@ -50,3 +51,15 @@ pub record HasExactNamesWith (ts : Places) (b : Record) (d : Undo system) : Type
 -- where the lists had exactly these, they have them now
 abbrev pub KeepsExactNames : Places → Places → SegmentLog → SegmentLog → Type 0
 KeepsExactNames ts ts' u u' = HasExactNames ts (undo_of u) → HasExactNames ts' (undo_of u')
+
+-- one of these commits renamed the customer, who had a C_LAST of that list before
+abbrev pub RenamesIn : ℕ → CustomerKey → List (List Record) → Type 0
+RenamesIn n k [] = ⊥
+RenamesIn n k (bs ∷ ss) =
+    IsSomeAnd (rename_in bs) (λ x. (n ≡ list_number (district_of_customer x.0) x.1) × (k ≡ x.0)) ⊎ RenamesIn n k ss
+
+-- each C_LAST that records of these commits tell is the customer's own still, or a record after the moment tells it, or
+-- it is one of those before a rename, which may be looked for
+abbrev pub LoseByRenames : SegmentLog → ℕ → Rows → Bool → List (List Record) → Type 0
+LoseByRenames u m r may ss = (n : ℕ) (k : CustomerKey) → TellsIn n k ss
+    → HasName r n k ⊎ (IsToldAfter u m n k ⊎ (IsTrue may × RenamesIn n k ss))

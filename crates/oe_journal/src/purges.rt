@@ -15,6 +15,7 @@ ghost use Rattle.oe_log.specs.Moments.{store_with, newest, IsKeptMoment, IsUnkep
 ghost use Rattle.oe_undo.specs.Chains.{IsEnd};
 ghost use Rattle.oe_undo.specs.Held.{horizon};
 ghost use Rattle.oe_undo.specs.Undo.{link_seen};
+ghost use Rattle.oe_journal.specs.ExactNames.{LoseByRenames, KeepsExactNames};
 ghost use Rattle.oe_journal.specs.Forgetting.{LosesName, LosesNameIn, HaveNamesChanged, ForgetsNames};
 ghost use Rattle.oe_journal.specs.GivesUp.{IsDeleted, GivesUpThose, GivesUpDeleted};
 
@@ -54,6 +55,9 @@ pub fn purge(
     ensures names { OnOk result (ForgetsNames tables.old tables.new (λ n k. IsTrue may_forget
         × LosesNameIn undo.old.log moment
         (drop (newest undo.old.log - moment) (undo_of undo.old.log).history) n k)) }
+    ensures exact { OnOk result (LoseByRenames undo.old.log moment (rows tables.old) may_forget
+        (drop (newest undo.old.log - moment) (undo_of undo.old.log).history)
+        → KeepsExactNames tables.old tables.new undo.old.log undo.new.log) }
     ensures links { undo.new.links ≡ undo.old.links }
     ensures cause { IfErr result (IsUnkept undo.old.log moment) }
     ensures err { OnErr result ((tables.new ≡ tables.old) × (undo.new ≡ undo.old)) }
@@ -61,7 +65,9 @@ pub fn purge(
     match undo.segments().commits_after(moment) {
         Ok(later) => {
             let count = undo.segments().kept() - later;
-            // For the proof: the newest moment is the number of all terminals' commits.
+            // For the proof: the newest moment is the number of all terminals' commits, and the log
+            // has a state of each terminal.
+            undo.is_chained();
             let _newest = undo.segments().newest();
             forget_names(tables, undo, moment, count, may_forget);
             forget_oldest(tables, undo, moment, count);

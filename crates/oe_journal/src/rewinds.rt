@@ -8,6 +8,7 @@ ghost use Rattle.oe_store.specs.Places.{rows};
 ghost use Rattle.oe_log.specs.Log.{active_at, open_total};
 ghost use Rattle.oe_log.specs.Moments.{store_with, newest, IsKeptMoment};
 ghost use Rattle.oe_log.specs.Stands.{undo_of};
+ghost use Rattle.oe_journal.specs.ExactNames.{KeepsExactNames};
 ghost use Rattle.oe_journal.specs.GoesBack.{CanUnwindAll, AllHavePlaces};
 ghost use Rattle.oe_journal.specs.Linked.{StayLinked};
 ghost use Rattle.oe_journal.specs.Named.{GivesUpUnnamed};
@@ -42,6 +43,7 @@ pub fn rewind(tables: &mut Tables, undo: &mut Undo, moment: Moment) -> Result<()
     ensures places { GivesUpUnnamed tables.old tables.new
         (undo_of undo.old.log) (undo_of undo.new.log) }
     ensures links { StayLinked tables.old tables.new undo.old.links undo.new.links }
+    ensures exact { KeepsExactNames tables.old tables.new undo.old.log undo.new.log }
     ensures cause { IfErr result (CantRewind undo.old.log moment) }
     ensures err { OnErr result (undo.new ≡ undo.old) }
     ensures err_tables { OnErr result (tables.new ≡ tables.old) }
@@ -70,6 +72,7 @@ fn take_newest(tables: &mut Tables, undo: &mut Undo, count: usize)
     ensures places { GivesUpUnnamed tables.old tables.new
         (undo_of undo.old.log) (undo_of undo.new.log) }
     ensures links { StayLinked tables.old tables.new undo.old.links undo.new.links }
+    ensures exact { KeepsExactNames tables.old tables.new undo.old.log undo.new.log }
 {
     for _ in 0..count {
         undo_newest(tables, undo);
@@ -88,6 +91,7 @@ fn undo_newest(tables: &mut Tables, undo: &mut Undo)
     ensures places { GivesUpUnnamed tables.old tables.new
         (undo_of undo.old.log) (undo_of undo.new.log) }
     ensures links { StayLinked tables.old tables.new undo.old.links undo.new.links }
+    ensures exact { KeepsExactNames tables.old tables.new undo.old.log undo.new.log }
 {
     // For the proof: the segment is of one of the log's terminals.
     undo.segments().terminals_are();

@@ -7,9 +7,10 @@ ghost use Rattle.std.specs.Prelude.{◌≡◌, ◌≤◌, length, take, drop, Is
 ghost use Rattle.oe_model.specs.Changes.{put_back, record_key};
 ghost use Rattle.oe_layout.specs.Records.{record_of_own};
 ghost use Rattle.oe_store.specs.Places.{rows};
-ghost use Rattle.oe_change.specs.PutBack.{CanPutBack};
+ghost use Rattle.oe_change.specs.PutBack.{CanPutBack, PutsNameBack};
 ghost use Rattle.oe_log.specs.Log.{active_at, records_at, with_records};
 ghost use Rattle.oe_log.specs.Stands.{undo_of};
+ghost use Rattle.oe_journal.specs.ExactNames.{HasExactNames, HasExactNamesWith, KeepsExactNames};
 ghost use Rattle.oe_journal.specs.GoesBack.{CanUnwind, HavePlaces};
 ghost use Rattle.oe_journal.specs.Identity.{LeadBack};
 ghost use Rattle.oe_journal.specs.Linked.{SameLinks, StayLinked, GivesUpOwn};
@@ -37,6 +38,7 @@ pub fn take_back(tables: &mut Tables, undo: &mut Undo, segment: Segment, count: 
         ≡ with_records undo.old.log segment (drop count (records_at undo.old.log segment)) }
     ensures links { StayLinked tables.old tables.new undo.old.links undo.new.links }
     ensures seen { LeadBack undo.old undo.new segment count }
+    ensures exact { KeepsExactNames tables.old tables.new undo.old.log undo.new.log }
 {
     for _ in 0..count {
         // For the proof: a key that has a record has a link, and a place for it.
@@ -58,7 +60,11 @@ fn put_back(tables: &mut Tables, undo: &mut Undo, newest: OwnRecord)
     ensures log { undo.new.log ≡ undo.old.log }
     ensures links { StayLinked tables.old tables.new undo.old.links undo.new.links }
     ensures seen { SameLinks undo.old undo.new }
+    ensures exact { HasExactNamesWith tables.old (record_of_own newest) (undo_of undo.old.log)
+        → HasExactNames tables.new (undo_of undo.new.log) }
 {
+    // For the proof: the log keeps no more commits than were made.
+    undo.is_chained();
     let lost = name_lost(tables, &newest);
     undo_change(tables, undo, newest);
     forget_lost(tables, undo, &lost);
@@ -73,6 +79,7 @@ fn undo_change(tables: &mut Tables, undo: &mut Undo, newest: OwnRecord)
     ensures log { undo.new.log ≡ undo.old.log }
     ensures links { StayLinked tables.old tables.new undo.old.links undo.new.links }
     ensures seen { SameLinks undo.old undo.new }
+    ensures names { PutsNameBack (record_of_own newest) tables.old tables.new }
 {
     if !is_unnamed(undo, &newest.key()) {
         oe_change::undo(tables, newest);

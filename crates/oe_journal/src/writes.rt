@@ -5,6 +5,7 @@ ghost use Rattle.oe_store.specs.Places.{rows};
 ghost use Rattle.oe_log.specs.Log.{active_at};
 ghost use Rattle.oe_undo.specs.Chains.{IsAlone};
 ghost use Rattle.oe_undo.specs.Links.{GivesAtMost};
+ghost use Rattle.oe_journal.specs.ExactNames.{KeepsExactNames};
 ghost use Rattle.oe_journal.specs.Linked.{AreLinked, SameLinks, StayLinked};
 ghost use Rattle.oe_layout.specs.Records.{record_of_lent};
 ghost use Rattle.oe_writes.specs.Records.{record_of_write};
@@ -44,6 +45,7 @@ pub fn write<W: OneWrite>(
     ensures room { OnOk result
         (HasRoomFor (W.write write.now) (rows tables.old) undo.old.log segment) }
     ensures linked { AreLinked tables.new undo.new.links }
+    ensures exact { KeepsExactNames tables.old tables.new undo.old.log undo.new.log }
     ensures cause { IfErr result (CantWrite (W.write write.now) tables.old undo.old.log segment) }
     ensures err { OnErr result (tables.new ≡ tables.old) }
     ensures err_undo { OnErr result (undo.new.log ≡ undo.old.log) }

@@ -1,11 +1,12 @@
-use Rattle.std.proofs.Common.{◌≡◌, ◌-◌, ◌∙◌, ap, subst, arith, length, drop}
+use Rattle.std.proofs.Common.{◌≡◌, ◌-◌, ◌∙◌, sym, ap, subst, arith, length, drop}
 use Rattle.oe_log.specs.Stands.{undo_of}
 use Rattle.oe_log.specs.Log.{SegmentLog, with_newest, total_count}
 use Rattle.oe_journal.specs.GivesUp.{GivesUpDeleted}
 use Rattle.oe_log.specs.Moments.{store_with, newest}
 use Rattle.std.specs.Prelude.{IsTrue}
 use Rattle.oe_journal.specs.Forgetting.{LosesNameIn, ForgetsNames}
-use Rattle.oe_journal.proofs.ForgetsFacts.{given_up_still, names_still}
+use Rattle.oe_journal.proofs.KeptNameFacts.{purged_exact}
+use Rattle.oe_journal.proofs.ForgetsFacts.{given_up_still, names_still, same_rows}
 use Rattle.oe_journal.proofs.PurgeFacts.{purged_is}
 use Rattle.oe_journal.proofs.purges.purge.Goals.{After-forget_oldest}
 use Rattle.oe_journal.proofs.purges.purge.Goals as goal
@@ -60,3 +61,22 @@ returns-in-Ok-clause-names c =
     (left (goal.at.returns-in-Ok-clause-names c).After-forget_oldest)
     (names_still c.args.tables.now c.forget_names.new.tables c.forget_oldest.new.tables _ c.forget_names.ensures.names
     c.forget_oldest.ensures.names)
+
+pub returns-in-Ok-clause-exact : goal.returns-in-Ok-clause-exact
+returns-in-Ok-clause-exact c by =
+    let n : length c.args.undo.now.log.committed - (c.kept.result - c.in-Ok.later) ≡ newest
+    c.args.undo.now.log - c.args.moment =
+    left (goal.at.returns-in-Ok-clause-exact c).After-forget_oldest in
+    let count : newest c.args.undo.now.log - c.args.moment ≡ total_count c.args.undo.now.log - c.args.moment =
+    ap (λ x. x - c.args.moment) (ap newest (sym c.segments-in-Ok-2.ensures) ∙ sym c.newest-newest.ensures.moment
+    ∙ c.newest-newest.ensures.value ∙ ap total_count c.segments-in-Ok-2.ensures) in
+    purged_exact c.args.tables.now c.forget_oldest.new.tables c.args.undo.now.log c.forget_oldest.new.undo.log
+    c.args.moment (newest c.args.undo.now.log - c.args.moment) c.args.may_forget count
+    (c.forget_oldest.ensures.log ∙ ap (λ i. with_newest i c.args.undo.now.log) n)
+    (c.forget_oldest.ensures.rows ∙ same_rows c.args.tables.now c.forget_names.new.tables c.forget_names.ensures.others)
+    c.is_chained.ensures.whole.terminals
+    (subst (λ i. ForgetsNames c.args.tables.now c.forget_oldest.new.tables
+    (λ j k. IsTrue c.args.may_forget × LosesNameIn c.args.undo.now.log c.args.moment
+    (drop i (undo_of c.args.undo.now.log).history) j k)) n
+    (names_still c.args.tables.now c.forget_names.new.tables c.forget_oldest.new.tables _ c.forget_names.ensures.names
+    c.forget_oldest.ensures.names)) by

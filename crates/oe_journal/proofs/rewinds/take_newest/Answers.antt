@@ -8,6 +8,7 @@ loop-init c = (
   none_undone c.args.tables.now c.args.undo.now.log c.args.count c.requires.quiet c.requires.enough c.requires.places
       c.requires.unwinds,
   none_stay c.args.tables.now c.args.undo.now.links,
+  λ h. h,
 )
 
 pub loop-preserved : goal.loop-preserved
@@ -20,4 +21,8 @@ loop-preserved c =
           c.loop.invariant.0),
       then_stay c.args.tables.now c.loop.tables c.undo_newest.new.tables c.args.undo.now.links c.loop.undo.links
           c.undo_newest.new.undo.links c.loop.invariant.1 c.undo_newest.ensures.links,
+      λ h. c.undo_newest.ensures.exact (c.loop.invariant.2 h),
     )
+
+pub returns-clause-exact : goal.returns-clause-exact
+returns-clause-exact c = c.loop.invariant.2

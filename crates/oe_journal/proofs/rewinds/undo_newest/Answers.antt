@@ -8,7 +8,7 @@ use Rattle.oe_log.specs.Stands.{undo_of}
 use Rattle.oe_journal.specs.GoesBack.{CanUnwind}
 use Rattle.oe_journal.proofs.LinkedFacts.{then_stay, links_stay, no_links_set}
 use Rattle.oe_journal.proofs.RewindFacts.{IsNewest, newest_found, newest_open, newest_gone, none_recorded}
-use Rattle.oe_journal.proofs.UndoneFacts.{own_places, own_can, newest_undone, newest_given_up}
+use Rattle.oe_journal.proofs.UndoneFacts.{own_places, own_can, newest_undone, newest_given_up, newest_exact}
 use Rattle.oe_journal.proofs.rewinds.undo_newest.Goals.{After-segments-2, After-take_back}
 use Rattle.oe_journal.proofs.rewinds.undo_newest.Goals as goal
 
@@ -114,3 +114,13 @@ returns-clause-links c =
     c.take_back.new.undo.links c.drop_segment.new.self.links
     c.take_back.ensures.links
     (links_stay c.take_back.new.tables c.take_back.new.undo.links c.drop_segment.new.self.links last))
+
+pub returns-clause-exact : goal.returns-clause-exact
+returns-clause-exact c =
+    let n = found (goal.at.returns-clause-exact c).After-segments-2 in
+    newest_exact c.args.tables.now c.take_back.new.tables c.args.undo.now.log c.reopen_newest.new.self.log
+    c.take_back.new.undo.log c.drop_segment.new.self.log c.in-Some.segment n
+    c.reopen_newest.ensures.reopened (c.requires.quiet c.in-Some.segment) c.take_back.ensures.exact
+    c.drop_segment.ensures.log
+    (none_recorded c.args.undo.now.log c.reopen_newest.new.self.log c.in-Some.segment n c.reopen_newest.ensures.reopened
+    c.take_back.new.undo.log (taken (goal.at.returns-clause-exact c).After-take_back))

@@ -13,6 +13,7 @@ use Rattle.oe_journal.proofs.LinkedFacts.{none_stay, then_stay, links_stay}
 use Rattle.oe_journal.proofs.LedFacts.{horizon_kept, led_on, led_alike}
 use Rattle.oe_journal.proofs.ChainedFacts.{same_given_back}
 use Rattle.oe_journal.proofs.BackFacts.{GoesBack, begins, still_open, can_go, goes_on, ends}
+use Rattle.oe_journal.proofs.KeptNameFacts.{taken_off}
 use Rattle.oe_journal.proofs.unwinding.take_back.Goals as goal
 
 pub loop-init : goal.loop-init
@@ -25,6 +26,7 @@ loop-init c =
       none_stay c.args.tables.now c.args.undo.now.links,
       λ k. ap (λ n. links_behind (horizon c.args.undo.now.log) c.args.segment
           (take n (records_at c.args.undo.now.log c.args.segment)) (link_seen c.args.undo.now) k) (sym all),
+      λ h. h,
     )
 
 pub take_newest-requires : goal.take_newest-requires
@@ -78,6 +80,14 @@ loop-preserved c =
           ≡ links_behind (horizon c.args.undo.now.log) c.args.segment
           (take c.args.count (records_at c.args.undo.now.log c.args.segment)) (link_seen c.args.undo.now) k) one_less
           c.loop.invariant.2) k,
+      λ h. c.put_back.ensures.exact
+          (taken_off c.loop.tables c.loop.undo.log c.take_newest.new.self.log c.args.segment
+          (record_of_own c.in-Some.newest) c.take_newest.ensures.log
+          (still_open c.args.tables.now c.loop.tables c.args.undo.now.log c.loop.undo.log c.args.segment c.args.count
+          (records_at c.loop.undo.log c.args.segment) (c.args.count - c.loop.counter) c.loop.invariant.0
+          c.args.segment
+          ∙ c.requires.open)
+          (sym c.in-Some.ensures.newest) (c.loop.invariant.3 h)),
     )
 
 pub returns-clause-back : goal.returns-clause-back
@@ -95,3 +105,6 @@ returns-clause-seen c = λ k.
     ap (λ n. links_behind (horizon c.args.undo.now.log) c.args.segment
     (take n (records_at c.loop.undo.log c.args.segment))
     (link_seen c.loop.undo) k) none ∙ c.loop.invariant.2 k
+
+pub returns-clause-exact : goal.returns-clause-exact
+returns-clause-exact c = c.loop.invariant.3

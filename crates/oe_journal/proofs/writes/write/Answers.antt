@@ -7,6 +7,7 @@ use Rattle.oe_journal.specs.Recorded.{Refused}
 use Rattle.oe_change.specs.Writes.{key_written}
 use Rattle.oe_journal.proofs.MoreFacts.{unpushed_places, unpushed, pushed_open, links_given_back, unpushed_linked}
 use Rattle.oe_journal.proofs.RecordedFacts.{record_written, made_recorded, made_linked}
+use Rattle.oe_journal.proofs.KeptNameFacts.{recorded_exact, still_exact}
 use Rattle.oe_journal.proofs.writes.write.Goals as goal
 
 pub pop-requires : goal.pop-requires
@@ -66,3 +67,21 @@ returns-in-Err-set-clause-err_places g c k h =
     (record_written c.args.undo.now.log.layout (g.W.OneWrite.write c.args.write.now) (rows c.args.tables.now))
     c.pop.new.self
     c.pop.ensures.links k (c.give_up_unplaced.ensures.links.fewer k h)
+
+pub returns-in-Ok-clause-exact : goal.returns-in-Ok-clause-exact
+returns-in-Ok-clause-exact g c =
+    recorded_exact (g.W.OneWrite.write c.args.write.now) c.args.tables.now c.set.new.tables c.args.undo.now
+    c.push.new.undo c.args.segment
+    (made_recorded (g.W.OneWrite.write c.args.write.now) c.args.tables.now c.set.new.tables c.args.undo.now
+    c.push.new.undo c.args.segment
+    c.requires.open c.in_default.ensures.pushed c.in-Ok.ensures.made)
+
+pub returns-in-Err-set-clause-exact : goal.returns-in-Err-set-clause-exact
+returns-in-Err-set-clause-exact g c =
+    still_exact c.args.tables.now c.set.new.tables c.args.undo.now.log c.give_up_unplaced.new.undo.log
+    c.in-Err-set.ensures.unchanged
+    (c.give_up_unplaced.ensures.log
+    ∙ unpushed (record_of_write c.args.undo.now.log.layout (g.W.OneWrite.write c.args.write.now) (rows
+    c.args.tables.now))
+    c.args.undo.now c.push.new.undo c.args.segment c.requires.open c.in_default.ensures.pushed
+    c.pop.new.self.log c.pop.ensures.log)
