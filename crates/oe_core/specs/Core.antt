@@ -1,5 +1,5 @@
 -- What a core stores, and the world that it stands for.
-use Rattle.std.specs.Prelude.{◌≡◌, ℕ, suc, Bool, true, false, List, Option, None, Some, length, get_or}
+use Rattle.std.specs.Prelude.{◌≡◌, ℕ, suc, Bool, true, false, List, Option, None, Some, Result, Ok, Err, length, get_or}
 use Rattle.oe_theory.specs.World.{World, set}
 use Rattle.oe_theory.specs.Next.{Next, Step}
 use Rattle.oe_theory.specs.Next as next
@@ -53,6 +53,11 @@ last_reply s t = reply_left (in_slot s.txs t) (in_slot s.works t)
 abbrev pub RepliesAfter : ℕ → Advanced → (ℕ → Option Reply) → (ℕ → Option Reply) → Type 0
 RepliesAfter t (advanced.Committed m) old new = new ≡ set t (new t) old
 RepliesAfter t r old new = new ≡ old
+
+-- what a Begin makes of them
+abbrev pub RepliesBegun : ℕ → Result (Unit {0}) Refusal → (ℕ → Option Reply) → (ℕ → Option Reply) → Type 0
+RepliesBegun t (Ok x) old new = new ≡ set t None old
+RepliesBegun t (Err e) old new = new ≡ old
 
 -- what a Rollback makes of them
 abbrev pub RepliesWithout : ℕ → Answer → (ℕ → Option Reply) → (ℕ → Option Reply) → Type 0

@@ -19,7 +19,7 @@ ghost use Rattle.oe_engine.specs.Calls.{after_commit, after_rollback};
 ghost use Rattle.oe_engine.specs.Programs.{hold_of, reply_at};
 ghost use Rattle.oe_core.specs.Steps.{step_in, answer_in, Carries, begin_answer, Advances};
 ghost use Rattle.oe_core.specs.Asks.{held_by, wanted_by};
-ghost use Rattle.oe_core.specs.Core.{world_of, last_reply, keeps_open, RepliesAfter, RepliesWithout, IsEndable, IsEnded};
+ghost use Rattle.oe_core.specs.Core.{world_of, last_reply, keeps_open, RepliesBegun, RepliesAfter, RepliesWithout, IsEndable, IsEnded};
 
 use crate::advances::Advanced;
 use crate::slots::{begin_work, empty_places, end_work, open_tx, put_tx, take_tx};
@@ -68,7 +68,8 @@ impl Core {
         layout: Layout,
     ) -> Result<Core, NoMemory>
         requires { IsPopulation (rows tables) }
-        ensures { IfOk result (λ c. world_of c ≡ world_at_opening system (rows tables) extents layout) }
+        ensures { IfOk result (λ c. world_of c
+            ≡ world_at_opening system (rows tables) extents layout) }
     {
         let engine = Engine::open(alloc, tables, extents, layout, 0)?;
         let Ok((works, txs)) = empty_places(alloc) else {
@@ -301,8 +302,10 @@ impl Core {
     /// `NoMemory`. The first of these is named, and nothing has changed.
     #[inline(never)]
     pub fn begin(&mut self, terminal: Terminal, request: &Request) -> Result<(), Refusal>
-        ensures { Carries (world_of self.old) (Step.Begin terminal request.now)
+        ensures carries { Carries (world_of self.old) (Step.Begin terminal request.now)
             (begin_answer result) (world_of self.new) }
+        ensures replies { RepliesBegun terminal result (last_reply self.old)
+            (last_reply self.new) }
     {
         if let Some(refusal) = rejection(self.engine.tables(), request) {
             return Err(refusal);
@@ -324,7 +327,9 @@ impl Core {
     /// `NotOpen`: it has none. Nothing has changed then.
     #[inline(never)]
     pub fn save(&mut self, terminal: Terminal) -> Answer
-        ensures { Carries (world_of self.old) (Step.Save terminal) result (world_of self.new) }
+        ensures carries { Carries (world_of self.old) (Step.Save terminal) result
+            (world_of self.new) }
+        ensures replies { last_reply self.new ≡ last_reply self.old }
     {
         let Some(tx) = self.txs.at(terminal) else {
             return Answer::Refused(Refusal::NotOpen);
@@ -341,7 +346,9 @@ impl Core {
     /// `NotOpen`: it has none. Nothing has changed then.
     #[inline(never)]
     pub fn back(&mut self, terminal: Terminal) -> Answer
-        ensures { Carries (world_of self.old) (Step.Back terminal) result (world_of self.new) }
+        ensures carries { Carries (world_of self.old) (Step.Back terminal) result
+            (world_of self.new) }
+        ensures replies { last_reply self.new ≡ last_reply self.old }
     {
         let Some(tx) = self.txs.at(terminal) else {
             return Answer::Refused(Refusal::NotOpen);
@@ -431,7 +438,9 @@ impl Core {
     /// the newest moment: the moment is not between the two. The first of these is named.
     #[inline(never)]
     pub fn rewind(&mut self, moment: Moment) -> Answer
-        ensures { Carries (world_of self.old) (Step.Rewind moment) result (world_of self.new) }
+        ensures carries { Carries (world_of self.old) (Step.Rewind moment) result
+            (world_of self.new) }
+        ensures replies { last_reply self.new ≡ last_reply self.old }
     {
         if let Err(cause) = self.engine.rewind(moment) {
             return Answer::Refused(cause);

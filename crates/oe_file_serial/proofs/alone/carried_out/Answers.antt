@@ -7,11 +7,11 @@ use Rattle.oe_file_serial.proofs.alone.carried_out.Goals as goal
 
 pub returns-in-Err : goal.returns-in-Err
 returns-in-Err c = λ s. begin_refused (world_of c.args.core.now) (world_of c.begin.new.self) c.args.terminal
-    c.args.request.now c.in-Err.refusal c.requires c.in-Err.ensures.0 s
+    c.args.request.now c.in-Err.refusal c.requires c.in-Err.ensures.carries.0 s
 
 pub loop-ended-init : goal.loop-ended-init
 loop-ended-init c = begins_work (world_of c.args.core.now) (world_of c.begin.new.self) c.args.terminal
-    c.args.request.now c.requires c.in_default.ensures.0
+    c.args.request.now c.requires c.in_default.ensures.carries.0
 
 pub loop-ended-smaller : goal.loop-ended-smaller
 loop-ended-smaller c = falls (world_of c.loop-ended.core) (world_of c.advance.new.self) c.args.terminal

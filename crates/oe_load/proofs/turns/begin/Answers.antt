@@ -11,4 +11,4 @@ returns-in-Ok c =
       omega (arith, c.get-number.ensures.low, c.get-number.ensures.value),
       omega (arith, c.get-number.ensures.high, c.get-number.ensures.value),
     )
-    c.ranges_hold.ensures c.requires.next c.in-Ok.ensures.0 c.begin_line.ensures.items c.begin_line.ensures.len
+    c.ranges_hold.ensures c.requires.next c.in-Ok.ensures.carries.0 c.begin_line.ensures.items c.begin_line.ensures.len

@@ -55,7 +55,7 @@ returns-in-Save g c = λ line short says.
     told_here (world_of c.args.core.now) (world_of c.save.new.self) c.args.number line c.args.asked.now
     (command.Save c.in-Save.terminal) (g.W.Outlet.sink c.args.to.now) c.args.out.now.items
     c.answer.new.out.items _
-    short says c.in-Save.is tt (c.save.result, world_of c.save.new.self, c.save.ensures.0, refl, refl)
+    short says c.in-Save.is tt (c.save.result, world_of c.save.new.self, c.save.ensures.carries.0, refl, refl)
     c.answer.ensures.items
 
 pub returns-in-Back : goal.returns-in-Back
@@ -63,7 +63,7 @@ returns-in-Back g c = λ line short says.
     told_here (world_of c.args.core.now) (world_of c.back.new.self) c.args.number line c.args.asked.now
     (command.Back c.in-Back.terminal) (g.W.Outlet.sink c.args.to.now) c.args.out.now.items
     c.answer-in-Back.new.out.items _
-    short says c.in-Back.is tt (c.back.result, world_of c.back.new.self, c.back.ensures.0, refl, refl)
+    short says c.in-Back.is tt (c.back.result, world_of c.back.new.self, c.back.ensures.carries.0, refl, refl)
     c.answer-in-Back.ensures.items
 
 pub returns-in-Rollback : goal.returns-in-Rollback

@@ -1,15 +1,16 @@
-use Rattle.std.proofs.Common.{Some, refl, ap, ◌∙◌, ℕ, slice_set}
+use Rattle.std.proofs.Common.{Some, refl, arith, ap, ◌∙◌, ℕ, slice_set}
 use Rattle.oe_theory.specs.Next.{Back, Gone_back}
 use Rattle.oe_engine.specs.View.{view_of}
 use Rattle.oe_engine.specs.Calls.{back_at}
 use Rattle.oe_core.specs.Core.{Moves}
+use Rattle.oe_core.proofs.LastFacts.{still_open}
 use Rattle.oe_core.proofs.MoveFacts.{carries, nothing_open, HasOpen, lent_tx, lent_here, own_work, mark_within}
 use Rattle.oe_core.proofs.MoveFacts.{gone_back_here}
 use Rattle.oe_core.proofs.cores.Core.back.Goals.{In-Some-at_mut, After-self-2-1}
 use Rattle.oe_core.proofs.cores.Core.back.Goals as goal
 
-pub returns-in_default : goal.returns-in_default
-returns-in_default c =
+pub returns-in_default-clause-carries : goal.returns-in_default-clause-carries
+returns-in_default-clause-carries c =
     rw (← c.self.view_is)
     (carries (nothing_open
     (record { engine = c.self.inside.engine; txs = c.self.inside.txs; works = c.self.inside.works })
@@ -42,7 +43,8 @@ gone_back : (c : After-self-2-1)
       works = slice_set c.self.inside.works c.args.terminal (Some c.back.new.self);
     })
 gone_back c =
-    gone_back_here (is_there (goal.at.returns c).In-Some-at_mut) c.back.new.self c.rollback_to.new.self _ c.back.ensures
+    gone_back_here (is_there (goal.at.returns-clause-carries c).In-Some-at_mut) c.back.new.self c.rollback_to.new.self _
+    c.back.ensures
     (c.rollback_to.ensures.back ∙ ap (λ (k : ℕ). back_at c.in-Some.tx.terminal k (view_of c.self.inside.engine))
     c.mark_records.ensures) c.rollback_to.ensures.name
     refl
@@ -50,5 +52,14 @@ gone_back c =
 pub invariant_of-self : goal.invariant_of-self
 invariant_of-self c = (gone_back c).orderly
 
-pub returns : goal.returns
-returns c = rw (← c.self.view_is) (carries (gone_back c))
+pub returns-clause-carries : goal.returns-clause-carries
+returns-clause-carries c = rw (← c.self.view_is) (carries (gone_back c))
+
+-- while a transaction is open its terminal has no last reply
+pub returns-clause-replies : goal.returns-clause-replies
+returns-clause-replies c =
+    let here = is_there (goal.at.returns-clause-replies c).In-Some-at_mut in
+    rw (← c.self.view_is)
+    (still_open c.self.inside.engine c.rollback_to.new.self c.self.inside.txs c.self.inside.works c.args.terminal
+    c.in-Some.tx
+    (Some c.back.new.self) here.tx (omega (arith, here.low, here.orderly.work_slots)))

@@ -1,15 +1,17 @@
-use Rattle.std.proofs.Common.{rules, None, sym, ap, ◌∙◌}
+use Rattle.std.proofs.Common.{rules, arith, None, Some, sym, ap, ◌∙◌}
 use Rattle.oe_theory.specs.Next.{Begin, Begun}
 use Rattle.oe_model.specs.Requests.{rejection}
-use Rattle.oe_core.specs.Core.{Moves}
+use Rattle.oe_core.specs.Core.{Moves, last_reply}
+use Rattle.oe_core.specs.Works.{work_at_begin}
+use Rattle.oe_core.proofs.LastFacts.{both_slots}
 use Rattle.oe_core.proofs.SlotFacts.{slice_of}
 use Rattle.oe_core.proofs.MoveFacts.{carries, begun_here, no_tx}
 use Rattle.oe_core.proofs.BeginFacts.{rejected_here, not_begun}
 use Rattle.oe_core.proofs.cores.Core.begin.Goals.{After-begin_work}
 use Rattle.oe_core.proofs.cores.Core.begin.Goals as goal
 
-pub returns-in-Some : goal.returns-in-Some
-returns-in-Some c =
+pub returns-in-Some-clause-carries : goal.returns-in-Some-clause-carries
+returns-in-Some-clause-carries c =
     rw (← c.self.view_is)
     (carries (rejected_here _ c.self.invariant c.args.terminal c.args.request.now c.in-Some.refusal
     (ap (rejection c.args.request.now) (sym c.tables.ensures) ∙ sym c.in-Some.ensures)))
@@ -36,13 +38,30 @@ begun c =
 pub invariant_of-self : goal.invariant_of-self
 invariant_of-self c = (begun c).orderly
 
-pub returns-in-Ok : goal.returns-in-Ok
-returns-in-Ok c = rw (← c.self.view_is) (carries (begun c))
+pub returns-in-Ok-clause-carries : goal.returns-in-Ok-clause-carries
+returns-in-Ok-clause-carries c = rw (← c.self.view_is) (carries (begun c))
 
-pub returns-in-Err : goal.returns-in-Err
-returns-in-Err c =
+pub returns-in-Err-clause-carries : goal.returns-in-Err-clause-carries
+returns-in-Err-clause-carries c =
     rw (← c.self.view_is, c.in-Err.ensures.err, c.touch.ensures)
     (carries (not_begun _ c.self.invariant c.args.terminal (search rules) (search rules) c.args.request.now
     c.ranges_hold.ensures
     (ap (rejection c.args.request.now) (sym c.tables.ensures) ∙ sym c.in_default.ensures) c.in-Err.refusal
     (rw c.touch.ensures at c.in-Err.ensures.cause)))
+
+-- while a transaction is open its terminal has no last reply
+pub returns-in-Ok-clause-replies : goal.returns-in-Ok-clause-replies
+returns-in-Ok-clause-replies c =
+    let txs = c.self.inside.txs in
+    let works = c.self.inside.works in
+    let t = c.args.terminal in
+    rw (← c.self.view_is)
+    ((λ i. last_reply (record {
+      engine = c.begin.new.self;
+      txs = c.put_tx.ensures.after i;
+      works = c.begin_work.ensures i;
+    }))
+    ∙ both_slots c.self.inside.engine c.begin.new.self txs works t (Some c.in-Ok.tx)
+    (Some (work_at_begin c.args.request.now))
+    (omega (arith, c.put_tx.ensures.high, c.self.invariant.tx_slots))
+    (omega (arith, c.put_tx.ensures.high, c.self.invariant.work_slots)))

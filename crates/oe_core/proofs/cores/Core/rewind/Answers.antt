@@ -7,8 +7,8 @@ invariant_of-self c =
     (unchanged c.rewind.new.self c.in-Err.ensures.err
     (rewind_refused _ c.self.invariant c.args.moment c.in-Err.cause c.in-Err.ensures.cause)).orderly
 
-pub returns-in-Err : goal.returns-in-Err
-returns-in-Err c =
+pub returns-in-Err-clause-carries : goal.returns-in-Err-clause-carries
+returns-in-Err-clause-carries c =
     rw (← c.self.view_is)
     (carries (unchanged c.rewind.new.self c.in-Err.ensures.err
     (rewind_refused _ c.self.invariant c.args.moment c.in-Err.cause c.in-Err.ensures.cause)))
@@ -18,8 +18,8 @@ invariant_of-self-2 c =
     (rewound_here _ c.self.invariant c.rewind.new.self c.args.moment c.in_default.ensures.quiet
     c.in_default.ensures.kept c.in_default.ensures.rewound c.rewind.ensures.name).orderly
 
-pub returns : goal.returns
-returns c =
+pub returns-clause-carries : goal.returns-clause-carries
+returns-clause-carries c =
     rw (← c.self.view_is)
     (carries (rewound_here _ c.self.invariant c.rewind.new.self c.args.moment c.in_default.ensures.quiet
     c.in_default.ensures.kept c.in_default.ensures.rewound c.rewind.ensures.name))

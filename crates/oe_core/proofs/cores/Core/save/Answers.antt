@@ -1,12 +1,13 @@
-use Rattle.std.proofs.Common.{Some, refl, slice_set}
+use Rattle.std.proofs.Common.{Some, refl, arith, slice_set}
 use Rattle.oe_theory.specs.Next.{Save, Saved}
 use Rattle.oe_core.specs.Core.{Moves}
+use Rattle.oe_core.proofs.LastFacts.{still_open}
 use Rattle.oe_core.proofs.MoveFacts.{carries, nothing_open, HasOpen, lent_tx, lent_here, saved}
 use Rattle.oe_core.proofs.cores.Core.save.Goals.{In-Some-at_mut, After-self-2-1}
 use Rattle.oe_core.proofs.cores.Core.save.Goals as goal
 
-pub returns-in_default : goal.returns-in_default
-returns-in_default c =
+pub returns-in_default-clause-carries : goal.returns-in_default-clause-carries
+returns-in_default-clause-carries c =
     rw (← c.self.view_is)
     (carries (nothing_open
     (record { engine = c.self.inside.engine; txs = c.self.inside.txs; works = c.self.inside.works })
@@ -31,12 +32,22 @@ marked : (c : After-self-2-1)
       works = slice_set c.self.inside.works c.args.terminal (Some c.save.new.self);
     })
 marked c =
-    saved (is_there (goal.at.returns c).In-Some-at_mut) c.save.new.self c.savepoint.result _ c.save.ensures
+    saved (is_there (goal.at.returns-clause-carries c).In-Some-at_mut) c.save.new.self c.savepoint.result _
+    c.save.ensures
     c.savepoint.ensures.open
     refl
 
 pub invariant_of-self : goal.invariant_of-self
 invariant_of-self c = (marked c).orderly
 
-pub returns : goal.returns
-returns c = rw (← c.self.view_is) (carries (marked c))
+pub returns-clause-carries : goal.returns-clause-carries
+returns-clause-carries c = rw (← c.self.view_is) (carries (marked c))
+
+-- while a transaction is open its terminal has no last reply
+pub returns-clause-replies : goal.returns-clause-replies
+returns-clause-replies c =
+    let here = is_there (goal.at.returns-clause-replies c).In-Some-at_mut in
+    rw (← c.self.view_is)
+    (still_open c.self.inside.engine c.self.inside.engine c.self.inside.txs c.self.inside.works c.args.terminal
+    c.in-Some.tx
+    (Some c.save.new.self) here.tx (omega (arith, here.low, here.orderly.work_slots)))
