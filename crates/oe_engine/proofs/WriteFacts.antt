@@ -3,7 +3,7 @@ use Rattle.std.proofs.Common.{◌≡◌, ◌+◌, ◌≤◌, refl, sym, ap, ◌�
 use Rattle.std.specs.Prelude.{Ok, Err, IsSome, option_map, option_and_then}
 use Rattle.std.specs.Option.{IsSomeAnd}
 use Rattle.std.specs.FinMap.{get}
-use Rattle.oe_theory.specs.Machine.{Ask, Plain, Take}
+use Rattle.oe_theory.specs.Machine.{Ask, Plain, Take, Stop}
 use Rattle.oe_theory.specs.Machine as theory
 use Rattle.oe_theory.proofs.Sets.{some_inj}
 use Rattle.oe_rows.specs.declared.keys.Key.{Key}
@@ -13,6 +13,7 @@ use Rattle.oe_requests.specs.declared.refusals.Refusal.TheVariants.{NoSuchRow, U
 use Rattle.oe_rows.specs.declared.orders.NewOrder.{NewOrder}
 use Rattle.oe_rows.specs.declared.rows.Row.TheVariants as row
 use Rattle.oe_theory.specs.Next.{held_after, record_on}
+use Rattle.oe_theory.specs.World.{set}
 use Rattle.oe_rows.specs.declared.layouts.Layout.{Layout}
 use Rattle.oe_model.specs.Rows.{Rows, as_new_order}
 use Rattle.oe_model.specs.Changes.{Change, key_of, Record, InsertedHistory, InsertedNewOrder, InsertedOrder}
@@ -37,11 +38,11 @@ use Rattle.oe_writes.proofs.RecordFacts.{recorded, update, history_in, new_order
 use Rattle.oe_writes.proofs.RecordFacts.{deleted_in}
 use Rattle.oe_engine.specs.View.{EngineState, View, view_from, view_of, Handle, IsOpen}
 use Rattle.oe_engine.specs.Covered.{Owns, HoldsOrder, MayMake, IsOwn}
-use Rattle.oe_engine.specs.Calls.{IsFree, IsFullFor, with_lock, after_change, ChangeRefused, StageRefused}
+use Rattle.oe_engine.specs.Calls.{IsFree, IsFullFor, with_ask, after_change, ChangeRefused, StageRefused}
 use Rattle.oe_writes.specs.Asks.{ask_of_write}
 use Rattle.oe_engine.specs.Writes.{change_written, HoldsBeside, MayWrite, AbsentRowRefused, WantsRow}
 use Rattle.oe_engine.specs.Writes.{IsMade, Writes}
-use Rattle.oe_engine.proofs.LockFacts.{set_at}
+use Rattle.oe_engine.proofs.LockFacts.{set_own, set_at}
 use Rattle.oe_engine.proofs.SafeFacts.{owns_to_write}
 use Rattle.oe_engine.proofs.PartFacts.{refused_so, change_done}
 
@@ -121,11 +122,42 @@ pub may_write : (v : View) (t : ℕ) (w : Write) → IsOwn t (suc (v.counts t)) 
 may_write v t w own order =
     (owns_to_write v t (suc (v.counts t)) (governs (key_written w)) own, beside_still v t w order)
 
-pub may_after : (t : ℕ) (n : Name) (m : theory.Mode) (w : Write) (v : View)
-    → MayWrite v.rows (held_after system (Take n m) (v.held t)) t (suc (v.counts t)) w
-    → MayWrite v.rows ((with_lock t n m v).held t) t (suc ((with_lock t n m v).counts t)) w
-may_after t n m w v h = subst (λ held. MayWrite v.rows held t (suc (v.counts t)) w)
-    (sym (set_at t (held_after system (Take n m) (v.held t)) v.held)) h
+-- a transaction holds what it holds
+held_still : (t : ℕ) (v : View) → v ≡ record v { held = set t (v.held t) v.held }
+held_still t v = λ i. record {
+  rows = v.rows;
+  undo = v.undo;
+  seals = v.seals;
+  counts = v.counts;
+  held = sym (set_own t v.held) i;
+  is_open = v.is_open;
+  extents = v.extents;
+  layout = v.layout;
+}
+
+-- with what is asked for it holds what the theory says
+asked_is : (t : ℕ) (a : Ask Name Refusal) (v : View)
+    → with_ask t a v ≡ record v { held = set t (held_after system a (v.held t)) v.held }
+asked_is t (Take n m) v = refl
+asked_is t Plain v = held_still t v
+asked_is t (Stop e) v = held_still t v
+
+-- so it may make the write where the names held are these
+pub may_after : (t : ℕ) (a : Ask Name Refusal) (w : Write) (v v' : View) → v' ≡ with_ask t a v
+    → MayWrite v.rows (held_after system a (v.held t)) t (suc (v.counts t)) w
+    → MayWrite v'.rows (v'.held t) t (suc (v'.counts t)) w
+may_after t a w v v' asked h =
+    subst (λ (z : View). MayWrite z.rows (z.held t) t (suc (z.counts t)) w) (sym (asked ∙ asked_is t a v))
+    (subst (λ held. MayWrite v.rows held t (suc (v.counts t)) w)
+    (sym (set_at t (held_after system a (v.held t)) v.held)) h)
+
+-- and its transaction is open still
+pub still_open : (s s₁ : EngineState) (x : Handle) (a : Ask Name Refusal) → IsOpen s x
+    → view_of s₁ ≡ with_ask x.terminal a (view_of s) → s₁.name ≡ s.name → IsOpen s₁ x
+still_open s s₁ x a o asked same = record {
+  engine = o.engine ∙ sym same;
+  terminal = ap (λ (v : View). v.is_open x.terminal) (asked ∙ asked_is x.terminal a (view_of s)) ∙ o.terminal;
+}
 
 -- ---- why it is refused
 
@@ -256,11 +288,17 @@ module _ (s : EngineState) (x : Handle) where
   row_absent k e o h = subst (AbsentRowRefused s x Plain k) (sym h) (o, tt, refl)
 
 -- a write behind the lock that was taken for it
-module _ (s s₁ s₂ : EngineState) (x : Handle) (n : Name) (m : theory.Mode) (w : Write) (o : IsOpen s x)
-    (free : IsFree (view_of s) x.terminal (Take n m)) (taken : view_of s₁ ≡ with_lock x.terminal n m (view_of s))
+module _ (s s₁ s₂ : EngineState) (x : Handle) (a : Ask Name Refusal) (w : Write) (o : IsOpen s x)
+    (free : IsFree (view_of s) x.terminal a) (asked : view_of s₁ ≡ with_ask x.terminal a (view_of s))
     (stored : s₁.tables ≡ s.tables) (same : s₁.name ≡ s.name) where
+  taken : view_of s₁ ≡ record (view_of s) {
+    held = set x.terminal (held_after system a ((view_of s).held x.terminal))
+        (view_of s).held;
+  }
+  taken = asked ∙ asked_is x.terminal a (view_of s)
+
   now : IsOpen s₁ x
-  now = record { engine = o.engine ∙ sym same; terminal = ap (λ (v : View). v.is_open x.terminal) taken ∙ o.terminal }
+  now = still_open s s₁ x a o asked same
 
   same_rows : (view_of s₁).rows ≡ (view_of s).rows
   same_rows = ap (λ (v : View). v.rows) taken
@@ -268,7 +306,7 @@ module _ (s s₁ s₂ : EngineState) (x : Handle) (n : Name) (m : theory.Mode) (
   found_there : (c : Option Change) → change_written w (view_of s) ≡ c → change_written w (view_of s₁) ≡ c
   found_there c found = ap (change_of w) same_rows ∙ found
 
-  made_there : (c : Change) → IsMade s₁ x Plain c s₂ → IsMade s x (Take n m) c s₂
+  made_there : (c : Change) → IsMade s₁ x Plain c s₂ → IsMade s x a c s₂
   made_there c h = record {
     is_open = o;
     free = free;
@@ -277,11 +315,11 @@ module _ (s s₁ s₂ : EngineState) (x : Handle) (n : Name) (m : theory.Mode) (
     done = h.done ∙ change_done x.terminal c (view_of s₁) ∙ ap (λ v. after_change x.terminal c v) taken;
   }
 
-  pub made_behind : Writes s₁ x Plain w (Ok tt) s₂ → Writes s x (Take n m) w (Ok tt) s₂
+  pub made_behind : Writes s₁ x Plain w (Ok tt) s₂ → Writes s x a w (Ok tt) s₂
   made_behind h =
       let (c, found, is) = at_change _ _ h.made in
       record {
-        made = subst (λ z. IsSomeAnd z (λ d. IsMade s x (Take n m) d s₂))
+        made = subst (λ z. IsSomeAnd z (λ d. IsMade s x a d s₂))
             (sym (ap (change_of w) (sym same_rows) ∙ found))
             (made_there c is);
         cause = λ d _. tt;
@@ -292,14 +330,14 @@ module _ (s s₁ s₂ : EngineState) (x : Handle) (n : Name) (m : theory.Mode) (
       }
 
   cause_there : (c : Change) (e : Refusal) → StageRefused s₁ x Plain (Some c) e
-      → StageRefused s x (Take n m) (Some c) e
+      → StageRefused s x a (Some c) e
   cause_there c e h = let is = now in let there = same_rows in search (rules, is, there)
 
-  absent_there : (k : Key) (e : Refusal) → AbsentRowRefused s₁ x Plain k e → AbsentRowRefused s x (Take n m) k e
+  absent_there : (k : Key) (e : Refusal) → AbsentRowRefused s₁ x Plain k e → AbsentRowRefused s x a k e
   absent_there k e h = let is = now in search (rules, is)
 
   pub refused_behind : (e : Refusal) (s' : EngineState) → Writes s₁ x Plain w (Err e) s₂ → view_of s' ≡ view_of s
-      → Writes s x (Take n m) w (Err e) s'
+      → Writes s x a w (Err e) s'
   unfolding view_of view_from
   refused_behind e s' h back = record {
     made = tt;

@@ -64,6 +64,11 @@ CantBegin v t e = (v.is_open t ≡ false) × (number_rejection (suc (v.counts t)
 abbrev pub with_lock : ℕ → Name → theory.Mode → View → View
 with_lock t n m v = record v { held = set t (held_after system (Take n m) (v.held t)) v.held }
 
+-- what is asked for taken, if it is a lock
+abbrev pub with_ask : ℕ → Ask Name Refusal → View → View
+with_ask t (Take n m) v = with_lock t n m v
+with_ask t _ v = v
+
 -- a change made and recorded
 abbrev pub after_change : ℕ → Change → View → View
 after_change t c v = record v {
@@ -74,6 +79,11 @@ after_change t c v = record v {
 -- a name put into a mode, or let go of
 abbrev pub put_mode : ℕ → Name → Option theory.Mode → View → View
 put_mode t n m v = record v { held = set t (λ q. cond (is_name q n) m (v.held t q)) v.held }
+
+-- the name of a lock that was asked for put into a mode, if one was
+abbrev pub ask_put_back : ℕ → Option Lock → Option theory.Mode → View → View
+ask_put_back t None m v = v
+ask_put_back t (Some l) m v = put_mode t l.name m v
 
 -- a stage done: its lock taken, its change made and recorded
 abbrev pub after_stage : ℕ → Ask Name Refusal → Option Change → View → View

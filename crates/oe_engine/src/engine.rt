@@ -302,7 +302,8 @@ impl Engine {
         ensures free { OnOk result
             (IsFree (view_of self.old) terminal (Take lock.name (mode_of lock.mode))) }
         ensures locked { OnOk result
-            (view_of self.new ≡ with_lock terminal lock.name (mode_of lock.mode) (view_of self.old)) }
+            (view_of self.new ≡ with_lock terminal lock.name (mode_of lock.mode)
+            (view_of self.old)) }
         ensures tables { self.new.tables ≡ self.old.tables }
         ensures undo { self.new.undo ≡ self.old.undo }
         ensures links { self.new.links ≡ self.old.links }

@@ -1,58 +1,96 @@
 //! What transactions write to rows, each with its lock and its undo record.
-ghost use Rattle.std.specs.Prelude.{◌≡◌, suc};
+ghost use Rattle.std.specs.Prelude.{◌≡◌, ◌⊎◌, suc, true, option_map, IfOk, IfErr, OnOk, OnErr};
+ghost use Rattle.std.specs.Option.{IsSomeAnd, ForSome};
 ghost use Rattle.oe_theory.specs.Machine.{Plain, Take};
 ghost use Rattle.oe_theory.specs.Next.{held_after};
 ghost use Rattle.oe_model.specs.Locks.{mode_of, governs};
 ghost use Rattle.oe_model.specs.System.{system};
 ghost use Rattle.oe_change.specs.Writes.{key_written};
 ghost use Rattle.oe_engine.specs.View.{view_of, IsOpen};
-ghost use Rattle.oe_engine.specs.Covered.{IsOwn};
-ghost use Rattle.oe_writes.specs.Asks.{ask_of_write};
+ghost use Rattle.oe_engine.specs.Covered.{IsOwn, IsUnused};
+ghost use Rattle.oe_engine.specs.Calls.{IsFree, IsBelow, LockRefused, with_ask, ask_put_back};
+ghost use Rattle.oe_writes.specs.Asks.{ask_of, ask_of_write};
 ghost use Rattle.oe_engine.specs.Writes.{HoldsBeside, MayWrite, Writes};
 
 use crate::engine::{Engine, Tx};
 use oe_log::Segment;
 use oe_requests::Refusal;
+use oe_rows::Mode;
+use oe_values::Terminal;
 use oe_writes::{Lock, OneWrite};
 
 impl Engine {
-    // Writes to a row, with its undo record. Memory is wanted for a place in the tables alone.
+    // Takes the lock that is asked for, and answers the mode in which its name was held before.
+    // Where none is asked for, nothing changes.
     #[inline(always)]
-    fn put<W: OneWrite>(&mut self, tx: &Tx, write: &W) -> Result<(), Refusal>
-        requires open { IsOpen self.old tx.now }
-        requires covered { MayWrite (view_of self.old).rows
-            ((view_of self.old).held tx.now.terminal) tx.now.terminal
-            (suc ((view_of self.old).counts tx.now.terminal)) (W.write write.now) }
-        ensures writes { Writes self.old tx.now Plain (W.write write.now) result self.new }
+    fn take_asked(
+        &mut self,
+        terminal: Terminal,
+        lock: &Option<Lock>,
+    ) -> Result<Option<Mode>, Refusal>
+        requires { (view_of self.old).is_open terminal ≡ true }
+        ensures before { IfOk result
+            (λ was. ForSome lock.now
+            (λ l. option_map mode_of was ≡ (view_of self.old).held terminal l.name)) }
+        ensures free { OnOk result (IsFree (view_of self.old) terminal (ask_of lock.now)) }
+        ensures locked { OnOk result
+            (view_of self.new ≡ with_ask terminal (ask_of lock.now) (view_of self.old)) }
+        ensures tables { self.new.tables ≡ self.old.tables }
         ensures name { self.new.name ≡ self.old.name }
+        ensures cause { IfErr result
+            (λ e. IsSomeAnd lock.now
+            (λ l. LockRefused (view_of self.old) terminal l.name (mode_of l.mode) e)) }
+        ensures err { OnErr result (self.new ≡ self.old) }
     {
-        let terminal = tx.terminal();
-        let segment = Segment::of(terminal);
-        self.renames = self.renames.noted(terminal, write);
-        oe_journal::write(&mut self.tables, &mut self.undo, segment, write)
+        match lock {
+            None => Ok(None),
+            Some(lock) => self.take(terminal, *lock),
+        }
     }
 
-    // Takes a lock and writes; where the write is refused, the name is held as it was. Where the
-    // name was held before, memory is wanted for a place in the tables alone.
+    // Puts the name of a lock that was asked for back into the mode in which it was held before.
+    // Where none was asked for, nothing changes.
     #[inline(always)]
-    fn take_and_put<W: OneWrite>(&mut self, tx: &Tx, lock: &Lock, write: &W) -> Result<(), Refusal>
+    fn restore_asked(&mut self, terminal: Terminal, lock: &Option<Lock>, before: Option<Mode>)
+        requires open { (view_of self.old).is_open terminal ≡ true }
+        requires below { ForSome lock.now
+            (λ l. (option_map mode_of before ≡ (view_of self.old).held terminal l.name)
+            ⊎ IsBelow (option_map mode_of before) ((view_of self.old).held terminal l.name)) }
+        requires unused { ForSome lock.now
+            (λ l. IsBelow (option_map mode_of before) ((view_of self.old).held terminal l.name)
+            → IsUnused l.name ((view_of self.old).undo.active terminal) (view_of self.old).rows) }
+        ensures put { view_of self.new
+            ≡ ask_put_back terminal lock.now (option_map mode_of before) (view_of self.old) }
+        ensures name { self.new.name ≡ self.old.name }
+    {
+        if let Some(lock) = lock {
+            self.restore(terminal, lock.name, before);
+        }
+    }
+
+    // Takes the lock that is asked for and writes to a row, with its undo record. Where the write
+    // is refused, the name is held as it was. Where it was held before, memory is wanted for a
+    // place in the tables alone.
+    #[inline(always)]
+    fn put<W: OneWrite>(&mut self, tx: &Tx, lock: &Option<Lock>, write: &W) -> Result<(), Refusal>
         requires open { IsOpen self.old tx.now }
         requires covered { MayWrite (view_of self.old).rows
-            (held_after system (Take lock.now.name (mode_of lock.now.mode))
-            ((view_of self.old).held tx.now.terminal)) tx.now.terminal
-            (suc ((view_of self.old).counts tx.now.terminal)) (W.write write.now) }
-        ensures writes { Writes self.old tx.now (Take lock.now.name (mode_of lock.now.mode))
-            (W.write write.now) result self.new }
+            (held_after system (ask_of lock.now) ((view_of self.old).held tx.now.terminal))
+            tx.now.terminal (suc ((view_of self.old).counts tx.now.terminal)) (W.write write.now) }
+        ensures writes { Writes self.old tx.now (ask_of lock.now) (W.write write.now)
+            result self.new }
         ensures name { self.new.name ≡ self.old.name }
     {
         self.is_safe();
         let terminal = tx.terminal();
-        let before = match self.take(terminal, *lock) {
+        let before = match self.take_asked(terminal, lock) {
             Ok(before) => before,
             Err(refusal) => return Err(refusal),
         };
-        if let Err(refusal) = self.put(tx, write) {
-            self.restore(terminal, lock.name, before);
+        let segment = Segment::of(terminal);
+        self.renames = self.renames.noted(terminal, write);
+        if let Err(refusal) = oe_journal::write(&mut self.tables, &mut self.undo, segment, write) {
+            self.restore_asked(terminal, lock, before);
             return Err(refusal);
         }
         Ok(())
@@ -86,10 +124,8 @@ impl Engine {
         if !self.is_open(tx) {
             return Err(Refusal::NotOpen);
         }
-        match write.lock() {
-            None => self.put(tx, write),
-            Some(lock) => self.take_and_put(tx, &lock, write),
-        }
+        let lock = write.lock();
+        self.put(tx, &lock, write)
     }
 
     /// Writes to one row in its place for a transaction that alone may change it, with its undo
@@ -109,7 +145,7 @@ impl Engine {
         if !self.is_open(tx) {
             return Err(Refusal::NotOpen);
         }
-        self.put(tx, write)
+        self.put(tx, &None, write)
     }
 
     /// Writes to one row in its place for a transaction that holds the row's name alone, with its
@@ -135,6 +171,6 @@ impl Engine {
         if !self.is_open(tx) {
             return Err(Refusal::NotOpen);
         }
-        self.take_and_put(tx, lock, write)
+        self.put(tx, &Some(*lock), write)
     }
 }
