@@ -77,7 +77,8 @@ fn audit_all<R: Eprint + AllocGlobal + Threads + Sync, S: Read + Drop + Send, W:
     errors: &mut E,
 ) -> io::Result<u8>
     ensures { Tells (TablesAudited S.remaining options.now format
-        (option_map (λ v. v.items) before) sources.items (W.sink writer.old) (W.sink writer.new)) audit_status
+        (option_map (λ v. v.items) before) sources.items (W.sink writer.old)
+        (W.sink writer.new)) audit_status
         (audit_note (Some format)) (E.sink errors.old) (E.sink errors.new) result }
 {
     let answer = audit_tables(rt, rt.alloc(), options, format, before, sources, writer);

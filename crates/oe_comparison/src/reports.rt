@@ -46,7 +46,8 @@ fn number_then(out: &mut Pending, number: u32)
 // Writes H_C_ID, H_C_D_ID, H_C_W_ID, H_D_ID and H_W_ID, with a blank behind each.
 fn references(out: &mut Pending, customer: CustomerKey, district: DistrictKey)
     requires { array_vec_len out.old + 55 ≤ SIZE }
-    ensures items { out.new.items ≡ out.old.items ++ with_blanks (reference_columns customer district) }
+    ensures items { out.new.items ≡ out.old.items
+        ++ with_blanks (reference_columns customer district) }
     ensures len { array_vec_len out.new ≤ array_vec_len out.old + 55 }
 {
     number_then(out, customer.customer.get());

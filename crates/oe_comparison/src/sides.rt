@@ -136,7 +136,8 @@ fn pass<C: Comparing<K, R>, K, R>(
     report: &mut Report,
 ) -> Result<Turn, NoMemory>
     ensures { TellsFront C.line_at
-        (front C.order_of (key_and_texts C.columns_of their.entry) (key_and_texts C.columns_of our.entry)) others
+        (front C.order_of (key_and_texts C.columns_of their.entry)
+        (key_and_texts C.columns_of our.entry)) others
         report.old report.new result }
 {
     match (their, our) {

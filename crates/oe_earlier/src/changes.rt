@@ -105,7 +105,8 @@ pub fn changed<K: Ord + Copy>(
     ensures { (of_before of_now : List (K × Trace))
         → SameTotals K.eq traces_joined of_before before.now
         → SameTotals K.eq traces_joined of_now now.now
-        → IfOk result (λ found. AreAll K.cmp K.eq (change_apart K.eq of_before of_now) found.items) }
+        → IfOk result (λ found. AreAll K.cmp K.eq
+        (change_apart K.eq of_before of_now) found.items) }
 {
     findings(alloc, &IsChanged, before, now)
 }
@@ -149,7 +150,8 @@ pub fn moved(
     ensures { (of_before of_now : List (StockId × Residue))
         → SameTotals same_stock residues_joined of_before before.now
         → SameTotals same_stock residues_joined of_now now.now
-        → IfOk result (λ found. AreAll stock_cmp same_stock (residue_apart of_before of_now) found.items) }
+        → IfOk result (λ found. AreAll stock_cmp same_stock
+        (residue_apart of_before of_now) found.items) }
 {
     findings(alloc, &IsMoved, before, now)
 }

@@ -2,8 +2,8 @@
 //!
 //! A list owns its extents, which are linked from the newest to the oldest: so no two lists have an
 //! extent in common, and a change of one leaves all others as they are. Only the newest extent gets
-//! strings, behind those that are there. Nothing can be refused, and no call but the making of an
-//! extent takes memory.
+//! strings, behind those that are there, as long as it has room. No call but the making of an extent
+//! takes memory, and no other can be refused it.
 ghost use Rattle.std.specs.Prelude.{◌≡◌, ◌<◌, ◌≤◌, ◌+◌, [], ◌∷◌, length, drop, IfOk, IfSome, IfNone};
 ghost use Rattle.oe_extent.specs.declared.sizes.TheConstants.{EXTENT_BYTES};
 ghost use Rattle.oe_extent.specs.Strings.{IsFramed, HasOffset, IsStringFrom};

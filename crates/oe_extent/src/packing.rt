@@ -101,7 +101,8 @@ impl PackedStrings {
     #[inline(always)]
     pub(crate) fn push<S: Written>(&mut self, string: &S) -> Number<0, 4_095>
         requires framed { IsFramed (S.image string.now) }
-        requires room { length (bytes_of_strings self.old) + length (S.image string.now) ≤ EXTENT_BYTES }
+        requires room { length (bytes_of_strings self.old) + length (S.image string.now)
+            ≤ EXTENT_BYTES }
         ensures pushed { self.new ≡ S.image string.now ∷ self.old }
         ensures offset { result ≡ length (bytes_of_strings self.old) }
     {

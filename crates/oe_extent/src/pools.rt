@@ -103,7 +103,8 @@ impl Pool {
         ensures next { IfSome result (λ e.
             IsNextFree self.old.is_free self.old.cursor (number_of e.value)) }
         ensures fresh { IfSome result (λ e. IsEmptyExtent e.value) }
-        ensures taken { IfSome result (λ e. self.new ≡ without_free_at self.old (number_of e.value)) }
+        ensures taken { IfSome result (λ e. self.new
+            ≡ without_free_at self.old (number_of e.value)) }
         ensures none { IfNone result (AllTaken self.old.is_free 0 (length self.old.is_free)) }
         ensures same { IfNone result (self.new ≡ self.old) }
     {

@@ -113,7 +113,8 @@ impl Ring {
         requires slot { slot < length self.old.active }
         requires empty { get_or self.old.active slot [] ≡ [] }
         requires some { 0 < length self.old.committed }
-        ensures reopened { self.new ≡ record (after_reopening_at self.old slot) { room = self.new.room } }
+        ensures reopened { self.new ≡ record (after_reopening_at self.old slot)
+            { room = self.new.room } }
         ensures room { capacity_of self.new ≡ capacity_of self.old }
     {
         let newest = self.committed.pop_front();

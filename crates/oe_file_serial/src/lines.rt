@@ -285,7 +285,8 @@ fn note_line<'a>(bad: &mut BadLines<'a>, number: u128, line: &'a [u8])
 // Notes a last line without its end.
 fn note_last(bad: &mut BadLines, number: u128, last: &[u8])
     requires { bad.old.count + 1 < 2 ^ 128 }
-    ensures { (b : List BadLine) → Shows bad.old b → Shows bad.new (b ++ last_line_fault number last.now) }
+    ensures { (b : List BadLine) → Shows bad.old b
+        → Shows bad.new (b ++ last_line_fault number last.now) }
 {
     if !last.is_empty() {
         bad.note(BadLine {

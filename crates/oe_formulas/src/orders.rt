@@ -21,7 +21,8 @@ use oe_values::{
 /// Gives D_NEXT_O_ID after a new order: it rises by 1. Else D_NEXT_O_ID, which would leave its
 /// range.
 pub fn next_order_after(row: &District) -> Result<OrderNumber, Column>
-    ensures { row_with (with_next_order row.now) result ≡ row_in_ranges next_out (with_next row.now) }
+    ensures { row_with (with_next_order row.now) result
+        ≡ row_in_ranges next_out (with_next row.now) }
 {
     match OrderNumber::new(row.next_order.get() + 1) {
         Some(next_order) => Ok(next_order),

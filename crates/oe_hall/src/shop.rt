@@ -768,7 +768,8 @@ impl<J: Naming> Desk<J> {
     /// Loads the newest moment, which is at least each that this desk saw or told.
     pub fn newest(&mut self, front: &Front<J>) -> Moment
         ensures desk { self.new ≡
-            with_seat (with_notes (notes_after_sight result self.old.seat.notes) self.old.seat) self.old }
+            with_seat (with_notes (notes_after_sight result self.old.seat.notes) self.old.seat)
+            self.old }
         ensures rises { self.old.seat.notes.seen ≤ result }
     {
         let moments = &*front.moments;
@@ -778,7 +779,8 @@ impl<J: Naming> Desk<J> {
     /// Tells a moment: from then on this desk sees no earlier one as the newest.
     pub fn told(&mut self, front: &Front<J>, moment: Moment)
         ensures desk { self.new ≡ with_seat (with_notes
-            (notes_after_sight self.new.seat.notes.seen self.old.seat.notes) self.old.seat) self.old }
+            (notes_after_sight self.new.seat.notes.seen self.old.seat.notes) self.old.seat)
+            self.old }
         ensures rises { self.old.seat.notes.seen ≤ self.new.seat.notes.seen }
         ensures told { moment ≤ self.new.seat.notes.seen }
     {

@@ -283,8 +283,10 @@ fn carrier(carrier: &Option<Option<Carrier>>) -> Option<Option<u8>>
 /// Writes O_CARRIER_ID, if it is there, from offset `start` on, and answers the offset behind it.
 #[inline(always)]
 fn write_carrier(column: &Option<Option<Carrier>>, bytes: &mut [u8], start: usize) -> usize
-    requires { start + length (image_where_there (optional (λ c. number 1 c)) column.now) ≤ length bytes.old }
-    ensures { Writes bytes.old start (image_where_there (optional (λ c. number 1 c)) column.now) bytes.new
+    requires { start + length (image_where_there (optional (λ c. number 1 c)) column.now)
+        ≤ length bytes.old }
+    ensures { Writes bytes.old start (image_where_there
+        (optional (λ c. number 1 c)) column.now) bytes.new
         result }
 {
     write_kept(&carrier(column), bytes, start)

@@ -201,7 +201,8 @@ pub fn request(out: &mut Pending, request: &Request)
 /// Appends the words of an order status.
 fn status(out: &mut Pending, query: &StatusQuery)
     requires { array_vec_len out.old + 45 ≤ SIZE }
-    ensures items { out.new.items ≡ out.old.items ++ line_of_words (query_words (asks.Status query.now)) }
+    ensures items { out.new.items ≡ out.old.items
+        ++ line_of_words (query_words (asks.Status query.now)) }
     ensures len { array_vec_len out.new ≤ array_vec_len out.old + 45 }
 {
     text(out, b"status ");
@@ -213,7 +214,8 @@ fn status(out: &mut Pending, query: &StatusQuery)
 /// Appends the words of a stock level.
 fn level(out: &mut Pending, query: &LevelQuery)
     requires { array_vec_len out.old + 38 ≤ SIZE }
-    ensures items { out.new.items ≡ out.old.items ++ line_of_words (query_words (asks.Level query.now)) }
+    ensures items { out.new.items ≡ out.old.items
+        ++ line_of_words (query_words (asks.Level query.now)) }
     ensures len { array_vec_len out.new ≤ array_vec_len out.old + 38 }
 {
     text(out, b"level ");

@@ -94,7 +94,8 @@ impl Held {
     fn stays(&self, name: &Name, mode: Mode) -> Option<Mode>
         ensures there { IfSome result (λ was. lookup (ghosts.eq name.now) self.now ≡ Some was) }
         ensures same { IfSome result (λ was. greater_mode mode (Some was) ≡ was) }
-        ensures other { IfNone result (greater_mode mode (lookup (ghosts.eq name.now) self.now) ≡ mode) }
+        ensures other { IfNone result (greater_mode mode (lookup (ghosts.eq name.now) self.now)
+            ≡ mode) }
     {
         match mode {
             Mode::Shared => self.mode(name),

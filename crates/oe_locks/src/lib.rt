@@ -85,7 +85,8 @@ impl Locks {
     #[inline(never)]
     fn least_in_the_way(&self, name: &Name, others: TerminalSet, mode: Mode) -> Option<Terminal>
         ensures { MatchOption result
-            ((u : ℕ) → has others u ≡ true → go_together mode (mode_held self.now u name.now) ≡ true)
+            ((u : ℕ) → has others u ≡ true → go_together mode (mode_held self.now u name.now)
+            ≡ true)
             (IsFirstAmong self.now others name.now mode) }
     {
         let mut left = others;

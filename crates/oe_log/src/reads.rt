@@ -164,7 +164,8 @@ impl Log {
     /// of another commit is read, and none is lent. It takes no memory.
     pub fn renamed(&self, later: usize) -> Option<(CustomerKey, Text<0, 16>)>
         requires { later < length self.now.committed }
-        ensures { result ≡ rename_in (model_records (get_or (committed_records self.now) later [])) }
+        ensures { result ≡ rename_in (model_records
+            (get_or (committed_records self.now) later [])) }
     {
         let mut records = self.committed_records(later);
         let Some(record) = records.next() else {

@@ -275,7 +275,8 @@ impl Moments {
     /// Tells a moment: from then on this desk sees no earlier one as the newest.
     pub fn told(&self, seat: &mut DeskSeat, moment: Moment)
         requires { seat.old.words ≡ self.now }
-        ensures seat { seat.new ≡ with_notes (notes_after_sight seat.new.notes.seen seat.old.notes) seat.old }
+        ensures seat { seat.new ≡ with_notes
+            (notes_after_sight seat.new.notes.seen seat.old.notes) seat.old }
         ensures rises { seat.old.notes.seen ≤ seat.new.notes.seen }
         ensures told { moment ≤ seat.new.notes.seen }
     {
@@ -290,7 +291,8 @@ impl Moments {
         requires words { seat.old.words ≡ self.now }
         requires unsure { is_sure seat.old.notes.pin ≡ false }
         ensures seat { seat.new ≡
-            with_notes (with_pin (Announced result) (notes_after_sight result seat.old.notes)) seat.old }
+            with_notes (with_pin (Announced result)
+            (notes_after_sight result seat.old.notes)) seat.old }
         ensures rises { seat.old.notes.seen ≤ result }
     {
         let newest = self.newest(seat);

@@ -79,7 +79,8 @@ impl SendingEnd {
             × (pass.new.me.0.of ≡ pass.old.me.0.of) }
         ensures taker { known pass.new ≡ Taking (one_more (hand_of (known pass.old))) }
         ensures sender { IfOk result (λ s.
-            s ≡ new_sender (record { table = pass.old.table_id; key = pass.old.me.0.of }) terminal) }
+            s ≡ new_sender (record { table = pass.old.table_id; key = pass.old.me.0.of })
+            terminal) }
     {
         let theirs = end.another::<Making>(pass);
         Ok(SendingEnd {

@@ -70,7 +70,8 @@ impl Tables {
     pub fn set_account(&mut self, key: &CustomerKey, account: &Account)
         requires { IsSome (get (rows self.old).customers key.now) }
         ensures rows { (c : Customer) → get (rows self.old).customers key.now ≡ Some c
-            → rows self.new ≡ rows_after (UpdateCustomer key.now (record c { account = account.now }))
+            → rows self.new ≡ rows_after
+            (UpdateCustomer key.now (record c { account = account.now }))
             (rows self.old) }
         ensures places { SamePlaces self.old self.new }
         ensures names { SameNames self.old self.new }
@@ -83,7 +84,8 @@ impl Tables {
     pub fn set_bad_credit(&mut self, key: &CustomerKey, account: &Account, entry: &Text<0, 90>)
         requires { IsSome (get (rows self.old).customers key.now) }
         ensures rows { (c : Customer) → get (rows self.old).customers key.now ≡ Some c
-            → rows self.new ≡ rows_after (UpdateCustomer key.now (with_entry account.now entry.now c))
+            → rows self.new ≡ rows_after
+            (UpdateCustomer key.now (with_entry account.now entry.now c))
             (rows self.old) }
         ensures places { SamePlaces self.old self.new }
         ensures names { SameNames self.old self.new }
@@ -102,7 +104,8 @@ impl Tables {
         requires { IsSome (get (rows self.old).customers key.now) }
         ensures rows { OnOk result
             ((c : Customer) → get (rows self.old).customers key.now ≡ Some c → rows self.new
-            ≡ rows_after (UpdateCustomer key.now (with_names last.now first.now c)) (rows self.old)) }
+            ≡ rows_after (UpdateCustomer key.now (with_names last.now first.now c))
+            (rows self.old)) }
         ensures places { SamePlaces self.old self.new }
         ensures names { OnOk result (ListsName self.old self.new
             (list_number (district_of_customer key.now) last.now) key.now) }
@@ -117,7 +120,8 @@ impl Tables {
     pub fn set_carrier(&mut self, key: &OrderKey, carrier: Carrier)
         requires { IsSome (get (rows self.old).orders key.now) }
         ensures rows { (o : Order) → get (rows self.old).orders key.now ≡ Some o → rows self.new
-            ≡ rows_after (UpdateOrder key.now (record o { carrier = Some carrier })) (rows self.old) }
+            ≡ rows_after (UpdateOrder key.now (record o { carrier = Some carrier }))
+            (rows self.old) }
         ensures places { SamePlaces self.old self.new }
         ensures names { SameNames self.old self.new }
     {
@@ -128,7 +132,8 @@ impl Tables {
     pub fn set_delivery(&mut self, key: &OrderLineKey, stamp: Stamp)
         requires { IsSome (get (rows self.old).order_lines key.now) }
         ensures rows { (l : OrderLine) → get (rows self.old).order_lines key.now ≡ Some l
-            → rows self.new ≡ rows_after (UpdateOrderLine key.now (record l { delivery = Some stamp }))
+            → rows self.new ≡ rows_after
+            (UpdateOrderLine key.now (record l { delivery = Some stamp }))
             (rows self.old) }
         ensures places { SamePlaces self.old self.new }
         ensures names { SameNames self.old self.new }

@@ -43,7 +43,8 @@ impl Tables {
     /// Inserts an ORDER row at a key that has none, where the rows that it refers to are there.
     pub fn insert_order(&mut self, key: OrderKey, row: Order) -> Result<(), NoMemory>
         requires { Accepts (InsertOrder key row) (rows self.old) }
-        ensures rows { OnOk result (rows self.new ≡ rows_after (InsertOrder key row) (rows self.old)) }
+        ensures rows { OnOk result (rows self.new
+            ≡ rows_after (InsertOrder key row) (rows self.old)) }
         ensures place { OnOk result (AddsPlace self.old self.new (Key.Order key)) }
         ensures names { SameNames self.old self.new }
         ensures no_place { OnErr result (¬ HasPlace self.old (Key.Order key)) }

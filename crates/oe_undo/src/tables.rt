@@ -15,7 +15,8 @@ use oe_values::NoMemory;
 /// Gives the link of a key, if it has one.
 #[inline(always)]
 pub(crate) fn link_in<K: NumberedKey>(links: &Places<OwnedLink>, key: &K) -> Option<OwnedLink>
-    ensures { result ≡ link_in (link_by_number links.now (K.shelf_of key.now) (K.number_of key.now)) }
+    ensures { result ≡ link_in (link_by_number links.now (K.shelf_of key.now)
+        (K.number_of key.now)) }
 {
     links.content(key.shelf(), key.number())
 }

@@ -87,7 +87,8 @@ impl<'a> Version<'a> {
     pub fn row_counted(&self, key: &Key, ticks: &mut Ticks) -> Option<Row>
         ensures row { result ≡ row_at (rows_of self.now) key.now }
         ensures ticks { ticks.new
-            ≡ ticks_with ticks.old (count_later self.now.moment (of_key key.now (all_held self.now.log))) }
+            ≡ ticks_with ticks.old (count_later self.now.moment
+            (of_key key.now (all_held self.now.log))) }
     {
         self.undo.is_chained();
         let now = row_now(self.tables(), key);
