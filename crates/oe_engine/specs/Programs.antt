@@ -111,7 +111,7 @@ abbrev pub IsFullHere : EngineState → Handle → Request → Position → Type
 IsFullHere s x q p = (c : Change) × (p' : Position) × (act_here s x q p ≡ Go (Some c) p')
     × IsFullFor (view_of s) x.terminal c
 
--- memory is wanted for its change: it is an insert at a key without a place
+-- memory is wanted for its change: it is an insert at a key without a place, or gives a customer another last name
 abbrev pub WantsMemory : EngineState → Handle → Request → Position → Type 0
 WantsMemory s x q p = (c : Change) × (p' : Position) × (act_here s x q p ≡ Go (Some c) p')
     × WantsPlace (Some c) s.tables
