@@ -22,7 +22,8 @@ use oe_values::{Moment, TerminalCount};
 
 /// Undoes the commits after a moment, which becomes the newest: their records are put back, the
 /// newest first, and their terminals no longer count them. A key without a row that no record names
-/// any more has no place any more. It takes no memory, and visits no segment that is kept.
+/// any more has no place any more. It takes no memory. For each rename that it undoes it reads the
+/// kept records of that customer, to see whether one of them still has the name.
 ///
 /// `NotQuiet` with the number of open transactions. `TooOld` with the horizon, `Future` with the
 /// newest moment: the moment is not between the two. The first of these is named, and nothing has
