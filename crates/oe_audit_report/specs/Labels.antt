@@ -85,8 +85,8 @@ extent_label extent.Orders = ([], codes "greatest O_ID", codes "ORDER rows", fal
 
 abbrev pub condition_label : Condition → Names
 condition_label condition.First = ([], codes "W_YTD", codes "sum of D_YTD", true)
-condition_label condition.SecondOfOrders = ([], codes "D_NEXT_O_ID", codes "next behind ORDER rows", false)
-condition_label condition.SecondOfNewOrders = ([], codes "D_NEXT_O_ID", codes "next behind NEW-ORDER rows", false)
+condition_label condition.SecondOfOrders = ([], codes "D_NEXT_O_ID", codes "next after ORDER rows", false)
+condition_label condition.SecondOfNewOrders = ([], codes "D_NEXT_O_ID", codes "next after NEW-ORDER rows", false)
 condition_label condition.Third = ([], codes "span of NO_O_ID", codes "NEW-ORDER rows", false)
 condition_label condition.Fourth = ([], codes "sum of O_OL_CNT", codes "ORDER-LINE rows", false)
 condition_label condition.Fifth = ([], codes "lacks O_CARRIER_ID", codes "NEW-ORDER rows", false)

@@ -121,8 +121,8 @@ fn condition(part: Condition) -> Label
 {
     match part {
         Condition::First => amounts("W_YTD", "sum of D_YTD"),
-        Condition::SecondOfOrders => counts("", "D_NEXT_O_ID", "next behind ORDER rows"),
-        Condition::SecondOfNewOrders => counts("", "D_NEXT_O_ID", "next behind NEW-ORDER rows"),
+        Condition::SecondOfOrders => counts("", "D_NEXT_O_ID", "next after ORDER rows"),
+        Condition::SecondOfNewOrders => counts("", "D_NEXT_O_ID", "next after NEW-ORDER rows"),
         Condition::Third => counts("", "span of NO_O_ID", "NEW-ORDER rows"),
         Condition::Fourth => counts("", "sum of O_OL_CNT", "ORDER-LINE rows"),
         Condition::Fifth => counts("", "lacks O_CARRIER_ID", "NEW-ORDER rows"),

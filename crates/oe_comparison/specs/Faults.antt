@@ -21,17 +21,17 @@ line_fault_text t line_fault.NoKey = codes "past line 4294967295 a row has no ke
 
 -- rows <count> behind <count> lines
 abbrev pub miscount_text : ℕ → ℕ → List ℕ
-miscount_text said line = codes "rows " ++ decimal said ++ codes " behind " ++ decimal (line - 1) ++ codes " lines"
+miscount_text said line = codes "rows " ++ decimal said ++ codes " after " ++ decimal (line - 1) ++ codes " lines"
 
 -- what is wrong with the line of that number
 abbrev pub wrong_text : Table → ℕ → Wrong → List ℕ
 wrong_text t line (wrong.NoRow fault) = line_fault_text t fault
-wrong_text t line wrong.NoRecord = codes "no record: a quote stands where none may, or a field holds a tab"
+wrong_text t line wrong.NoRecord = codes "no record: a quote where none is allowed, or a tab in a field"
 wrong_text t line wrong.TooLong = codes "more than 4096 bytes"
 wrong_text t line wrong.CarriageReturn = codes "ends in a carriage return; end lines in a line feed alone"
 wrong_text t line (wrong.Twice k) = codes "twice the key " ++ join_with_byte 32 (key_texts k)
 wrong_text t line (wrong.Miscount said) = miscount_text said line
-wrong_text t line wrong.PastCount = codes "stands behind the count of rows"
+wrong_text t line wrong.PastCount = codes "comes after the count of rows"
 
 -- <table> line <number>: <what is wrong>
 abbrev pub fault_line : TableFault → List ℕ

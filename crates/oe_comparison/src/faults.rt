@@ -60,7 +60,7 @@ fn miscount(out: &mut Pending, said: u64, line: u64)
 {
     text(out, b"rows ");
     number(out, said);
-    text(out, b" behind ");
+    text(out, b" after ");
     number(out, line.saturating_sub(1));
     text(out, b" lines");
 }
@@ -77,7 +77,7 @@ fn wrong(out: &mut Pending, fault: &TableFault)
         Wrong::NoRecord => {
             text(
                 out,
-                b"no record: a quote stands where none may, or a field holds a tab",
+                b"no record: a quote where none is allowed, or a tab in a field",
             );
         }
         Wrong::TooLong => text(out, b"more than 4096 bytes"),
@@ -92,7 +92,7 @@ fn wrong(out: &mut Pending, fault: &TableFault)
             columns(out, key, b' ');
         }
         Wrong::Miscount(said) => miscount(out, *said, fault.line),
-        Wrong::PastCount => text(out, b"stands behind the count of rows"),
+        Wrong::PastCount => text(out, b"comes after the count of rows"),
     }
 }
 

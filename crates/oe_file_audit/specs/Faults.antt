@@ -72,7 +72,7 @@ wrong_by t shown (wrong.Layout (layout.Twice n)) =
     codes "twice the column " ++ name_at t n ++ codes " in" ++ shown_text shown
 wrong_by t shown (wrong.Layout (layout.Fields n)) = decimal n ++ codes " fields, and no heading:" ++ shown_text shown
 wrong_by t shown wrong.TooLong = codes "more than 65536 bytes"
-wrong_by t shown wrong.PastEnd = codes "behind the end of the rows:" ++ shown_text shown
+wrong_by t shown wrong.PastEnd = codes "after the end of the rows:" ++ shown_text shown
 wrong_by t shown (wrong.Miscount n) = codes "not the number of rows:" ++ shown_text shown
 wrong_by t shown wrong.NotEnded = codes "the end of its section is missing"
 
@@ -116,4 +116,4 @@ abbrev pub lack_line : Lack → List ℕ
 lack_line (lack.Rows t) = name_of t ++ codes ": no row\n"
 lack_line (lack.Room t) = name_of t ++ codes ": more than 4294967295 rows\n"
 lack_line lack.Initial =
-    codes "customers come behind orders: --initial N says how many orders districts had\n"
+    codes "customers come after orders: --initial N says how many orders districts had\n"

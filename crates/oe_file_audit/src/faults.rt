@@ -182,7 +182,7 @@ fn wrong(out: &mut Pending, fault: &SourceFault)
         }
         Wrong::TooLong => text(out, b"more than 65536 bytes"),
         Wrong::PastEnd => {
-            text(out, b"behind the end of the rows:");
+            text(out, b"after the end of the rows:");
             shown(out, fault.text.as_slice());
         }
         Wrong::Miscount(_) => {
@@ -340,7 +340,7 @@ fn lacking(out: &mut Pending, lack: Lack)
         }
         Lack::Initial => text(
             out,
-            b"customers come behind orders: --initial N says how many orders districts had\n",
+            b"customers come after orders: --initial N says how many orders districts had\n",
         ),
     }
 }

@@ -101,19 +101,19 @@ pub(crate) fn of_script() -> [Argument; 5] {
             "E",
             "extents",
             Takes::Number(2, 4_096),
-            "Undo extents behind --from, 2 to 4096",
+            "Undo extents after --from, 2 to 4096",
         ),
         option(
             "L",
             "layout",
             Takes::Number(1, 2),
-            "Layout of undo records behind --from, 1 or 2",
+            "Layout of undo records after --from, 1 or 2",
         ),
         Argument {
             name: "FILE",
             place: Place::Free,
             takes: Takes::Word,
-            help: "The script; standard input where it is left out",
+            help: "The script; without it standard input",
         },
     ]
 }
@@ -171,10 +171,7 @@ pub(crate) fn of_drive() -> [Argument; 2] {
             Takes::Word,
             "Writes the commits in their order, for serial FILE",
         ),
-        flag(
-            "busy",
-            "Tells on standard error which locks were in the way",
-        ),
+        flag("busy", "Shows on standard error which locks were busy"),
     ]
 }
 
@@ -203,7 +200,7 @@ pub(crate) fn of_load() -> [Argument; 5] {
             "Begins with each terminal's R-th request, 1 to 1000000000",
         ),
         flag("flat", "Prints one request a line, for another engine"),
-        flag("busy", "Prints a table of what was in the script's way"),
+        flag("busy", "Prints how terminals met in the script"),
     ]
 }
 

@@ -120,4 +120,4 @@ range_line c = codes "  " ++ name_with_blanks (shown_word c) ++ range_text c ++ 
 unfoldable pub forms_text : List ℕ
 forms_text =
     codes "\nThe forms of a script's lines, with their columns in capitals:\n\n" ++ flat_map form_line forms
-    ++ codes "\nWhat stands in each column:\n\n" ++ flat_map range_line columns_with_range
+    ++ codes "\nWhat each column holds:\n\n" ++ flat_map range_line columns_with_range

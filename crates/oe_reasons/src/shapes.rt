@@ -320,6 +320,6 @@ pub fn list_forms(out: &mut Pending)
         b"\nThe forms of a script's lines, with their columns in capitals:\n\n",
     );
     form_lines(out, &FORMS);
-    text(out, b"\nWhat stands in each column:\n\n");
+    text(out, b"\nWhat each column holds:\n\n");
     range_lines(out, &RANGED);
 }
