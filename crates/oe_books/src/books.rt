@@ -156,14 +156,17 @@ impl Books {
             initial: _,
             warehouses,
             districts,
-            customers: _,
+            customers,
             histories,
             new_orders,
-            orders: _,
-            lines: _,
+            orders,
+            lines,
             items,
             stocks,
         } = other;
+        drop(customers);
+        drop(orders);
+        drop(lines);
         let in_warehouses = self.warehouses.take_all(warehouses);
         let in_districts = self.districts.take_all(districts);
         let in_histories = self.histories.take_all(histories);
@@ -189,7 +192,7 @@ impl Books {
         ensures refused { IsLost other → IsNone result }
     {
         if other.is_lost {
-            other.discard();
+            drop(other);
             self.is_lost = true;
             return None;
         }

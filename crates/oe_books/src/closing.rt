@@ -140,10 +140,6 @@ impl Books {
         Some(each)
     }
 
-    // Gives the books up. Each way out that drops them costs its check a minute, so that one does.
-    #[inline(never)]
-    pub(crate) fn discard(self) {}
-
     /// Closes the books behind the last row. Where memory is refused, or was before, they are lost.
     pub fn close(mut self, alloc: Global) -> Result<Closed, AllocError>
         ensures closed { (given : Option ℕ) (t : Facts) → Keeps given t self
@@ -151,23 +147,23 @@ impl Books {
         ensures lost { IsLost self → IsErr result }
     {
         if self.is_lost {
-            self.discard();
+            drop(self);
             return Err(AllocError);
         }
         if let Some(lack) = self.lack() {
-            self.discard();
+            drop(self);
             return Ok(Closed::Lacking(lack));
         }
         self.begin();
         self.settle();
         let Some(each) = self.customers_each() else {
-            self.discard();
+            drop(self);
             return Ok(Closed::Lacking(Lack::Initial));
         };
         let delivered = match deliveries(alloc, &self.orders.kept, &self.lines.kept.sums) {
             Ok(delivered) => delivered,
             Err(refused) => {
-                self.discard();
+                drop(self);
                 return Err(refused);
             }
         };
