@@ -103,18 +103,6 @@ fn report<W: Outlet>(
     }
 }
 
-// Gives up settled books, as `Entered::discard` does.
-#[inline(never)]
-fn discard(settled: Settled) {
-    let _ended = settled;
-}
-
-// Gives up what was compared.
-#[inline(never)]
-fn give_up(compared: Compared) {
-    let _ended = compared;
-}
-
 // Judges the rows of books.
 fn judge_books<W: Outlet>(
     alloc: Global,
@@ -134,7 +122,7 @@ fn judge_books<W: Outlet>(
     match books.close(alloc) {
         Ok(Closed::Settled(settled)) => {
             let reported = report(alloc, options, asked, &settled, compared, writer);
-            discard(settled);
+            drop(settled);
             reported
         }
         Ok(Closed::Lacking(lack)) => Ok(Verdict::Lacking(lack)),
@@ -162,7 +150,7 @@ fn judge_sound<W: Outlet>(
     } = earlier;
     let compared = Compared::of(before, traces);
     let judged = judge_books(alloc, options, asked, books, &compared, writer);
-    give_up(compared);
+    drop(compared);
     judged
 }
 
@@ -182,8 +170,8 @@ fn judge<W: Outlet>(
 {
     let Spelled { entered, faults } = spelled;
     if any_fault(&faults) {
-        entered.discard();
-        earlier.discard();
+        drop(entered);
+        drop(earlier);
         return Ok(Verdict::Unreadable(faults));
     }
     judge_sound(alloc, options, earlier, entered, writer)
@@ -214,7 +202,7 @@ fn audit_tables_behind<R: Threads + Sync, S: Read + Drop + Send, W: Outlet>(
     ) {
         Ok(spelled) => judge(alloc, options, earlier, spelled, writer),
         Err(unread) => {
-            earlier.discard();
+            drop(earlier);
             Err(AuditFault::Unread(unread))
         }
     }
@@ -259,7 +247,7 @@ fn audit_dump_behind<S: Read + Drop, W: Outlet>(
     match read_one(alloc, options.initial, earlier.wanted(), source) {
         Ok(spelled) => judge(alloc, options, earlier, spelled, writer),
         Err(unread) => {
-            earlier.discard();
+            drop(earlier);
             Err(AuditFault::Unread(unread))
         }
     }

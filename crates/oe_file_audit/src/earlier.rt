@@ -52,10 +52,6 @@ impl Earlier {
             Asked::Earlier => Wanted::Prints,
         }
     }
-
-    // Gives up what is kept.
-    #[inline(never)]
-    pub(crate) fn discard(self) {}
 }
 
 // Tells whether a line of a source can't be read.
@@ -77,7 +73,7 @@ fn kept(spelled: Spelled) -> EarlierRead
 {
     let Spelled { entered, faults } = spelled;
     if any_fault(&faults) {
-        entered.discard();
+        drop(entered);
         return EarlierRead::Faulty(faults);
     }
     EarlierRead::Sound(Earlier {

@@ -92,22 +92,19 @@ impl Entered {
         match both.books.append_apart(books).and(printed) {
             Some(()) => Some(both),
             None => {
-                both.discard();
+                drop(both);
                 None
             }
         }
     }
-
-    // Gives up the books. Each way out that drops them costs its check a minute: one does.
-    #[inline(never)]
-    pub(crate) fn discard(self) {}
 
     // Gives up the books, and keeps what is compared with later rows.
     #[inline(never)]
     pub(crate) fn into_traces(self) -> Traces
         ensures { result ≡ self.traces }
     {
-        let Entered { books: _, traces } = self;
+        let Entered { books, traces } = self;
+        drop(books);
         traces
     }
 }
@@ -131,7 +128,7 @@ fn with_source(faults: Vec<Faults>, taken: Taken<Entered>) -> Option<Spelled>
     } = taken;
     let mut faults = faults;
     if faults.push(told).is_err() {
-        ledger.discard();
+        drop(ledger);
         return None;
     }
     Some(Spelled {
@@ -151,16 +148,6 @@ impl Spelled {
             faults: Vec::new(alloc),
         }
     }
-
-    // Gives up what was read.
-    #[inline(never)]
-    fn discard(self) {}
-}
-
-// Gives up what a source spells.
-#[inline(never)]
-fn give_up(taken: Result<Taken<Entered>, Unread>) {
-    let _ended = taken;
 }
 
 // Reads the source of a table, behind those that were read.
@@ -247,14 +234,14 @@ fn put_behind(
     let so_far = match so_far {
         Ok(so_far) => so_far,
         Err(unread) => {
-            give_up(own);
+            drop(own);
             return Err(unread);
         }
     };
     let taken = match own {
         Ok(taken) => taken,
         Err(unread) => {
-            so_far.discard();
+            drop(so_far);
             return Err(unread);
         }
     };
