@@ -42,10 +42,15 @@ pub fn refusal<S: AsStr>(alloc: Global, words: &[S]) -> Error {
 /// Says why the words ask for no task, or that memory was refused.
 fn explained<S: AsStr>(alloc: Global, words: &[S]) -> Result<Error, Error> {
     let mut command = grammar(alloc, words)?;
-    match command.try_get_matches_from_mut(words) {
-        Ok(_) => Ok(command.error(ErrorKind::ValueValidation, what_else(words))?),
+    let said = match command.try_get_matches_from_mut(words) {
+        Ok(matches) => {
+            drop(matches);
+            command.error(ErrorKind::ValueValidation, what_else(words))
+        }
         Err(error) => Ok(error),
-    }
+    };
+    drop(command);
+    Ok(said?)
 }
 
 /// Finds the verb of that name.
@@ -89,18 +94,43 @@ fn what_else<S: AsStr>(words: &[S]) -> &'static str {
 
 /// Makes the grammar of these words' command line.
 fn grammar<'a, S: AsStr>(alloc: Global, words: &[S]) -> Result<Command<'a>, Error> {
-    let command = Command::new(alloc, "oe_server")
+    let script = with(alloc, command(alloc, "script", SCRIPT), &of_script());
+    let whole = joined(Ok(program(alloc)), script);
+    let serial = with(alloc, command(alloc, "serial", SERIAL), &of_serial());
+    let whole = joined(whole, serial);
+    let whole = joined(whole, drive_grammar(alloc));
+    let audit = with(alloc, command(alloc, "audit", AUDIT), &of_audit());
+    let whole = joined(whole, audit);
+    joined(whole, load_grammar(alloc, words))
+}
+
+/// Makes the program's command, without the commands of its verbs.
+fn program<'a>(alloc: Global) -> Command<'a> {
+    Command::new(alloc, "oe_server")
         .about(ABOUT)
         .version(VERSION)
         .override_usage(USAGE)
         .after_help(FORMS)
         .subcommand_required(true)
-        .subcommand(with(alloc, command(alloc, "script", SCRIPT), &of_script())?)?
-        .subcommand(with(alloc, command(alloc, "serial", SERIAL), &of_serial())?)?
-        .subcommand(drive_grammar(alloc)?)?
-        .subcommand(with(alloc, command(alloc, "audit", AUDIT), &of_audit())?)?
-        .subcommand(load_grammar(alloc, words)?)?;
-    Ok(command)
+}
+
+/// Adds a verb's command to the program's, or gives the first error. It takes results, so that its
+/// caller has no way out that drops a command.
+fn joined<'a>(
+    whole: Result<Command<'a>, Error>,
+    verb: Result<Command<'a>, Error>,
+) -> Result<Command<'a>, Error> {
+    match (whole, verb) {
+        (Ok(whole), Ok(verb)) => Ok(whole.subcommand(verb)?),
+        (Err(error), verb) => {
+            drop(verb);
+            Err(error)
+        }
+        (Ok(whole), Err(error)) => {
+            drop(whole);
+            Err(error)
+        }
+    }
 }
 
 /// Adds arguments to a command, in their order.
