@@ -2,9 +2,9 @@
 ghost use Rattle.std.specs.Prelude.{◌≡◌, ℕ};
 ghost use Rattle.oe_rows.specs.Credit.{credit_entry};
 ghost use Rattle.oe_formulas.specs.Checks.{row_in_ranges, row_with, with_warehouse_ytd, with_district_ytd, paid_with, credit_ids};
-ghost use Rattle.oe_model.specs.Payment.{paid_warehouse, paid_warehouse_out, paid_district, paid_district_out, paid_customer, paid_customer_out, history_data, history_row, history_key, paid_reply};
+ghost use Rattle.oe_model.specs.Payment.{paid_warehouse, paid_warehouse_out, paid_district, paid_district_out, paid_customer, paid_customer_out, history_data, history_row, history_key};
 
-use oe_requests::{Column, PaymentReply, PaymentRequest};
+use oe_requests::{Column, PaymentRequest};
 use oe_rows::{
     Account, Credit, CreditIds, Customer, District, History, HistoryKey, Warehouse,
     bad_credit_data, credit_entry,
@@ -118,18 +118,5 @@ pub fn history_key(terminal: Terminal, number: TransactionNumber) -> HistoryKey
         terminal: HistoryTerminal::new(terminal.get()).unwrap(),
         number,
         ordinal: HistoryOrdinal::new(1).unwrap(),
-    }
-}
-
-/// Gives what a payment answers, of the customer with that number before it and the account after
-/// it.
-pub fn reply_with_account(number: CustomerNumber, row: &Customer, account: &Account) -> PaymentReply
-    ensures { result ≡ paid_reply number (record row.now { account = account.now }) }
-{
-    PaymentReply {
-        customer: number,
-        last: row.name.last.copied(),
-        credit: row.credit,
-        balance: account.balance,
     }
 }
