@@ -4,7 +4,7 @@ ghost use Rattle.std.specs.Prelude.{◌≡◌, ◌<◌, ◌≤◌, ◌+◌, ◌�
 ghost use Rattle.oe_log.specs.Records.{HasAddress, IsRecordAt};
 ghost use Rattle.oe_model.specs.System.{system, terminal_limit};
 ghost use Rattle.oe_theory.specs.Store.{Slot, count_slots};
-ghost use Rattle.oe_log.specs.Log.{count_at, active_at, records_at, open_total, commits_of, committed_records, owner_of, AreOfLayout};
+ghost use Rattle.oe_log.specs.Log.{count_at, active_at, records_at, open_total, commits_of, committed_records, owner_of};
 ghost use Rattle.oe_log.specs.Stands.{model_records, deleted_keys, rename_in, DeletesNothing};
 ghost use Rattle.oe_log.specs.Ticks.{ticks_with};
 
@@ -37,13 +37,6 @@ impl Log {
     /// for proofs above, which see no invariant.
     pub fn terminals_are(&self)
         ensures { length self.now.terminals ≡ suc TERMINALS }
-    {
-        let _known = &self.terminals;
-    }
-
-    /// States that each record is of the log's layout.
-    pub fn is_of_layout(&self)
-        ensures { AreOfLayout self.now }
     {
         let _known = &self.terminals;
     }
