@@ -18,14 +18,13 @@ use Rattle.oe_model.specs.Keys.{district_of_new_order, district_of_order, order_
 use Rattle.oe_model.specs.Rows.{Rows}
 use Rattle.oe_model.specs.Conditions.{new_orders_of, lines_asked, lines_there}
 use Rattle.oe_model.specs.Audits.{greatest, least, none_or, new_order_numbers}
-use Rattle.oe_model.specs.Delivery.{oldest}
 use Rattle.oe_model.proofs.MapFacts.{is_same}
 use Rattle.oe_model.proofs.EntryFacts.{EachOf, each_of, kept_at}
 use Rattle.oe_store.specs.Places.{entries_of}
 use Rattle.oe_audit.specs.Tests.{are_counted, lines_agree}
 use Rattle.oe_model.proofs.GroupFacts.{sum_of_group}
 use Rattle.oe_versions.proofs.ClimbFacts.{lower}
-use Rattle.oe_audit.proofs.NumberFacts.{Rises, Rise, has_no_gap, gaps_counted, least_first}
+use Rattle.oe_audit.proofs.NumberFacts.{Rises, Rise, has_no_gap, gaps_counted}
 
 left : (a b : Bool) → T (a && b) → T a
 left true b p = tt
@@ -94,15 +93,6 @@ module _ (r : Rows) (h : DistrictKey) where
   waiting_counted =
       length_mapped (number h) waiting ∙ sym (ones waiting)
       ∙ sym (sum_of_group new_order_total exact_new_order r.new_orders own (λ k x. 1))
-
-  -- the least NO_O_ID is the first row's
-  pub oldest_is : oldest h r.new_orders ≡ least (new_order_numbers h r.new_orders)
-  oldest_is = first_row waiting waiting_rise
-    where
-      first_row : (es : List (NewOrderKey × NewOrder)) → Rise (map (number h) es)
-          → elim es [ [] ↦ None | e ∷ ds ↦ Some e.0.order ] ≡ least (map (number h) es)
-      first_row [] t = refl
-      first_row (e ∷ es) t = sym (least_first e.0.order (map (number h) es) t)
 
   -- the third condition: the NO_O_IDs have no gap
   pub third_is : has_no_gap None (new_order_numbers h r.new_orders) ≡ are_counted r h

@@ -111,7 +111,7 @@ counted n (m ∷ ms) r = by_test (n == m - 1) refl (counted m ms r.1) (reaches m
         sym (ne_eqb (last m ms) (n + length (m ∷ ms)) (λ q. s (omega arith)))
 
 -- the first of numbers that rise is the least
-pub least_first : (n : ℕ) (ms : List ℕ) → Rises n ms → least (n ∷ ms) ≡ Some n
+least_first : (n : ℕ) (ms : List ℕ) → Rises n ms → least (n ∷ ms) ≡ Some n
 least_first n ms r =
     least_found (λ i. IsAmong i (n ∷ ms)) (n ∷ ms) (each_among_own (n ∷ ms)) (λ i k. k) n (first_is n ms r)
 

@@ -25,14 +25,6 @@ pub struct Ledger {
     pub(crate) paid: [u64; 3_000],
 }
 
-/// The sums of one customer, in cents: OL_AMOUNT of what was delivered, and H_AMOUNT of what the
-/// customer has paid.
-#[derive(Clone, Copy)]
-pub struct CustomerSums {
-    pub delivered: u64,
-    pub paid: u64,
-}
-
 /// Gives a sum of 0 for each C_ID.
 fn zeros() -> [u64; 3_000]
     ensures { (c : ℕ) → 1 ≤ c → c ≤ 3_000 → sum_for result c ≡ 0 }
@@ -171,20 +163,6 @@ impl Ledger {
         match &self.district {
             Some(own) => own == district,
             None => false,
-        }
-    }
-
-    /// Gives the sums of the customer with this C_ID in the ledger's district.
-    pub(crate) fn sums_of(&self, customer: CustomerNumber) -> CustomerSums
-        ensures low { 1 ≤ customer }
-        ensures high { customer ≤ 3_000 }
-        ensures delivered { result.delivered ≡ sum_for self.now.delivered customer }
-        ensures paid { result.paid ≡ sum_for self.now.paid customer }
-    {
-        let at = customer.get() as usize - 1;
-        CustomerSums {
-            delivered: self.delivered[at],
-            paid: self.paid[at],
         }
     }
 

@@ -4,16 +4,14 @@
 #![tactic(auto)]
 
 mod as_of;
-pub mod at_rows;
 pub mod conditions;
 mod customers;
 mod districts;
-pub mod ledgers;
+mod ledgers;
 mod orders;
 mod payments;
 pub mod populations;
 mod warehouses;
 
 pub use conditions::{condition, condition_at};
-pub use ledgers::{CustomerSums, Ledger};
 pub use populations::is_population;
