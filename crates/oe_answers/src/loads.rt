@@ -11,6 +11,7 @@ ghost use Rattle.oe_answers.specs.Statuses.{load_status, following_status};
 use crate::endings::{Aim, Output, fail};
 use crate::nine::{closed_status, no_population};
 use oe_command_line::LoadOptions;
+use oe_core::Core;
 use oe_file_loading::{Sources, TableFile};
 use oe_file_tables::Format;
 use oe_from::{Following, FollowingFault, FromFault, run_load_from, write_gap};
@@ -56,7 +57,7 @@ pub fn answer_load<R: Eprint + AllocGlobal, W: Output>(
         (W.sink writer.old) (W.sink writer.new)) load_status result }
 {
     let plan = &plan_of(numbers, options);
-    let answer = run_load(rt.alloc(), plan, Origin::Population, options.form, writer);
+    let answer = run_load::<Core, W>(rt.alloc(), plan, Origin::Population, options.form, writer);
     tell(rt, &answer, writer)
 }
 

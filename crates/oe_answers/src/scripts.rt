@@ -9,6 +9,7 @@ ghost use Rattle.oe_answers.specs.Statuses.{script_status, script_from_status};
 
 use crate::endings::{Aim, Output, fail};
 use crate::nine::{closed_status, no_population};
+use oe_core::Core;
 use oe_explain::{Explainer, explain_script};
 use oe_file_loading::{Sources, TableFile};
 use oe_file_tables::Format;
@@ -64,7 +65,7 @@ pub fn script<R: Eprint + AllocGlobal, I: Intake, W: Output>(
 {
     match input {
         Ok(reader) => {
-            let answer = run_script(rt.alloc(), reader, writer);
+            let answer = run_script::<Core, I, W>(rt.alloc(), reader, writer);
             tell(rt, &answer, writer)
         }
         Err(cause) => unopened(rt, name, cause),
@@ -86,7 +87,7 @@ pub fn explain<R: Eprint + AllocGlobal, I: Intake, W: Output, E: Outlet>(
 {
     match input {
         Ok(reader) => {
-            let answer = explain_script(rt.alloc(), reader, writer, explainer);
+            let answer = explain_script::<Core, I, W, E>(rt.alloc(), reader, writer, explainer);
             tell(rt, &answer, writer)
         }
         Err(cause) => unopened(rt, name, cause),

@@ -22,7 +22,8 @@ use Rattle.oe_model.proofs.EntryFacts.{EachOf, each_of, entries_at, row_among}
 use Rattle.oe_model.proofs.ListFacts.{each_among}
 use Rattle.oe_model.proofs.PresenceFacts.{some_present, present_some}
 use Rattle.oe_model.proofs.VerdictFacts.{verdicts_are_exact}
-use Rattle.oe_audit.specs.Verdict.{AreMet, verdict_of}
+use Rattle.oe_machine.specs.Verdict.{verdict_of}
+use Rattle.oe_audit.specs.Verdict.{AreMet}
 
 each_passes : {A : Type 0} (p : A → Bool) (xs : List A) → list_all p xs ≡ true → EachOf (λ x. p x ≡ true) xs
 each_passes p [] e = tt

@@ -6,7 +6,8 @@ ghost use Rattle.oe_model.specs.Conditions.{IsPopulation};
 ghost use Rattle.oe_model.specs.PopulationTest.{each_row, has_stocks};
 ghost use Rattle.oe_model.specs.Verdicts.{IsMet};
 ghost use Rattle.oe_store.specs.Places.{rows};
-ghost use Rattle.oe_audit.specs.Verdict.{AreMet, condition_of};
+ghost use Rattle.oe_machine.specs.Verdict.{condition_of};
+ghost use Rattle.oe_audit.specs.Verdict.{AreMet};
 ghost use Rattle.oe_audit.specs.Tests.{stocks_each_item};
 
 use crate::conditions::condition;

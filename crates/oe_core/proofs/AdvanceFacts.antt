@@ -53,7 +53,7 @@ use Rattle.oe_engine.specs.Programs.{WantsMemory, IsStageRefusal}
 use Rattle.oe_engine.proofs.ReplyFacts.{ready_at}
 use Rattle.oe_core.specs.Core.{CoreState, in_slot, reply_left, last_reply, work_at, slot_of, open_at, store_with}
 use Rattle.oe_core.specs.Core.{store_of, world_of, IsOrderly, Moves, keeps_open}
-use Rattle.oe_core.specs.Steps.{refusal_in, Carries}
+use Rattle.oe_machine.specs.Steps.{refusal_in, Carries}
 use Rattle.oe_core.specs.Works.{WorkState, HoldsTaken, Recalls, work_after_stage}
 use Rattle.oe_model.specs.Positions.{Position}
 use Rattle.oe_core.proofs.KeepFacts.{unchanged}

@@ -10,8 +10,8 @@ use Rattle.oe_locks.specs.Listed.{stands}
 use Rattle.oe_model.specs.Rows.{Rows}
 use Rattle.oe_model.specs.System.{system, ask}
 use Rattle.oe_engine.specs.View.{view_of, Handle, IsOpen}
-use Rattle.oe_engine.specs.Programs.{lock_asked}
-use Rattle.oe_core.specs.Asks.{wanted_of, wanted_by, held_of, held_by}
+use Rattle.oe_locks.specs.Holds.{lock_asked}
+use Rattle.oe_machine.specs.Asks.{wanted_of, wanted_by, held_of, held_by}
 use Rattle.oe_core.specs.Core.{CoreState, in_slot, work_of, slot_of, open_at, world_of, Works, IsOrderly}
 use Rattle.oe_core.specs.Works.{WorkState}
 use Rattle.oe_core.proofs.AuditFacts.{tables_are}

@@ -12,12 +12,12 @@ use Rattle.oe_theory.proofs.StoreTheorems.{newest_here}
 use Rattle.oe_model.specs.Audits as model
 use Rattle.oe_model.specs.System.{system, terminal_limit}
 use Rattle.oe_model.proofs.SystemLaws.{laws}
-use Rattle.oe_audit.specs.Verdict.{condition_of}
+use Rattle.oe_machine.specs.Verdict.{condition_of}
 use Rattle.oe_engine.specs.View.{view_from, view_of}
 use Rattle.oe_log.specs.Moments.{IsKeptMoment, IsUnkept}
 use Rattle.oe_versions.specs.Versions.{VersionState, rows_of}
 use Rattle.oe_core.specs.Core.{CoreState, store_of, world_of, IsOrderly}
-use Rattle.oe_core.specs.Steps.{refusal_in}
+use Rattle.oe_machine.specs.Steps.{refusal_in}
 use Rattle.oe_core.proofs.MoveFacts.{standing, the_steps}
 use Rattle.oe_core.proofs.LentFacts.{IsLent}
 

@@ -18,7 +18,7 @@ use Rattle.oe_model.specs.System.{system}
 use Rattle.oe_engine.specs.View.{view_of}
 use Rattle.oe_engine.specs.Calls.{CantBegin}
 use Rattle.oe_core.specs.Core.{CoreState, in_slot, slot_of, open_at, store_of, IsOrderly, Moves}
-use Rattle.oe_core.specs.Steps.{refusal_in}
+use Rattle.oe_machine.specs.Steps.{refusal_in}
 use Rattle.oe_core.proofs.MoveFacts.{standing, stays, the_steps, has_work, is_shut, below_limit}
 
 -- a request that is turned away

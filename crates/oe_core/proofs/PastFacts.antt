@@ -16,7 +16,7 @@ use Rattle.oe_engine.specs.View as engine
 use Rattle.oe_engine.specs.Calls.{newest, horizon, IsQuiet, CantRewind, after_purge, after_rewind}
 use Rattle.oe_core.specs.Core.{CoreState, in_slot, work_of, work_at, open_at, store_with, store_of, Works, IsOrderly}
 use Rattle.oe_core.specs.Core.{Moves}
-use Rattle.oe_core.specs.Steps.{refusal_in}
+use Rattle.oe_machine.specs.Steps.{refusal_in}
 use Rattle.oe_core.specs.Works.{WorkState}
 use Rattle.oe_core.proofs.MoveFacts.{standing, closed, stays, the_steps, same_parts, no_tx, is_shut, tx_still}
 

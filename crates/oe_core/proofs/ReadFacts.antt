@@ -27,7 +27,7 @@ use Rattle.oe_engine.specs.View.{view_of, view_from}
 use Rattle.oe_log.specs.Moments.{IsKeptMoment, IsUnkept, horizon, newest}
 use Rattle.oe_versions.specs.Versions.{VersionState, rows_of}
 use Rattle.oe_core.specs.Core.{CoreState, store_of, IsOrderly, Moves}
-use Rattle.oe_core.specs.Steps.{refusal_in}
+use Rattle.oe_machine.specs.Steps.{refusal_in}
 use Rattle.oe_core.proofs.MoveFacts.{standing, stays, the_steps}
 use Rattle.oe_core.proofs.LentFacts.{IsLent}
 

@@ -1,6 +1,6 @@
 -- What a core stores, and the world that it stands for.
-use Rattle.std.specs.Prelude.{◌≡◌, ℕ, suc, Bool, true, false, List, Option, None, Some, Result, Ok, Err, length, get_or}
-use Rattle.oe_theory.specs.World.{World, set}
+use Rattle.std.specs.Prelude.{◌≡◌, ℕ, suc, Bool, true, false, List, Option, None, Some, length, get_or}
+use Rattle.oe_theory.specs.World.{World}
 use Rattle.oe_theory.specs.Next.{Next, Step}
 use Rattle.oe_theory.specs.Next as next
 use Rattle.oe_theory.specs.Store.{Slot, Store}
@@ -10,16 +10,12 @@ use Rattle.oe_values.specs.declared.numbers.TheConstants.{TERMINALS}
 use Rattle.oe_requests.specs.declared.refusals.Refusal.{Refusal}
 use Rattle.oe_requests.specs.declared.refusals.Refusal.TheVariants as refusal
 use Rattle.oe_requests.specs.declared.replies.Reply.{Reply}
-use Rattle.oe_requests.specs.declared.answers.Answer.{Answer}
-use Rattle.oe_requests.specs.declared.answers.Answer.TheVariants as answer
 use Rattle.oe_model.specs.System.{system}
 use Rattle.oe_engine.specs.View.{View, view_of, Handle, IsOpen}
 use Rattle.oe_engine.specs.View as engine
 use Rattle.oe_engine.specs.Calls.{after_rollback}
 use Rattle.oe_engine.specs.Programs.{reply_at}
 use Rattle.oe_core.specs.Works.{WorkState}
-use Rattle.oe_core.specs.declared.advances.Advanced.{Advanced}
-use Rattle.oe_core.specs.declared.advances.Advanced.TheVariants as advanced
 
 -- the engine, the open transactions in the slots of their terminals, and what lies there for them to carry out
 pub record CoreState : Type 0 where
@@ -48,21 +44,6 @@ reply_left None (Some w) = reply_at w.position
 -- the reply of a terminal's last transaction, if it committed
 abbrev pub last_reply : CoreState → ℕ → Option Reply
 last_reply s t = reply_left (in_slot s.txs t) (in_slot s.works t)
-
--- what an Advance of terminal t makes of the last replies: a commit brings its own
-abbrev pub RepliesAfter : ℕ → Advanced → (ℕ → Option Reply) → (ℕ → Option Reply) → Type 0
-RepliesAfter t (advanced.Committed m) old new = new ≡ set t (new t) old
-RepliesAfter t r old new = new ≡ old
-
--- what a Begin makes of them
-abbrev pub RepliesBegun : ℕ → Result (Unit {0}) Refusal → (ℕ → Option Reply) → (ℕ → Option Reply) → Type 0
-RepliesBegun t (Ok x) old new = new ≡ set t None old
-RepliesBegun t (Err e) old new = new ≡ old
-
--- what a Rollback makes of them
-abbrev pub RepliesWithout : ℕ → Answer → (ℕ → Option Reply) → (ℕ → Option Reply) → Type 0
-RepliesWithout t answer.RolledBack old new = new ≡ set t None old
-RepliesWithout t x old new = new ≡ old
 
 -- an open transaction of terminal t, as the theory stores it
 abbrev pub slot_of : View → ℕ → WorkState → Slot system

@@ -4,7 +4,7 @@
 //! `open` and `begin`, and to an advance.
 ghost use Rattle.std.specs.Prelude.{◌≡◌, ◌↔◌, IfOk, IfSome, IsSome, None, is_some, suc, option_map};
 ghost use Rattle.oe_theory.specs.World.{horizon, latest, newest, tables, total};
-ghost use Rattle.oe_theory.specs.Next.{Next, IsQuiet, count_open};
+ghost use Rattle.oe_theory.specs.Next.{IsQuiet, count_open};
 ghost use Rattle.oe_theory.specs.Theorems.{world_at_opening, IsReached};
 ghost use Rattle.oe_rows.specs.declared.locks.Name.{Name};
 ghost use Rattle.oe_requests.specs.Reply.{told_reply};
@@ -16,21 +16,23 @@ ghost use Rattle.oe_model.specs.System.{system, terminal_limit};
 ghost use Rattle.oe_store.specs.Places.{rows};
 ghost use Rattle.oe_engine.specs.View.{view_of, IsOpen};
 ghost use Rattle.oe_engine.specs.Calls.{after_commit, after_rollback};
-ghost use Rattle.oe_engine.specs.Programs.{hold_of, reply_at};
-ghost use Rattle.oe_core.specs.Steps.{step_in, answer_in, Carries, begin_answer, Advances};
-ghost use Rattle.oe_core.specs.Asks.{held_by, wanted_by};
-ghost use Rattle.oe_core.specs.Core.{world_of, last_reply, keeps_open, RepliesBegun, RepliesAfter, RepliesWithout, IsEndable, IsEnded};
+ghost use Rattle.oe_locks.specs.Holds.{hold_of};
+ghost use Rattle.oe_engine.specs.Programs.{reply_at};
+ghost use Rattle.oe_machine.specs.Steps.{Carries, begin_answer, Advances};
+ghost use Rattle.oe_machine.specs.Asks.{held_by, wanted_by};
+ghost use Rattle.oe_machine.specs.Replies.{RepliesBegun, RepliesAfter, RepliesWithout};
+ghost use Rattle.oe_core.specs.Core.{world_of, last_reply, keeps_open, IsEndable, IsEnded};
 
-use crate::advances::Advanced;
 use crate::slots::{begin_work, empty_places, end_work, open_tx, put_tx, take_tx};
 use crate::works::Work;
 use oe_admission::{ranges_hold, rejection};
 use oe_engine::{Engine, Progress, Tx};
+use oe_locks::Lock;
+use oe_machine::Advanced;
 use oe_requests::{Answer, Condition, Query, Refusal, ReplyRef, Request, Step};
 use oe_rows::{Layout, Mode, Name};
 use oe_store::Tables;
 use oe_values::{ExtentCount, Moment, NoMemory, PerTerminal, Terminal};
-use oe_writes::Lock;
 use std::alloc::Global;
 use std::marker::Model;
 
@@ -178,30 +180,6 @@ impl Core {
         let _known = &self.engine;
     }
 
-    /// Carries out one step, and answers it.
-    ///
-    /// A refusal has changed nothing, but for one of an Advance that is none of `Busy`, `UndoFull`,
-    /// `NoMemory` and `NotOpen`: that one has rolled its transaction back.
-    // In its callers, so that an answer is not copied from layer to layer.
-    #[inline(always)]
-    pub fn step(&mut self, step: Step) -> Answer
-        ensures serves { Next system (world_of self.old) (step_in step) (answer_in step result)
-            (world_of self.new) }
-        ensures reached { IsReached system (world_of self.new) }
-    {
-        match step {
-            Step::Begin(terminal, request) => self.answer_begin(terminal, &request),
-            Step::Advance(terminal) => self.answer_advance(terminal),
-            Step::Save(terminal) => self.save(terminal),
-            Step::Back(terminal) => self.back(terminal),
-            Step::Rollback(terminal) => self.rollback(terminal),
-            Step::Audit(condition, moment) => self.audit(condition, moment),
-            Step::Read(moment, query) => self.read(moment, &query),
-            Step::Purge(moment) => self.purge(moment),
-            Step::Rewind(moment) => self.rewind(moment),
-        }
-    }
-
     /// Rolls back what is open, and gives the tables: the newest version.
     pub fn close(self) -> Tables
         ensures { rows result ≡ latest system (world_of self) }
@@ -266,32 +244,6 @@ impl Core {
                 Err(cause) => Answer::Refused(cause),
             },
             Err(cause) => Answer::Refused(cause),
-        }
-    }
-
-    // A Begin, and its answer.
-    fn answer_begin(&mut self, terminal: Terminal, request: &Request) -> Answer
-        ensures { Carries (world_of self.old) (Step.Begin terminal request.now) result
-            (world_of self.new) }
-    {
-        match self.begin(terminal, request) {
-            Ok(()) => Answer::Begun,
-            Err(refusal) => Answer::Refused(refusal),
-        }
-    }
-
-    // An Advance, and its answer, with the reply.
-    fn answer_advance(&mut self, terminal: Terminal) -> Answer
-        ensures { Carries (world_of self.old) (Step.Advance terminal) result (world_of self.new) }
-    {
-        match self.advance(terminal) {
-            Advanced::More => Answer::More,
-            Advanced::Committed(moment) => match self.last_reply(terminal) {
-                Some(reply) => Answer::Committed(moment, reply.copied()),
-                None => unreachable!(),
-            },
-            Advanced::Kept(refusal) => Answer::Refused(refusal),
-            Advanced::RolledBack(refusal) => Answer::Refused(refusal),
         }
     }
 

@@ -12,11 +12,10 @@
 //! ```
 #![tactic(auto)]
 
-pub mod advances;
 pub mod cores;
 pub mod crossing;
+mod machine;
 mod slots;
 mod works;
 
-pub use advances::Advanced;
 pub use cores::Core;

@@ -10,17 +10,18 @@ ghost use Rattle.oe_engine.specs.View.{IsOpen, view_of};
 ghost use Rattle.oe_theory.specs.Machine as theory;
 ghost use Rattle.oe_model.specs.System.{ask};
 ghost use Rattle.oe_store.specs.Places.{rows};
-ghost use Rattle.oe_engine.specs.Programs.{Progresses, hold_of, reply_at, lock_asked};
+ghost use Rattle.oe_locks.specs.Holds.{hold_of, lock_asked};
+ghost use Rattle.oe_engine.specs.Programs.{Progresses, reply_at};
 ghost use Rattle.oe_delivery.specs.Deliveries.{place_of, HoldsNames};
 ghost use Rattle.oe_core.specs.Works.{work_at_begin, state_of, HoldsTaken, Recalls, Leaves};
 
 use oe_engine::{Engine, Progress, Savepoint, Tx};
+use oe_locks::Lock;
 use oe_requests::{
     DeliveriesRequest, DeliveryRequest, NewOrderRequest, PaymentRequest, RenameRequest, Reply,
     ReplyRef, Request,
 };
 use oe_store::Tables;
-use oe_writes::Lock;
 use std::marker::Model;
 use std::snapshot::Snapshot;
 

@@ -13,6 +13,6 @@ use Rattle.oe_admission.specs.Programs.{IsLive}
 
 pub opened_is_live : (c : CoreState) (r : Rows) (n : ℕ) → world_of c ≡ world_at_opening system r n WholeRows
     → IsPopulation r
-    → IsLive (state_of (Some c))
+    → IsLive (state_of world_of (Some c))
 opened_is_live c r n e p = subst (λ w. IsLive (Some w)) (sym e)
     (opening_is_reached system laws r n WholeRows (population_is_good r p), λ t. tt)

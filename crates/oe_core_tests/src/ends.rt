@@ -4,6 +4,7 @@
 use crate::made::history_key;
 use crate::planted::Planted;
 use crate::sessions::{Said, is_answered, session_on, sums};
+use oe_core::Core;
 use oe_script::session::Session;
 use std::alloc::Global;
 use std::process::Abort;
@@ -262,7 +263,7 @@ const CASES: [Case; 16] = [
 
 /// Tells whether terminal 3 has a HISTORY row of its transaction of that number, and none of the
 /// next.
-fn is_newest(session: &Session, number: u32) -> Option<bool> {
+fn is_newest(session: &Session<Core>, number: u32) -> Option<bool> {
     let own = history_key(3, number)?;
     let next = history_key(3, number.checked_add(1)?)?;
     match &session.core {

@@ -3,6 +3,7 @@
 //! on by `?`.
 ghost use Rattle.std.specs.Prelude.{None};
 
+use oe_core::Core;
 use oe_io::ports::{Failed, Intake, Outlet};
 use oe_script::script::run_script;
 use oe_script::session::ScriptFault;
@@ -106,7 +107,11 @@ fn run(alloc: Global, trial: &Trial) -> Option<[usize; 4]> {
         written: 0,
         is_beginning: true,
     };
-    let end = match run_script(alloc, &mut reader, &mut writer) {
+    let end = match run_script::<Core, FailingIntake, FailingOutlet>(
+        alloc,
+        &mut reader,
+        &mut writer,
+    ) {
         Ok(()) => WHOLE,
         Err(ScriptFault::Read) => READ,
         Err(ScriptFault::Write) => WRITE,
@@ -236,7 +241,7 @@ fn run_embedded(alloc: Global) -> anyhow::Result<()> {
         written: 0,
         is_beginning: true,
     };
-    run_script(alloc, &mut reader, &mut writer)?;
+    run_script::<Core, FailingIntake, FailingOutlet>(alloc, &mut reader, &mut writer)?;
     Ok(())
 }
 

@@ -3,7 +3,8 @@
 
 use crate::made::{district_key, payment, populated};
 use crate::sessions::{Nowhere, core_on};
-use oe_core::{Advanced, Core};
+use oe_core::Core;
+use oe_machine::Advanced;
 use oe_requests::{Answer, Request};
 use oe_rows::DistrictKey;
 use oe_script::listeners::Quiet;
@@ -37,7 +38,7 @@ fn core_goes_back(core: &mut Core, terminal: Terminal, request: &Request) -> boo
 
 /// Tells whether four lines are answered, each on a line of its own.
 fn session_answers(alloc: Global) -> bool {
-    let mut session = Session::new();
+    let mut session = Session::<Core>::new();
     let lines =
         b"open 2 10 20 64\nbegin 5 payment 2 7 1 3 9 250.00 2001-01-01T00:00:00\nnext 5\nrollback 5\n";
     let is_written = session

@@ -6,6 +6,7 @@ use crate::made::{district_key, payment, populated};
 use crate::sessions::sum_of;
 use oe_audit::is_population;
 use oe_core::Core;
+use oe_machine::Machine;
 use oe_requests::{
     Answer, Condition, CustomerChoice, NewOrderRequest, PaymentRequest, Refusal, Request,
     RequestLine, RequestLines, Step,

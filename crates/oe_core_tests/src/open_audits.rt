@@ -4,6 +4,7 @@
 use crate::planted::Planted;
 use crate::sessions::{Said, session_on, sums};
 use oe_audit::condition;
+use oe_core::Core;
 use oe_requests::{Condition, Verdict};
 use oe_script::session::Session;
 use std::alloc::Global;
@@ -191,7 +192,7 @@ const CASES: [Case; 12] = [
 ];
 
 /// Tells whether the condition holds as the tables stand.
-fn holds_now(session: &Session, number: Condition) -> Option<bool> {
+fn holds_now(session: &Session<Core>, number: Condition) -> Option<bool> {
     match &session.core {
         Some(core) => Some(condition(number, core.tables()) == Verdict::Holds),
         None => None,

@@ -1,5 +1,6 @@
 //! Sessions on tables that no script opens, whose lines are said all at once, and sums of dumps.
 ghost use Rattle.std.specs.Prelude.{None};
+ghost use Rattle.oe_core.specs.Core.{world_of};
 ghost use Rattle.oe_script.specs.Session.{state_of};
 ghost use Rattle.oe_admission.specs.Programs.{IsLive};
 
@@ -77,7 +78,7 @@ pub(crate) fn sum_of(tables: &Tables) -> u64 {
 
 /// Opens a core on these tables, which are a population, with 64 undo extents.
 pub(crate) fn core_on(rt: &impl Abort, alloc: Global, tables: Tables) -> Core
-    ensures { IsLive (state_of (Some result)) }
+    ensures { IsLive (state_of world_of (Some result)) }
 {
     let extents = ExtentCount::new(64).expect(rt, "extents");
     if !is_population(&tables) {
@@ -91,8 +92,8 @@ pub(crate) fn core_on(rt: &impl Abort, alloc: Global, tables: Tables) -> Core
 
 /// Opens a session on a population of ten customers a district and 20 items, in which these rows
 /// are changed.
-pub(crate) fn session_on(rt: &impl Abort, alloc: Global, planted: &[Planted]) -> Session
-    ensures { IsLive (state_of result.core) }
+pub(crate) fn session_on(rt: &impl Abort, alloc: Global, planted: &[Planted]) -> Session<Core>
+    ensures { IsLive (state_of world_of result.core) }
 {
     let Some(mut tables) = populated(alloc, 10, 20) else {
         panic!(rt; "no population")
@@ -110,13 +111,13 @@ pub(crate) struct Said {
 
 /// Tells whether the lines are answered so.
 pub(crate) fn is_answered(
-    session: &mut Session,
+    session: &mut Session<Core>,
     alloc: Global,
     lines: &[u8],
     answers: &[u8],
 ) -> bool
-    requires { IsLive (state_of session.old.core) }
-    ensures { IsLive (state_of session.new.core) }
+    requires { IsLive (state_of world_of session.old.core) }
+    ensures { IsLive (state_of world_of session.new.core) }
 {
     session.count = 0;
     session.out.clear();
@@ -132,9 +133,9 @@ pub(crate) fn is_answered(
 
 /// Carries out that many stages of terminal 3's transaction, and tells whether each is answered
 /// `more`.
-fn goes_on(session: &mut Session, alloc: Global, stages: u32) -> bool
-    requires { IsLive (state_of session.old.core) }
-    ensures { IsLive (state_of session.new.core) }
+fn goes_on(session: &mut Session<Core>, alloc: Global, stages: u32) -> bool
+    requires { IsLive (state_of world_of session.old.core) }
+    ensures { IsLive (state_of world_of session.new.core) }
 {
     for _ in 0..stages {
         if !is_answered(session, alloc, b"next 3\n", b"more\n") {
@@ -145,7 +146,7 @@ fn goes_on(session: &mut Session, alloc: Global, stages: u32) -> bool
 }
 
 /// Sums the dumps of what is open in a session.
-fn standing(session: &Session) -> u64 {
+fn standing(session: &Session<Core>) -> u64 {
     match &session.core {
         Some(core) => sum_of(core.tables()),
         None => 0,
@@ -156,14 +157,14 @@ fn standing(session: &Session) -> u64 {
 /// Answers the sums of the dumps once it had begun and at the end; `None` where an answer is
 /// another.
 pub(crate) fn sums(
-    session: &mut Session,
+    session: &mut Session<Core>,
     alloc: Global,
     begin: &Said,
     stages: u32,
     then: &Said,
 ) -> Option<(u64, u64)>
-    requires { IsLive (state_of session.old.core) }
-    ensures { IsLive (state_of session.new.core) }
+    requires { IsLive (state_of world_of session.old.core) }
+    ensures { IsLive (state_of world_of session.new.core) }
 {
     if !is_answered(session, alloc, begin.lines, begin.answers) {
         return None;

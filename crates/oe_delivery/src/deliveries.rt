@@ -10,15 +10,16 @@ ghost use Rattle.oe_theory.specs.Machine as theory;
 ghost use Rattle.oe_model.specs.Rows.{Rows};
 ghost use Rattle.oe_model.specs.System.{ask, marks};
 ghost use Rattle.oe_engine.specs.View.{IsOpen};
-ghost use Rattle.oe_engine.specs.Programs.{Progresses, hold_of, reply_at, lock_asked};
+ghost use Rattle.oe_locks.specs.Holds.{hold_of, lock_asked};
+ghost use Rattle.oe_engine.specs.Programs.{Progresses, reply_at};
 ghost use Rattle.oe_delivery.specs.Deliveries.{place_of, next_district, HoldsNames};
 
 use crate::programs::Program;
 use oe_engine::{Engine, Progress, Tx};
+use oe_locks::Lock;
 use oe_requests::{DeliveriesRequest, DeliveryRequest, DistrictDeliveries, Refusal};
 use oe_rows::DistrictKey;
 use oe_values::DistrictNumber;
-use oe_writes::Lock;
 use std::marker::Model;
 
 /// Where a delivery of ten districts stands: what it did in the districts that are done, and where

@@ -10,17 +10,18 @@ ghost use Rattle.oe_model.specs.Delivery.{delivery_ask};
 ghost use Rattle.oe_requests.specs.declared.requests.Request.{Request};
 ghost use Rattle.oe_model.specs.Positions.{InDelivery};
 ghost use Rattle.oe_engine.specs.View.{IsOpen};
-ghost use Rattle.oe_engine.specs.Programs.{Progresses, district_reply, hold_of, lock_asked};
+ghost use Rattle.oe_locks.specs.Holds.{hold_of, lock_asked};
+ghost use Rattle.oe_engine.specs.Programs.{Progresses, district_reply};
 ghost use Rattle.oe_delivery.specs.Program.{position_of, HasLine, HasNoLine};
 ghost use Rattle.oe_delivery.specs.Stages.{Advances, HoldsTaken};
 
 use crate::remainders::Remainder;
 use crate::stages::{credit_customer, date_line, set_carrier, take_oldest};
 use oe_engine::{Engine, Progress, Tx};
+use oe_locks::Lock;
 use oe_requests::{DeliveredOrder, DeliveryRequest, DistrictDelivery, Refusal};
 use oe_rows::{DistrictKey, Name};
 use oe_values::{LineNumber, OrderNumber};
-use oe_writes::Lock;
 
 /// Where the delivery of a district stands: the stage that it comes to next, with what the stages
 /// before have read. Whoever carries the program out keeps its request. The program has a fixed

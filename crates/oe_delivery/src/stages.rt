@@ -12,10 +12,10 @@ use crate::remainders::Remainder;
 use oe_engine::stages::{failed, hold, put, put_held};
 use oe_engine::{Engine, Progress, Tx};
 use oe_formulas::deliveries::account_after_delivery;
+use oe_locks::Lock;
 use oe_requests::{DeliveredOrder, DeliveryRequest, Refusal};
 use oe_rows::{Key, Mode, Name};
 use oe_values::{LineNumber, OrderNumber};
-use oe_writes::Lock;
 use oe_writes::kinds::inserts::DeleteNewOrder;
 use oe_writes::kinds::updates::{CustomerAccount, DeliveryDate, OrderCarrier};
 

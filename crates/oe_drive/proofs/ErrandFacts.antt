@@ -12,7 +12,7 @@ use Rattle.oe_requests.specs.declared.answers.Answer.TheVariants as answer
 use Rattle.oe_history.specs.Views.{entry}
 use Rattle.oe_history.specs.Calls.{TheCaller}
 use Rattle.oe_history.specs.declared.views.Entry.{Entry}
-use Rattle.oe_core.specs.declared.advances.Advanced.TheVariants as advanced
+use Rattle.oe_machine.specs.declared.advances.Advanced.TheVariants as advanced
 use Rattle.oe_hall.specs.declared.shop.Open.{Open}
 use Rattle.oe_hall.specs.declared.shop.Turn.{Turn}
 use Rattle.oe_hall.specs.Turns.{advance_answer, read_answer}

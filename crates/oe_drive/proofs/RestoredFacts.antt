@@ -22,7 +22,7 @@ use Rattle.oe_model.specs.Rows.{Rows}
 use Rattle.oe_model.specs.Population.{IsPopulated}
 use Rattle.oe_model.specs.System.{system, terminal_limit}
 use Rattle.oe_model.proofs.RowFacts.{same_rows}
-use Rattle.oe_core.specs.Steps.{step_in}
+use Rattle.oe_machine.specs.Steps.{step_in}
 use Rattle.oe_history.specs.declared.views.Entry.{Entry}
 use Rattle.oe_history.specs.Views.{calls_by}
 use Rattle.oe_hall.specs.Histories.{IsStepOf, AreOwnSteps, steps_in, answers_in}

@@ -21,7 +21,7 @@ use Rattle.oe_undo.specs.Undo.{UndoState}
 use Rattle.oe_journal.specs.Linked.{AreLinked}
 use Rattle.oe_journal.specs.Recorded.{IsRecorded, HasRecorded, HasRoomFor, CantWrite}
 use Rattle.oe_writes.specs.Asks.{ask_of}
-use Rattle.oe_writes.specs.declared.locks.Lock.{Lock}
+use Rattle.oe_locks.specs.declared.asks.Lock.{Lock}
 use Rattle.oe_writes.proofs.RecordFacts.{write_records}
 use Rattle.oe_locks.specs.Held.{Holdings}
 use Rattle.oe_engine.specs.View.{EngineState, View, view_of, view_from, Handle, IsOpen}

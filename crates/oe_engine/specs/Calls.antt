@@ -23,7 +23,7 @@ use Rattle.oe_store.specs.Places as tables
 use Rattle.oe_change.specs.Applies.{Refuses}
 use Rattle.oe_log.specs.Moments.{IsBetween, IsOutside}
 use Rattle.oe_engine.specs.View.{EngineState, View, view_of, Handle, IsOpen}
-use Rattle.oe_writes.specs.declared.locks.Lock.{Lock}
+use Rattle.oe_locks.specs.declared.asks.Lock.{Lock}
 
 -- a terminal's transaction may read rows that this governs: it holds their name, or they lie under none
 abbrev pub MayRead : View → ℕ → Guard Name → Type 0

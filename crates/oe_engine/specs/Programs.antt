@@ -1,6 +1,6 @@
 -- A stage of a program, in the words of the theory of transactions.
 use Rattle.std.specs.Prelude.{◌≡◌, ◌⊎◌, suc, [], Option, None, Some, option_map}
-use Rattle.oe_theory.specs.Machine.{Tx, Ask, Stop, Plain, Take, Act, Fail, Go, Ready, Hold}
+use Rattle.oe_theory.specs.Machine.{Tx, Ask, Stop, Take, Act, Fail, Go, Ready}
 use Rattle.oe_theory.specs.Machine as theory
 use Rattle.oe_theory.specs.Next.{IsNew, GivesWay}
 use Rattle.oe_requests.specs.declared.requests.Request.{Request}
@@ -12,7 +12,6 @@ use Rattle.oe_requests.specs.declared.replies.DistrictDelivery.TheVariants.{Skip
 use Rattle.oe_requests.specs.declared.refusals.Refusal.{Refusal}
 use Rattle.oe_requests.specs.declared.refusals.Refusal.TheVariants.{Busy, UndoFull, NotOpen, NoMemory}
 use Rattle.oe_model.specs.Changes.{Change}
-use Rattle.oe_model.specs.Locks.{mode_of, hold}
 use Rattle.oe_model.specs.Meets.{Cause}
 use Rattle.oe_model.specs.Positions.{Position, InPayment, InNewOrder, InDelivery, InDeliveries, DeliveriesEnd}
 use Rattle.oe_model.specs.Positions.{InRename, PaymentPosition, PaymentEnd, NewOrderPosition, NewOrderStock}
@@ -24,7 +23,6 @@ use Rattle.oe_model.specs.Rename.{rename_reply}
 use Rattle.oe_model.specs.System.{system, ask, act, yields}
 use Rattle.oe_engine.specs.View.{EngineState, view_of, Handle, IsOpen}
 use Rattle.oe_engine.specs.Calls.{IsFree, IsInTheWay, IsFullFor, IsFullForAny, after_stage, AcceptsAll, WantsPlace}
-use Rattle.oe_writes.specs.declared.locks.Lock.{Lock}
 use Rattle.oe_engine.specs.declared.programs.Progress.{Progress}
 use Rattle.oe_engine.specs.declared.programs.Progress.TheVariants as progress
 
@@ -38,15 +36,6 @@ ask_here s x q p = ask (tx_of s x q) p (view_of s).rows
 
 abbrev pub act_here : EngineState → Handle → Request → Position → Act Change Position Reply Refusal
 act_here s x q p = act (tx_of s x q) p (view_of s).rows
-
--- the lock that a stage asks for, where it asks for one
-abbrev pub lock_asked : Ask (system.Name) Refusal → Option (Hold (system.Name))
-lock_asked (Stop e) = None
-lock_asked Plain = None
-lock_asked (Take n m) = Some (hold n m)
-
-abbrev pub hold_of : Lock → Hold (system.Name)
-hold_of l = hold l.name (mode_of l.mode)
 
 -- the stage's lock is free
 abbrev pub IsFreeHere : EngineState → Handle → Request → Position → Type 0

@@ -12,7 +12,7 @@ use Rattle.oe_model.specs.Locks.{mode_of}
 use Rattle.oe_model.specs.Positions.{Position}
 use Rattle.oe_model.specs.System.{system}
 use Rattle.oe_engine.specs.View.{EngineState, View, Handle}
-use Rattle.oe_writes.specs.declared.locks.Lock.{Lock}
+use Rattle.oe_locks.specs.declared.asks.Lock.{Lock}
 use Rattle.oe_writes.specs.Asks.{ask_of}
 use Rattle.oe_engine.specs.Calls.{IsFree, IsBusy}
 use Rattle.oe_engine.specs.Programs.{ask_here, act_here, GoesOn, IsStageRefusal}

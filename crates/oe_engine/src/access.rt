@@ -12,11 +12,11 @@ ghost use Rattle.oe_engine.specs.Covered.{IsUnused};
 ghost use Rattle.oe_engine.specs.Calls.{IsFree, IsBelow, MayRead, with_lock, put_mode, StageRefused};
 
 use crate::engine::{Engine, Tx};
+use oe_locks::Lock;
 use oe_requests::Refusal;
 use oe_rows::{Key, Mode, Name, Row};
 use oe_store::Tables;
 use oe_values::Terminal;
-use oe_writes::Lock;
 
 // A copy of the row of a key, if it has one.
 fn row_at(tables: &Tables, key: Key) -> Option<Row>

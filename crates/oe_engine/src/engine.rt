@@ -20,14 +20,13 @@ ghost use Rattle.oe_engine.specs.Calls.{IsFree, IsBusy, IsBelow, after_begin, Ca
 
 use crate::opening::beside;
 use crate::renames::Renames;
-use oe_locks::Locks;
+use oe_locks::{Lock, Locks};
 use oe_log::Segment;
 use oe_requests::{Column, Refusal, Reply, Request};
 use oe_rows::{Layout, Mode, Name};
 use oe_store::Tables;
 use oe_undo::Undo;
 use oe_values::{ExtentCount, Moment, NoMemory, Terminal, TransactionNumber};
-use oe_writes::Lock;
 use std::alloc::Global;
 use std::marker::Model;
 use std::snapshot::Snapshot;

@@ -14,8 +14,9 @@ ghost use Rattle.oe_engine.specs.Writes.{change_written, HoldsBeside, MayWrite, 
 ghost use Rattle.oe_engine.specs.Stages.{is_failure, IsFailure, FailsBeside, Does};
 
 use crate::engine::{Engine, Tx};
+use oe_locks::Lock;
 use oe_requests::Refusal;
-use oe_writes::{Lock, OneWrite};
+use oe_writes::OneWrite;
 
 /// Gives the refusal of a stage that asks for a lock and then fails: who is in the way of the lock,
 /// or what it fails with.

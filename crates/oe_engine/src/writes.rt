@@ -13,11 +13,12 @@ ghost use Rattle.oe_writes.specs.Asks.{ask_of, ask_of_write};
 ghost use Rattle.oe_engine.specs.Writes.{HoldsBeside, MayWrite, Writes};
 
 use crate::engine::{Engine, Tx};
+use oe_locks::Lock;
 use oe_log::Segment;
 use oe_requests::Refusal;
 use oe_rows::Mode;
 use oe_values::Terminal;
-use oe_writes::{Lock, OneWrite};
+use oe_writes::OneWrite;
 
 impl Engine {
     // Takes the lock that is asked for, and answers the mode in which its name was held before.

@@ -10,6 +10,7 @@ use arrayvec::ArrayVec;
 use itoa::Buffer;
 use oe_io::output::flush;
 use oe_io::ports::{Failed, Intake, Outlet};
+use oe_machine::Machine;
 use oe_reasons::{tell, why};
 use oe_script::listeners::{Listener, Place};
 use oe_script::script::hear_script;
@@ -110,7 +111,7 @@ fn explain<E: Outlet>(to: &mut E, number: u128, line: &[u8], place: Place) -> Re
 /// Answers a script as `run_script` does, and says on the explainer's output why each line is
 /// answered `BadLine`: one line for each, in their order. Where a call of that output failed, a
 /// beginning of those lines was written there, and the answers are the same.
-pub fn explain_script<R: Intake, W: Outlet, E: Outlet>(
+pub fn explain_script<M: Machine, R: Intake, W: Outlet, E: Outlet>(
     alloc: Global,
     reader: &mut R,
     writer: &mut W,
@@ -122,5 +123,5 @@ pub fn explain_script<R: Intake, W: Outlet, E: Outlet>(
         (R.source reader.old) (R.source reader.new)
         (W.sink writer.old) (W.sink writer.new) result }
 {
-    hear_script(alloc, reader, writer, explainer)
+    hear_script::<M, R, W, Explainer<E>>(alloc, reader, writer, explainer)
 }

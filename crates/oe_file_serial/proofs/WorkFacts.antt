@@ -22,9 +22,9 @@ use Rattle.oe_store.specs.Places.{Places, rows}
 use Rattle.oe_model.specs.System.{system}
 use Rattle.oe_model.proofs.SystemLaws.{laws, population_is_good}
 use Rattle.oe_texts.specs.Answer.{answer_text}
-use Rattle.oe_core.specs.Steps.{refusal_in, answer_in, Advances}
-use Rattle.oe_core.specs.declared.advances.Advanced.{Advanced}
-use Rattle.oe_core.specs.declared.advances.Advanced.TheVariants as advanced
+use Rattle.oe_machine.specs.Steps.{refusal_in, answer_in, Advances}
+use Rattle.oe_machine.specs.declared.advances.Advanced.{Advanced}
+use Rattle.oe_machine.specs.declared.advances.Advanced.TheVariants as advanced
 use Rattle.oe_admission.proofs.LiveFacts.{next_live}
 use Rattle.oe_file_serial.specs.declared.lines.Asked.TheVariants as asked
 use Rattle.oe_file_serial.specs.InOrder.{Between, at_first, Refuses, Misses, between}

@@ -7,8 +7,8 @@ use Rattle.oe_requests.specs.declared.replies.Reply.{Reply}
 use Rattle.oe_requests.specs.declared.refusals.Refusal.{Refusal}
 use Rattle.oe_requests.specs.declared.refusals.Refusal.TheVariants as refusal
 use Rattle.oe_model.specs.System.{system}
-use Rattle.oe_core.specs.declared.advances.Advanced.{Advanced}
-use Rattle.oe_core.specs.declared.advances.Advanced.TheVariants as advanced
+use Rattle.oe_machine.specs.declared.advances.Advanced.{Advanced}
+use Rattle.oe_machine.specs.declared.advances.Advanced.TheVariants as advanced
 use Rattle.oe_admission.specs.Programs.{IsLive}
 use Rattle.oe_file_serial.specs.InOrder.{Between, Commits, Refuses, between, HasOpen}
 use Rattle.oe_file_serial.specs.declared.lines.Asked.{Asked}

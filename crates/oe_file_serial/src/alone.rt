@@ -13,7 +13,8 @@ ghost use Rattle.oe_file_serial.specs.Worlds.{IsFree, Ends, IsAnswered, shortage
 use crate::answers::{AnswerText, write_answer, write_refusal, write_reply};
 use crate::lines::Asked;
 use crate::verdicts::Shortage;
-use oe_core::{Advanced, Core};
+use oe_core::Core;
+use oe_machine::Advanced;
 use oe_requests::{Query, Refusal, Request};
 use oe_values::Terminal;
 

@@ -5,6 +5,7 @@ ghost use Rattle.oe_from.specs.Loads.{LoadFromRan, plan_of};
 
 use crate::scales::{Gap, scale_of};
 use crate::serials::FromFault;
+use oe_core::Core;
 use oe_file_loading::Sources;
 use oe_file_tables::Format;
 use oe_io::ports::{Intake, Outlet};
@@ -80,7 +81,7 @@ pub fn run_load_from<S: Intake, W: Outlet>(
         }
     };
     let plan = &following.plan(scale);
-    match run_load(alloc, plan, Origin::Tables(tables), form, writer) {
+    match run_load::<Core, W>(alloc, plan, Origin::Tables(tables), form, writer) {
         Ok(()) => Ok(()),
         Err(fault) => Err(FromFault::Fault(FollowingFault::Load(fault))),
     }

@@ -14,9 +14,9 @@ use Rattle.oe_requests.specs.declared.refusals.Refusal.TheVariants as refusal
 use Rattle.oe_requests.specs.declared.steps.Step.{Step}
 use Rattle.oe_requests.specs.declared.steps.Step.TheVariants as step
 use Rattle.oe_requests.specs.declared.answers.Answer.{Answer}
-use Rattle.oe_core.specs.Steps.{step_in, answer_in, refusal_in, Carries, Advances, begin_answer}
-use Rattle.oe_core.specs.declared.advances.Advanced.{Advanced}
-use Rattle.oe_core.specs.declared.advances.Advanced.TheVariants as advanced
+use Rattle.oe_machine.specs.Steps.{step_in, answer_in, refusal_in, Carries, Advances, begin_answer}
+use Rattle.oe_machine.specs.declared.advances.Advanced.{Advanced}
+use Rattle.oe_machine.specs.declared.advances.Advanced.TheVariants as advanced
 use Rattle.oe_history.specs.declared.views.Entry.{Entry}
 use Rattle.oe_history.specs.Views.{entry, calls_by}
 use Rattle.oe_history.specs.Calls.{TheHistory, TheCaller, Knows, with_entry, with_call}

@@ -12,7 +12,7 @@ use Rattle.oe_theory.specs.StepTheorems.{Is_counted}
 use Rattle.oe_theory.proofs.StepTheorems.{steps_are_counted}
 use Rattle.oe_model.specs.System.{system}
 use Rattle.oe_model.proofs.SystemLaws.{laws}
-use Rattle.oe_core.specs.Steps.{refusal_in}
+use Rattle.oe_machine.specs.Steps.{refusal_in}
 use Rattle.oe_requests.specs.declared.refusals.Refusal.{Refusal}
 use Rattle.oe_requests.specs.declared.refusals.Refusal.TheVariants as refusal
 use Rattle.oe_requests.specs.declared.steps.Step.TheVariants as step

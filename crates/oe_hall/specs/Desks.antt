@@ -6,8 +6,8 @@ use Rattle.std.specs.Prelude.{slice_get}
 use Rattle.atomic_table.specs.Seated.{TableId}
 use Rattle.oe_moments.specs.Rule.{pin_word}
 use Rattle.oe_moments.specs.Pins.{TheSeat, ThePin, Holds}
-use Rattle.oe_core.specs.declared.advances.Advanced.{Advanced}
-use Rattle.oe_core.specs.declared.advances.Advanced.TheVariants as advanced
+use Rattle.oe_machine.specs.declared.advances.Advanced.{Advanced}
+use Rattle.oe_machine.specs.declared.advances.Advanced.TheVariants as advanced
 use Rattle.oe_requests.specs.declared.requests.Request.{Request}
 use Rattle.oe_requests.specs.declared.requests.Query.{Query}
 use Rattle.oe_requests.specs.declared.replies.QueryReply.{QueryReply}

@@ -4,7 +4,7 @@ use Rattle.oe_theory.specs.World.{World}
 use Rattle.oe_theory.specs.Next as theory
 use Rattle.oe_theory.specs.Next.{Runs}
 use Rattle.oe_model.specs.System.{system}
-use Rattle.oe_core.specs.Steps.{step_in, answer_in}
+use Rattle.oe_machine.specs.Steps.{step_in, answer_in}
 use Rattle.oe_requests.specs.declared.steps.Step.{Step}
 use Rattle.oe_requests.specs.declared.steps.Step.TheVariants as step
 use Rattle.oe_history.specs.Slots.{after}

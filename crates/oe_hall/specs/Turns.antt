@@ -10,9 +10,9 @@ use Rattle.oe_theory.specs.World.{World, newest, horizon}
 use Rattle.oe_theory.specs.Next.{count_open}
 use Rattle.oe_model.specs.System.{system, terminal_limit}
 use Rattle.oe_core.specs.Core.{CoreState, world_of}
-use Rattle.oe_core.specs.Steps.{Carries, Advances, begin_answer}
-use Rattle.oe_core.specs.declared.advances.Advanced.{Advanced}
-use Rattle.oe_core.specs.declared.advances.Advanced.TheVariants as advanced
+use Rattle.oe_machine.specs.Steps.{Carries, Advances, begin_answer}
+use Rattle.oe_machine.specs.declared.advances.Advanced.{Advanced}
+use Rattle.oe_machine.specs.declared.advances.Advanced.TheVariants as advanced
 use Rattle.oe_requests.specs.declared.requests.Request.{Request}
 use Rattle.oe_requests.specs.declared.requests.Query.{Query}
 use Rattle.oe_requests.specs.declared.replies.QueryReply.{QueryReply}

@@ -5,11 +5,12 @@ ghost use Rattle.std.specs.Prelude.{◌≡◌, ◌≤◌};
 ghost use Rattle.oe_theory.specs.World.{newest, horizon};
 ghost use Rattle.oe_model.specs.System.{system};
 ghost use Rattle.oe_core.specs.Core.{world_of};
-ghost use Rattle.oe_core.specs.Steps.{Carries, Advances, begin_answer};
+ghost use Rattle.oe_machine.specs.Steps.{Carries, Advances, begin_answer};
 ghost use Rattle.oe_hall.specs.Turns.{end_answer, read_answer, IsYoung, HasMoved, LeavesReply, BeginMoves, EndMoves, HasPurged};
 
 use crate::replies::keep_last;
-use oe_core::{Advanced, Core};
+use oe_core::Core;
+use oe_machine::Advanced;
 use oe_requests::{Answer, Query, QueryReply, Refusal, Reply, Request, Step};
 use oe_values::{Moment, Terminal};
 

@@ -21,8 +21,9 @@ ghost use Rattle.oe_hall.specs.Turns.{IsHall, BeginCall, AdvanceCall, EndCall, R
 use crate::counts::{Told, Totals};
 use crate::naming::Naming;
 use crate::records::Recorded;
-use oe_core::{Advanced, Core};
+use oe_core::Core;
 use oe_history::{Caller, History};
+use oe_machine::Advanced;
 use oe_moments::{KeeperSeat, Moments, Pin};
 use oe_requests::{Query, QueryReply, Refusal, Reply, Request};
 use oe_values::{Moment, Terminal};

@@ -8,7 +8,7 @@ ghost use Rattle.oe_theory.specs.World.{newest, horizon};
 ghost use Rattle.oe_theory.specs.Next.{IsQuiet};
 ghost use Rattle.oe_model.specs.System.{system};
 ghost use Rattle.oe_core.specs.Core.{CoreState, world_of};
-ghost use Rattle.oe_core.specs.Steps.{Carries, Advances, begin_answer};
+ghost use Rattle.oe_machine.specs.Steps.{Carries, Advances, begin_answer};
 ghost use Rattle.oe_history.specs.Views.{entry, calls_by};
 ghost use Rattle.oe_history.specs.Calls.{TheHistory, Extends, Knows, with_entry};
 ghost use Rattle.oe_hall.specs.Histories.{IsHistory, HasHappened, is_open};
@@ -16,8 +16,9 @@ ghost use Rattle.oe_hall.specs.Turns.{TheRecord, BeginMoves, BeginLeaves, HasMov
 
 use crate::calls;
 use crate::naming::Naming;
-use oe_core::{Advanced, Core};
+use oe_core::Core;
 use oe_history::{Caller, History};
+use oe_machine::Advanced;
 use oe_requests::{Answer, Query, QueryReply, Refusal, Reply, Request, Step};
 use oe_values::{Moment, Terminal};
 use std::marker::{Brand, Model, PhantomData};

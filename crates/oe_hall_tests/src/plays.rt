@@ -5,6 +5,7 @@ use crate::desks::{asked, moment, purged};
 use crate::moves::{Act, Hands, Move, Said, Told};
 use oe_core::Core;
 use oe_hall::{Desk, Front, Naming, Purger};
+use oe_machine::Machine;
 use oe_requests::{Answer, Refusal, Step};
 use oe_values::Terminal;
 use std::process::Abort;

@@ -14,6 +14,7 @@ use crate::shows::{extents, populated, seated, seats};
 use oe_core::Core;
 use oe_hall::crossing::front_crosses;
 use oe_hall::{Closed, Desk, Front, Naming, Purger, Seats};
+use oe_machine::Machine;
 use oe_requests::{Answer, Condition, Step, Verdict};
 use oe_store::Tables;
 use oe_values::ExtentCount;

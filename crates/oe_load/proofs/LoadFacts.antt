@@ -46,7 +46,7 @@ use Rattle.oe_load.specs.declared.picks.Pick.TheVariants as pick
 use Rattle.oe_load.specs.Turns.{Tells, Turned, AsksNext, Steps, Took, begun_after, state_of}
 use Rattle.oe_terms.specs.Draws.{words_of}
 use Rattle.oe_load.specs.declared.turns.Shortage.{Shortage}
-use Rattle.oe_core.specs.Asks.{wanted_by}
+use Rattle.oe_machine.specs.Asks.{wanted_by}
 use Rattle.oe_busy.specs.declared.happenings.Happening.{Happening}
 use Rattle.oe_busy.specs.declared.happenings.Happening.TheVariants as happening
 use Rattle.oe_load.specs.Happens.{wanted_in_cycle, Happens, IsBreaking, IsPassing}

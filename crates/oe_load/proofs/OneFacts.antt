@@ -19,7 +19,7 @@ use Rattle.oe_requests.specs.declared.replies.Reply.{Reply}
 use Rattle.oe_requests.specs.declared.replies.QueryReply.{QueryReply}
 use Rattle.oe_model.specs.System.{system}
 use Rattle.oe_model.specs.Locks.{mode_of}
-use Rattle.oe_core.specs.Asks.{wanted_by}
+use Rattle.oe_machine.specs.Asks.{wanted_by}
 use Rattle.oe_lines.specs.declared.commands.Command.{Command}
 use Rattle.oe_lines.specs.declared.commands.Command.TheVariants as command
 use Rattle.oe_lines.specs.declared.commands.MomentChoice.TheVariants as moment

@@ -9,7 +9,7 @@ use Rattle.oe_requests.specs.declared.requests.Request.{Request}
 use Rattle.oe_requests.specs.declared.requests.Query.{Query}
 use Rattle.oe_model.specs.Locks.{mode_of}
 use Rattle.oe_model.specs.System.{system}
-use Rattle.oe_core.specs.Asks.{wanted_by}
+use Rattle.oe_machine.specs.Asks.{wanted_by}
 use Rattle.oe_waits.specs.Waits.{waits_through}
 use Rattle.oe_lines.specs.declared.commands.Command.{Command}
 use Rattle.oe_lines.specs.declared.commands.Command.TheVariants as command

@@ -1,7 +1,6 @@
 //! The script of a load, from its opening to its end.
 ghost use Rattle.std.specs.Prelude.{◌≡◌, ◌≤◌, ◌<◌, ◌+◌, [], Option, true, IfOk};
 ghost use Rattle.arrayvec.specs.ArrayVec.{array_vec_len};
-ghost use Rattle.oe_core.specs.Core.{world_of};
 ghost use Rattle.oe_numbers.specs.declared.forms.Form.{Form};
 ghost use Rattle.oe_numbers.specs.declared.forms.Form.TheVariants.{Script};
 ghost use Rattle.oe_model.specs.Population.{IsScale};
@@ -25,9 +24,9 @@ use crate::served::{Served, are_served, none_served, served_of};
 use crate::turns::{Shortage, Turn, ask, carried_out};
 use crate::watches::busy;
 use oe_busy::Happening;
-use oe_core::Core;
 use oe_io::output::{flush, make_room};
 use oe_io::ports::{Failed, Outlet};
+use oe_machine::Machine;
 use oe_numbers::Form;
 use oe_population::populate;
 use oe_rows::{Layout, Scale};
@@ -112,18 +111,18 @@ fn begun_after(plan: &Plan, begun: u32, served: &Served, happening: &Happening) 
 
 /// Takes an early turn: the first terminal that has not begun asks for its next request. Where that
 /// is a query, and its last, it has no transaction.
-fn early(
+fn early<M: Machine>(
     plan: &Plan,
-    core: &mut Core,
+    core: &mut M,
     served: &mut Served,
     drawing: &mut Drawing,
     out: &mut Pending,
 ) -> Turn
     requires room { array_vec_len out.old + LONGEST ≤ SIZE }
     requires few { drawing.old.begun < plan.now.numbers.terminals }
-    ensures { Took plan.now (state_of (world_of core.old) (counts_of served.old) drawing.old)
+    ensures { Took plan.now (state_of (M.world core.old) (counts_of served.old) drawing.old)
         out.old.items result
-        (state_of (world_of core.new) (counts_of served.new) drawing.new) out.new.items }
+        (state_of (M.world core.new) (counts_of served.new) drawing.new) out.new.items }
 {
     let _terminals = plan.numbers.terminals.get();
     let requests = plan.numbers.requests.get();
@@ -141,18 +140,18 @@ fn early(
 }
 
 /// Takes the turn that is picked.
-fn late(
+fn late<M: Machine>(
     plan: &Plan,
-    core: &mut Core,
+    core: &mut M,
     served: &mut Served,
     drawing: &mut Drawing,
     out: &mut Pending,
 ) -> Turn
     requires room { array_vec_len out.old + LONGEST ≤ SIZE }
     requires all { plan.now.numbers.terminals ≤ drawing.old.begun }
-    ensures { Took plan.now (state_of (world_of core.old) (counts_of served.old) drawing.old)
+    ensures { Took plan.now (state_of (M.world core.old) (counts_of served.old) drawing.old)
         out.old.items result
-        (state_of (world_of core.new) (counts_of served.new) drawing.new) out.new.items }
+        (state_of (M.world core.new) (counts_of served.new) drawing.new) out.new.items }
 {
     let pick = picked(plan, core, served, &drawing.holders, &mut drawing.words);
     let turn = carried_out(plan, core, served, &pick, out);
@@ -161,17 +160,17 @@ fn late(
 }
 
 /// Takes a turn: the terminals begin, one after another; then turns are drawn.
-pub(crate) fn taken(
+pub(crate) fn taken<M: Machine>(
     plan: &Plan,
-    core: &mut Core,
+    core: &mut M,
     served: &mut Served,
     drawing: &mut Drawing,
     out: &mut Pending,
 ) -> Turn
     requires { array_vec_len out.old + LONGEST ≤ SIZE }
-    ensures { Took plan.now (state_of (world_of core.old) (counts_of served.old) drawing.old)
+    ensures { Took plan.now (state_of (M.world core.old) (counts_of served.old) drawing.old)
         out.old.items result
-        (state_of (world_of core.new) (counts_of served.new) drawing.new) out.new.items }
+        (state_of (M.world core.new) (counts_of served.new) drawing.new) out.new.items }
 {
     if drawing.begun < plan.numbers.terminals.get() {
         return early(plan, core, served, drawing, out);
@@ -180,20 +179,20 @@ pub(crate) fn taken(
 }
 
 /// Tells whether all requests were served, and nothing is open.
-pub(crate) fn is_done(plan: &Plan, core: &Core, served: &Served) -> bool
-    ensures { result ≡ true → IsDone plan.now (world_of core.now) (counts_of served.now) }
+pub(crate) fn is_done<M: Machine>(plan: &Plan, core: &M, served: &Served) -> bool
+    ensures { result ≡ true → IsDone plan.now (M.world core.now) (counts_of served.now) }
 {
     core.open_count() == 0 && are_served(plan, served)
 }
 
 /// Takes turns until all requests are served.
-fn told<W: Outlet>(
+fn told<W: Outlet, M: Machine>(
     plan: &Plan,
-    core: &mut Core,
+    core: &mut M,
     out: &mut Pending,
     to: &mut W,
 ) -> Result<Ending, Failed>
-    ensures { (o : Origin) → IsScript plan.now o [] (first_state plan.now (world_of core.old)) →
+    ensures { (o : Origin) → IsScript plan.now o [] (first_state plan.now (M.world core.old)) →
         out.old.items ≡ opening_text plan.now o Script →
         Wrote plan.now o Script (W.sink to.old) (W.sink to.new) out.new.items result }
 {
@@ -222,40 +221,40 @@ fn scale_holds(scale: &Scale)
     let _items = scale.items.get();
 }
 
-/// Opens a core on what a load begins on.
-pub(crate) fn opened(alloc: Global, plan: &Plan, origin: Origin) -> Result<Core, NoMemory>
+/// Opens a machine on what a load begins on.
+pub(crate) fn opened<M: Machine>(alloc: Global, plan: &Plan, origin: Origin) -> Result<M, NoMemory>
     requires { IsOrigin origin }
-    ensures { IfOk result (λ c. IsScript plan.now origin [] (first_state plan.now (world_of c))) }
+    ensures { IfOk result (λ c. IsScript plan.now origin [] (first_state plan.now (M.world c))) }
 {
     match origin {
-        Origin::Population => populated(alloc, plan),
-        Origin::Tables(tables) => opened_on(alloc, plan, tables),
+        Origin::Population => populated::<M>(alloc, plan),
+        Origin::Tables(tables) => opened_on::<M>(alloc, plan, tables),
     }
 }
 
-/// Opens a core on the population of a plan.
-fn populated(alloc: Global, plan: &Plan) -> Result<Core, NoMemory>
+/// Opens a machine on the population of a plan.
+fn populated<M: Machine>(alloc: Global, plan: &Plan) -> Result<M, NoMemory>
     ensures { IfOk result (λ c. IsScript plan.now origin.Population []
-        (first_state plan.now (world_of c))) }
+        (first_state plan.now (M.world c))) }
 {
     scale_holds(&plan.numbers.scale);
     match populate(alloc, plan.numbers.scale) {
-        Ok(tables) => Core::open(alloc, tables, plan.numbers.extents, Layout::WholeRows),
+        Ok(tables) => M::open(alloc, tables, plan.numbers.extents, Layout::WholeRows),
         Err(e) => Err(e),
     }
 }
 
-/// Opens a core on tables.
-fn opened_on(alloc: Global, plan: &Plan, tables: Tables) -> Result<Core, NoMemory>
+/// Opens a machine on tables.
+fn opened_on<M: Machine>(alloc: Global, plan: &Plan, tables: Tables) -> Result<M, NoMemory>
     requires { IsPopulation (rows tables) }
     ensures { IfOk result (λ c. IsScript plan.now (origin.Tables tables) []
-        (first_state plan.now (world_of c))) }
+        (first_state plan.now (M.world c))) }
 {
-    Core::open(alloc, tables, plan.numbers.extents, Layout::WholeRows)
+    M::open(alloc, tables, plan.numbers.extents, Layout::WholeRows)
 }
 
 /// Writes the script of a plan; its opening waits.
-fn script<W: Outlet>(
+fn script<M: Machine, W: Outlet>(
     alloc: Global,
     plan: &Plan,
     origin: Origin,
@@ -266,7 +265,7 @@ fn script<W: Outlet>(
     requires opening { out.old.items ≡ opening_text plan.now origin Script }
     ensures { Wrote plan.now origin Script (W.sink to.old) (W.sink to.new) out.new.items result }
 {
-    let Ok(mut core) = opened(alloc, plan, origin) else {
+    let Ok(mut core) = opened::<M>(alloc, plan, origin) else {
         out.clear();
         return Ok(Ending::Short(Shortage::NoMemory));
     };
@@ -277,7 +276,7 @@ fn script<W: Outlet>(
 
 /// Writes a plan's requests alone, its script, or a table of what was in the script's way; the
 /// opening waits.
-fn written<W: Outlet>(
+fn written<M: Machine, W: Outlet>(
     alloc: Global,
     plan: &Plan,
     origin: Origin,
@@ -290,8 +289,8 @@ fn written<W: Outlet>(
     ensures { Wrote plan.now origin form (W.sink to.old) (W.sink to.new) out.new.items result }
 {
     match form {
-        Form::Script => script(alloc, plan, origin, out, to),
-        Form::Busy => Ok(busy(alloc, plan, origin, out)),
+        Form::Script => script::<M, W>(alloc, plan, origin, out, to),
+        Form::Busy => Ok(busy::<M>(alloc, plan, origin, out)),
         Form::Flat => {
             origin.discard();
             flat(plan, out, to)
@@ -345,7 +344,7 @@ fn closed<W: Outlet>(
 /// many turns were taken; what was written is a load that stops there, or nothing. So it is where a
 /// request of the plan's scale names a row that the tables lack. `Write`: a write failed, and a
 /// beginning of that was written.
-pub fn run_load<W: Outlet>(
+pub fn run_load<M: Machine, W: Outlet>(
     alloc: Global,
     plan: &Plan,
     origin: Origin,
@@ -357,6 +356,6 @@ pub fn run_load<W: Outlet>(
 {
     let mut out = Pending::new();
     open(&mut out, plan, &origin, form);
-    let ending = written(alloc, plan, origin, form, &mut out, writer);
+    let ending = written::<M, W>(alloc, plan, origin, form, &mut out, writer);
     closed(ending, &mut out, writer)
 }

@@ -2,7 +2,6 @@
 //! have named, and of a number that is drawn.
 ghost use Rattle.std.specs.Prelude.{◌≡◌, ◌≤◌, ◌<◌, ◌+◌};
 ghost use Rattle.oe_theory.specs.World.{set};
-ghost use Rattle.oe_core.specs.Core.{world_of};
 ghost use Rattle.oe_terms.specs.Draws.{random};
 ghost use Rattle.oe_load.specs.Flats.{first_behind};
 ghost use Rattle.oe_load.specs.Picks.{holders_of, holder_of, end_of_waits, is_in_cycle, is_left, is_able, first_open, named_by, named_in, none_named, pick_of, terminal_of};
@@ -11,7 +10,7 @@ ghost use Rattle.oe_load.specs.Turns.{counts_of};
 use crate::served::{Served, served_of};
 use crate::turns::Turn;
 use oe_busy::Happening;
-use oe_core::Core;
+use oe_machine::Machine;
 use oe_terms::Plan;
 use oe_terms::draws::random;
 use oe_values::{TERMINALS, Terminal};
@@ -78,15 +77,15 @@ pub(crate) fn terminal_after(before: u32) -> Terminal
 }
 
 /// Tells whether a terminal has a transaction open, or requests that were not asked for.
-fn is_left(plan: &Plan, core: &Core, served: &Served, terminal: Terminal) -> bool
-    ensures { result ≡ is_left plan.now (world_of core.now) (counts_of served.now) terminal }
+fn is_left<M: Machine>(plan: &Plan, core: &M, served: &Served, terminal: Terminal) -> bool
+    ensures { result ≡ is_left plan.now (M.world core.now) (counts_of served.now) terminal }
 {
     core.is_open(terminal) || served_of(served, terminal) < plan.numbers.requests.get()
 }
 
 /// Gives the terminal that one was answered `Busy` for, where it still holds what is asked for.
-fn holder_of(core: &Core, holders: &Holders, terminal: Terminal) -> Option<Terminal>
-    ensures { result ≡ holder_of (world_of core.now) (holders_of holders.now) terminal }
+fn holder_of<M: Machine>(core: &M, holders: &Holders, terminal: Terminal) -> Option<Terminal>
+    ensures { result ≡ holder_of (M.world core.now) (holders_of holders.now) terminal }
 {
     let Some(holder) = holders[terminal.get() as usize] else {
         return None;
@@ -99,8 +98,8 @@ fn holder_of(core: &Core, holders: &Holders, terminal: Terminal) -> Option<Termi
 
 /// Follows the waits from a terminal: gives the terminal itself where they come back to it, and
 /// else where they have led after 64 waits, which is in a cycle, or where they have ended.
-fn followed(core: &Core, holders: &Holders, terminal: Terminal) -> Terminal
-    ensures { result ≡ end_of_waits (world_of core.now) (holders_of holders.now) terminal }
+fn followed<M: Machine>(core: &M, holders: &Holders, terminal: Terminal) -> Terminal
+    ensures { result ≡ end_of_waits (M.world core.now) (holders_of holders.now) terminal }
 {
     let mut at = terminal;
     for _ in 0..TERMINALS {
@@ -116,23 +115,29 @@ fn followed(core: &Core, holders: &Holders, terminal: Terminal) -> Terminal
 }
 
 /// Tells whether a terminal has something left, and does not wait.
-fn is_able(plan: &Plan, core: &Core, served: &Served, holders: &Holders, terminal: Terminal) -> bool
-    ensures { result ≡ is_able plan.now (world_of core.now) (counts_of served.now)
+fn is_able<M: Machine>(
+    plan: &Plan,
+    core: &M,
+    served: &Served,
+    holders: &Holders,
+    terminal: Terminal,
+) -> bool
+    ensures { result ≡ is_able plan.now (M.world core.now) (counts_of served.now)
         (holders_of holders.now) terminal }
 {
     is_left(plan, core, served, terminal) && holder_of(core, holders, terminal).is_none()
 }
 
 /// Finds a terminal that has something left and does not wait, from a drawn one on, round.
-fn able(
+fn able<M: Machine>(
     plan: &Plan,
-    core: &Core,
+    core: &M,
     served: &Served,
     holders: &Holders,
     drawn: u32,
 ) -> Option<Terminal>
     requires { (1 ≤ drawn) × (drawn ≤ 63) }
-    ensures { result ≡ first_behind plan.now (is_able plan.now (world_of core.now)
+    ensures { result ≡ first_behind plan.now (is_able plan.now (M.world core.now)
         (counts_of served.now) (holders_of holders.now)) drawn 0 plan.now.numbers.terminals }
 {
     let count = plan.numbers.terminals.get();
@@ -146,8 +151,8 @@ fn able(
 }
 
 /// Finds the first terminal that has a transaction open.
-fn first_open(core: &Core) -> Option<Terminal>
-    ensures { result ≡ first_open (world_of core.now) }
+fn first_open<M: Machine>(core: &M) -> Option<Terminal>
+    ensures { result ≡ first_open (M.world core.now) }
 {
     for before in 0..TERMINALS {
         let terminal = terminal_after(before);
@@ -159,22 +164,22 @@ fn first_open(core: &Core) -> Option<Terminal>
 }
 
 /// Tells whether a terminal waits for itself, through others.
-fn is_in_cycle(core: &Core, holders: &Holders, terminal: Terminal) -> bool
-    ensures { result ≡ is_in_cycle (world_of core.now) (holders_of holders.now) terminal }
+fn is_in_cycle<M: Machine>(core: &M, holders: &Holders, terminal: Terminal) -> bool
+    ensures { result ≡ is_in_cycle (M.world core.now) (holders_of holders.now) terminal }
 {
     holder_of(core, holders, terminal).is_some() && followed(core, holders, terminal) == terminal
 }
 
 /// Draws whose turn it is. A terminal that was answered `Busy` waits until its lock is free; where
 /// it is in a cycle, or nobody can go on, one that is in a cycle gives way.
-pub(crate) fn picked(
+pub(crate) fn picked<M: Machine>(
     plan: &Plan,
-    core: &Core,
+    core: &M,
     served: &Served,
     holders: &Holders,
     words: &mut Lcg64Xsh32,
 ) -> Pick
-    ensures pick { result ≡ pick_of plan.now (world_of core.now) (counts_of served.now)
+    ensures pick { result ≡ pick_of plan.now (M.world core.now) (counts_of served.now)
         (holders_of holders.now) (random 1 plan.now.numbers.terminals words.old).0 }
     ensures words { words.new ≡ (random 1 plan.now.numbers.terminals words.old).1 }
 {

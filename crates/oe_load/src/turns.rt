@@ -8,10 +8,9 @@ ghost use Rattle.oe_requests.specs.declared.refusals.Refusal.TheVariants.{Invali
 ghost use Rattle.oe_requests.specs.declared.replies.Reply.{Reply};
 ghost use Rattle.oe_requests.specs.declared.steps.Step.TheVariants as step;
 ghost use Rattle.oe_model.specs.System.{system};
-ghost use Rattle.oe_engine.specs.Programs.{hold_of};
-ghost use Rattle.oe_core.specs.Asks.{wanted_by};
-ghost use Rattle.oe_core.specs.Core.{world_of};
-ghost use Rattle.oe_core.specs.Steps.{refusal_in};
+ghost use Rattle.oe_locks.specs.Holds.{hold_of};
+ghost use Rattle.oe_machine.specs.Asks.{wanted_by};
+ghost use Rattle.oe_machine.specs.Steps.{refusal_in};
 ghost use Rattle.oe_lines.specs.declared.commands.Command.TheVariants as command;
 ghost use Rattle.oe_lines.specs.declared.commands.MomentChoice.TheVariants as moment;
 ghost use Rattle.oe_lines.specs.Grammar.{IsQuery};
@@ -28,15 +27,15 @@ use crate::ranges::asked_holds;
 use crate::served::{Served, serve, served_of};
 use oe_admission::ranges_hold;
 use oe_busy::Happening;
-use oe_core::{Advanced, Core};
 use oe_lines::{begin_line, next_line, purge_line, read_line, rollback_line};
+use oe_locks::Lock;
+use oe_machine::{Advanced, Machine};
 use oe_numbers::Items;
 use oe_requests::{Answer, Query, Refusal, Request};
 use oe_terms::{Asked, Plan};
 use oe_texts::{LONGEST, Pending, SIZE};
 use oe_values::{Number, Terminal};
 use oe_waits::waits_for_itself;
-use oe_writes::Lock;
 use std::fmt;
 use std::fmt::{Debug, Display, Formatter, Write};
 use thiserror::Error;
@@ -78,8 +77,8 @@ fn shortage_of(refusal: &Refusal) -> Shortage {
 }
 
 /// Gives the lock that a terminal asks for that waits for itself through others.
-fn wanted_in_cycle(core: &Core, terminal: Terminal) -> Option<Lock>
-    ensures { option_map hold_of result ≡ wanted_in_cycle (world_of core.now) terminal }
+fn wanted_in_cycle<M: Machine>(core: &M, terminal: Terminal) -> Option<Lock>
+    ensures { option_map hold_of result ≡ wanted_in_cycle (M.world core.now) terminal }
 {
     if waits_for_itself(core, terminal) {
         return core.wanted(terminal);
@@ -108,9 +107,9 @@ fn broken(terminal: Terminal, asked: &Option<Lock>) -> Happening
 }
 
 /// Begins a terminal's next request.
-fn begin(
+fn begin<M: Machine>(
     plan: &Plan,
-    core: &mut Core,
+    core: &mut M,
     served: &Served,
     terminal: Terminal,
     request: &Request,
@@ -119,8 +118,8 @@ fn begin(
     requires room { array_vec_len out.old + LONGEST ≤ SIZE }
     requires next { IsNext plan.now (counts_of served.now) terminal
         (asked.Transaction request.now) }
-    ensures { AsksNext plan.now (world_of core.old) (counts_of served.now) terminal out.old.items
-        result (world_of core.new) (counts_of served.now) out.new.items }
+    ensures { AsksNext plan.now (M.world core.old) (counts_of served.now) terminal out.old.items
+        result (M.world core.new) (counts_of served.now) out.new.items }
 {
     ranges_hold(request);
     match core.begin(terminal, request) {
@@ -134,9 +133,9 @@ fn begin(
 }
 
 /// Answers a terminal's next request, which is a query.
-fn read(
+fn read<M: Machine>(
     plan: &Plan,
-    core: &Core,
+    core: &M,
     served: &mut Served,
     terminal: Terminal,
     query: &Query,
@@ -146,8 +145,8 @@ fn read(
     requires next { IsNext plan.now (counts_of served.old) terminal (asked.Query query.now) }
     requires left { counts_of served.old terminal < 1_000_000_000 }
     requires form { IsQuery query.now }
-    ensures { AsksNext plan.now (world_of core.now) (counts_of served.old) terminal out.old.items
-        result (world_of core.now) (counts_of served.new) out.new.items }
+    ensures { AsksNext plan.now (M.world core.now) (counts_of served.old) terminal out.old.items
+        result (M.world core.now) (counts_of served.new) out.new.items }
 {
     match core.read(core.newest(), query) {
         Answer::Replied(_) => {
@@ -161,18 +160,18 @@ fn read(
 }
 
 /// Rolls a terminal's transaction back, in a turn that does so.
-fn give_way(
+fn give_way<M: Machine>(
     plan: &Plan,
-    core: &mut Core,
+    core: &mut M,
     served: &Served,
     terminal: Terminal,
     out: &mut Pending,
 ) -> Turn
     requires { array_vec_len out.old + LONGEST ≤ SIZE }
-    ensures { (k : Pick) → Does plan.now (world_of core.old) (counts_of served.now) k
+    ensures { (k : Pick) → Does plan.now (M.world core.old) (counts_of served.now) k
         (command.Rollback terminal) (counts_of served.now) →
-        Turned plan.now (world_of core.old) (counts_of served.now) k out.old.items result
-        (world_of core.new) (counts_of served.now) out.new.items }
+        Turned plan.now (M.world core.old) (counts_of served.now) k out.old.items result
+        (M.world core.new) (counts_of served.now) out.new.items }
 {
     let asked = wanted_in_cycle(core, terminal);
     match core.rollback(terminal) {
@@ -187,12 +186,12 @@ fn give_way(
 }
 
 /// Lets go of the commits so far, in a turn that does so.
-fn purge(plan: &Plan, core: &mut Core, served: &Served, out: &mut Pending) -> Turn
+fn purge<M: Machine>(plan: &Plan, core: &mut M, served: &Served, out: &mut Pending) -> Turn
     requires { array_vec_len out.old + LONGEST ≤ SIZE }
-    ensures { (k : Pick) → Does plan.now (world_of core.old) (counts_of served.now) k
+    ensures { (k : Pick) → Does plan.now (M.world core.old) (counts_of served.now) k
         (command.Purge moment.Now) (counts_of served.now) →
-        Turned plan.now (world_of core.old) (counts_of served.now) k out.old.items result
-        (world_of core.new) (counts_of served.now) out.new.items }
+        Turned plan.now (M.world core.old) (counts_of served.now) k out.old.items result
+        (M.world core.new) (counts_of served.now) out.new.items }
 {
     match core.purge(core.newest()) {
         Answer::Purged(_) => {
@@ -206,17 +205,17 @@ fn purge(plan: &Plan, core: &mut Core, served: &Served, out: &mut Pending) -> Tu
 
 /// Makes room where the ring is full: lets go of commits, or else rolls the terminal's transaction
 /// back, where others are open that may end.
-fn make_way(
+fn make_way<M: Machine>(
     plan: &Plan,
-    core: &mut Core,
+    core: &mut M,
     served: &Served,
     terminal: Terminal,
     out: &mut Pending,
 ) -> Turn
     requires { array_vec_len out.old + LONGEST ≤ SIZE }
-    ensures { Next system (world_of core.old) (Advance terminal) Undo_full (world_of core.old) →
-        Turned plan.now (world_of core.old) (counts_of served.now) (pick.Turn terminal)
-        out.old.items result (world_of core.new) (counts_of served.now) out.new.items }
+    ensures { Next system (M.world core.old) (Advance terminal) Undo_full (M.world core.old) →
+        Turned plan.now (M.world core.old) (counts_of served.now) (pick.Turn terminal)
+        out.old.items result (M.world core.new) (counts_of served.now) out.new.items }
 {
     if core.horizon() < core.newest() {
         return purge(plan, core, served, out);
@@ -228,9 +227,9 @@ fn make_way(
 }
 
 /// Tells what comes of an advance that is refused.
-fn refused(
+fn refused<M: Machine>(
     plan: &Plan,
-    core: &mut Core,
+    core: &mut M,
     served: &mut Served,
     terminal: Terminal,
     asked: &Option<Lock>,
@@ -241,10 +240,10 @@ fn refused(
     requires left { counts_of served.old terminal < 1_000_000_000 }
     ensures { (before : World system) →
         Next system before (Advance terminal) (refusal_in (step.Advance terminal) refusal.now)
-        (world_of core.old) →
+        (M.world core.old) →
         option_map hold_of asked.now ≡ wanted_by before terminal →
         Turned plan.now before (counts_of served.old) (pick.Turn terminal) out.old.items result
-        (world_of core.new) (counts_of served.new) out.new.items }
+        (M.world core.new) (counts_of served.new) out.new.items }
 {
     match refusal {
         Refusal::Busy(name, holder) => {
@@ -260,9 +259,9 @@ fn refused(
 
 /// Tells an advance at which an order was rolled back for its unused item (clause 2.4.2.3). That
 /// serves the request, where the plan has such orders.
-fn rolled_back(
+fn rolled_back<M: Machine>(
     plan: &Plan,
-    core: &Core,
+    core: &M,
     served: &mut Served,
     terminal: Terminal,
     asked: &Option<Lock>,
@@ -271,10 +270,10 @@ fn rolled_back(
     requires room { array_vec_len out.old + LONGEST ≤ SIZE }
     requires left { counts_of served.old terminal < 1_000_000_000 }
     ensures { (before : World system) →
-        Next system before (Advance terminal) (Aborted InvalidItem) (world_of core.now) →
+        Next system before (Advance terminal) (Aborted InvalidItem) (M.world core.now) →
         option_map hold_of asked.now ≡ wanted_by before terminal →
         Turned plan.now before (counts_of served.old) (pick.Turn terminal) out.old.items result
-        (world_of core.now) (counts_of served.new) out.new.items }
+        (M.world core.now) (counts_of served.new) out.new.items }
 {
     match plan.items {
         Items::Used => Err(Shortage::Refused(Refusal::InvalidItem)),
@@ -288,9 +287,9 @@ fn rolled_back(
 }
 
 /// Tells an advance that has committed.
-fn committed(
+fn committed<M: Machine>(
     plan: &Plan,
-    core: &Core,
+    core: &M,
     served: &mut Served,
     terminal: Terminal,
     asked: &Option<Lock>,
@@ -299,10 +298,10 @@ fn committed(
     requires room { array_vec_len out.old + LONGEST ≤ SIZE }
     requires left { counts_of served.old terminal < 1_000_000_000 }
     ensures { (before : World system) (m : ℕ) (y : Reply) →
-        Next system before (Advance terminal) (Committed m y) (world_of core.now) →
+        Next system before (Advance terminal) (Committed m y) (M.world core.now) →
         option_map hold_of asked.now ≡ wanted_by before terminal →
         Turned plan.now before (counts_of served.old) (pick.Turn terminal) out.old.items result
-        (world_of core.now) (counts_of served.new) out.new.items }
+        (M.world core.now) (counts_of served.new) out.new.items }
 {
     let _number = terminal.get();
     serve(served, terminal);
@@ -311,17 +310,17 @@ fn committed(
 }
 
 /// Advances a terminal's transaction.
-fn advance(
+fn advance<M: Machine>(
     plan: &Plan,
-    core: &mut Core,
+    core: &mut M,
     served: &mut Served,
     terminal: Terminal,
     out: &mut Pending,
 ) -> Turn
     requires room { array_vec_len out.old + LONGEST ≤ SIZE }
     requires left { counts_of served.old terminal < 1_000_000_000 }
-    ensures { Turned plan.now (world_of core.old) (counts_of served.old) (pick.Turn terminal)
-        out.old.items result (world_of core.new) (counts_of served.new) out.new.items }
+    ensures { Turned plan.now (M.world core.old) (counts_of served.old) (pick.Turn terminal)
+        out.old.items result (M.world core.new) (counts_of served.new) out.new.items }
 {
     let _number = terminal.get();
     let asked = core.wanted(terminal);
@@ -339,9 +338,9 @@ fn advance(
 }
 
 /// Asks for a terminal's next request.
-pub(crate) fn ask(
+pub(crate) fn ask<M: Machine>(
     plan: &Plan,
-    core: &mut Core,
+    core: &mut M,
     served: &mut Served,
     terminal: Terminal,
     out: &mut Pending,
@@ -350,8 +349,8 @@ pub(crate) fn ask(
     requires high { terminal ≤ plan.now.numbers.terminals }
     requires left { counts_of served.old terminal < plan.now.numbers.requests }
     requires few { counts_of served.old terminal < 1_000_000_000 }
-    ensures { AsksNext plan.now (world_of core.old) (counts_of served.old) terminal out.old.items
-        result (world_of core.new) (counts_of served.new) out.new.items }
+    ensures { AsksNext plan.now (M.world core.old) (counts_of served.old) terminal out.old.items
+        result (M.world core.new) (counts_of served.new) out.new.items }
 {
     let _number = terminal.get();
     let r = Number::new(plan.first.get() + served_of(served, terminal)).unwrap();
@@ -364,16 +363,16 @@ pub(crate) fn ask(
 }
 
 /// Takes a terminal's turn: its transaction advances, or its next request is asked for.
-fn take_turn(
+fn take_turn<M: Machine>(
     plan: &Plan,
-    core: &mut Core,
+    core: &mut M,
     served: &mut Served,
     terminal: Terminal,
     out: &mut Pending,
 ) -> Turn
     requires { array_vec_len out.old + LONGEST ≤ SIZE }
-    ensures { Turned plan.now (world_of core.old) (counts_of served.old) (pick.Turn terminal)
-        out.old.items result (world_of core.new) (counts_of served.new) out.new.items }
+    ensures { Turned plan.now (M.world core.old) (counts_of served.old) (pick.Turn terminal)
+        out.old.items result (M.world core.new) (counts_of served.new) out.new.items }
 {
     let is_left = served_of(served, terminal) < plan.numbers.requests.get();
     if terminal.get() > plan.numbers.terminals.get() || !is_left {
@@ -386,16 +385,16 @@ fn take_turn(
 }
 
 /// Carries out what was picked.
-pub(crate) fn carried_out(
+pub(crate) fn carried_out<M: Machine>(
     plan: &Plan,
-    core: &mut Core,
+    core: &mut M,
     served: &mut Served,
     pick: &Pick,
     out: &mut Pending,
 ) -> Turn
     requires { array_vec_len out.old + LONGEST ≤ SIZE }
-    ensures { Turned plan.now (world_of core.old) (counts_of served.old) pick.now out.old.items
-        result (world_of core.new) (counts_of served.new) out.new.items }
+    ensures { Turned plan.now (M.world core.old) (counts_of served.old) pick.now out.old.items
+        result (M.world core.new) (counts_of served.new) out.new.items }
 {
     match pick {
         Pick::GiveWay(terminal) => give_way(plan, core, served, *terminal, out),

@@ -1,6 +1,5 @@
 //! The table of what was in the way of a script, which nobody reads.
 ghost use Rattle.std.specs.Prelude.{◌≡◌, [], Option, Ok};
-ghost use Rattle.oe_core.specs.Core.{world_of};
 ghost use Rattle.oe_numbers.specs.declared.forms.Form.TheVariants as load_form;
 ghost use Rattle.oe_io.specs.Ports.{Sink};
 ghost use Rattle.oe_busy.specs.Tables.{AreCounted};
@@ -14,7 +13,7 @@ use crate::origins::Origin;
 use crate::served::none_served;
 use crate::turns::Shortage;
 use oe_busy::{Busyness, Uncounted};
-use oe_core::Core;
+use oe_machine::Machine;
 use oe_terms::Plan;
 use oe_texts::Pending;
 use std::alloc::Global;
@@ -29,13 +28,13 @@ fn uncounted(cause: &Uncounted) -> Shortage {
 
 /// Takes turns until all requests are served, and counts what happens. After an error the counts
 /// are no table's.
-fn watched(
+fn watched<M: Machine>(
     plan: &Plan,
-    core: &mut Core,
+    core: &mut M,
     busyness: &mut Busyness,
     out: &mut Pending,
 ) -> Result<Ending, Shortage>
-    ensures { (o : Origin) → IsWatched plan.now o [] (first_state plan.now (world_of core.old)) →
+    ensures { (o : Origin) → IsWatched plan.now o [] (first_state plan.now (M.world core.old)) →
         AreCounted busyness.old [] → Watches plan.now o busyness.new result }
 {
     let mut served = none_served();
@@ -57,13 +56,18 @@ fn watched(
 }
 
 /// Gives the counts of a load as a table that waits.
-pub(crate) fn busy(alloc: Global, plan: &Plan, origin: Origin, out: &mut Pending) -> Ending
+pub(crate) fn busy<M: Machine>(
+    alloc: Global,
+    plan: &Plan,
+    origin: Origin,
+    out: &mut Pending,
+) -> Ending
     requires origin { IsOrigin origin }
     requires empty { out.old.items ≡ [] }
     ensures { (start : Option Sink) →
         Wrote plan.now origin load_form.Busy start start out.new.items (Ok result) }
 {
-    let Ok(mut core) = opened(alloc, plan, origin) else {
+    let Ok(mut core) = opened::<M>(alloc, plan, origin) else {
         return Ending::Short(Shortage::NoMemory);
     };
     let mut busyness = Busyness::new(alloc);

@@ -1,5 +1,6 @@
 pub mod Hashes
 pub mod Held
+pub mod Holds
 pub mod Listed
 pub mod Marks
 pub mod Terminals

@@ -14,11 +14,13 @@ ghost use Rattle.oe_locks.specs.Held.{go_together, mode_held, names_of, IsIdle, 
 ghost use Rattle.oe_locks.specs.Terminals.{has};
 ghost use Rattle.oe_locks.specs.Listed.{given_back_names, taken_names, AreOnce, IsListed, OthersKeepNames};
 
+mod asks;
 mod hashes;
 mod held;
 mod marks;
 mod sets;
 
+pub use asks::Lock;
 use held::Held;
 use marks::{Holders, mark_of};
 use oe_requests::Refusal;

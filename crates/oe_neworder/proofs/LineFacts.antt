@@ -28,7 +28,8 @@ use Rattle.oe_model.specs.Positions.{Seen, NewOrderQueue, NewOrderStock, NewOrde
 use Rattle.oe_model.specs.NewOrder.{stock_holds, ordered_reply, new_order_ask, new_order_act, new_order_taken}
 use Rattle.oe_model.proofs.LawFacts.{holds_more}
 use Rattle.oe_engine.specs.View.{EngineState, View, view_of, Handle, IsOpen}
-use Rattle.oe_engine.specs.Programs.{GoesOn, IsReady, IsStageRefusal, new_order_reply, lock_asked}
+use Rattle.oe_locks.specs.Holds.{lock_asked}
+use Rattle.oe_engine.specs.Programs.{GoesOn, IsReady, IsStageRefusal, new_order_reply}
 use Rattle.oe_engine.specs.Stages.{Does, HoldsAll}
 use Rattle.oe_engine.specs.declared.programs.Progress.{Progress}
 use Rattle.oe_engine.specs.declared.programs.Progress.TheVariants as progress

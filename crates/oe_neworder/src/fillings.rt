@@ -13,7 +13,8 @@ ghost use Rattle.oe_engine.specs.View.{view_of, IsOpen};
 ghost use Rattle.oe_model.specs.Locks.{hold};
 ghost use Rattle.oe_model.specs.NewOrder.{item_at, new_order_ask, stock_of};
 ghost use Rattle.oe_store.specs.Places.{rows};
-ghost use Rattle.oe_engine.specs.Programs.{hold_of, new_order_reply, lock_asked};
+ghost use Rattle.oe_locks.specs.Holds.{hold_of, lock_asked};
+ghost use Rattle.oe_engine.specs.Programs.{new_order_reply};
 ghost use Rattle.oe_engine.specs.Stages.{Does};
 ghost use Rattle.oe_neworder.specs.Program.{line_position};
 ghost use Rattle.oe_neworder.specs.Stages.{Advances, HoldsTaken, Fills};
@@ -22,11 +23,11 @@ use crate::looks::{Supply, supply_of};
 use oe_engine::stages::{failed, put, put_held};
 use oe_engine::{Engine, Progress, Tx};
 use oe_formulas::orders::{Seen, stock_key};
+use oe_locks::Lock;
 use oe_requests::{LineReplies, LineReply, NewOrderRequest, Refusal, ReplyRef, RequestLine};
 use oe_rows::{Mode, Name, OrderLine};
 use oe_store::Tables;
 use oe_values::{LineNumber, OrderNumber};
-use oe_writes::Lock;
 use oe_writes::kinds::{inserts, updates};
 
 /// A line whose stock has been taken: its OL_NUMBER, its ORDER-LINE row, which is still to be

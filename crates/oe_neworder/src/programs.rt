@@ -7,7 +7,8 @@ ghost use Rattle.oe_model.specs.Positions.{InNewOrder, NewOrderCustomer};
 ghost use Rattle.oe_engine.specs.View.{IsOpen};
 ghost use Rattle.oe_model.specs.NewOrder.{new_order_ask};
 ghost use Rattle.oe_store.specs.Places.{rows};
-ghost use Rattle.oe_engine.specs.Programs.{Progresses, hold_of, new_order_reply, lock_asked};
+ghost use Rattle.oe_locks.specs.Holds.{hold_of, lock_asked};
+ghost use Rattle.oe_engine.specs.Programs.{Progresses, new_order_reply};
 ghost use Rattle.oe_neworder.specs.Program.{position_of, IsBeforeLines};
 ghost use Rattle.oe_neworder.specs.Stages.{HoldsTaken};
 
@@ -15,11 +16,11 @@ use crate::fillings::Filling;
 use crate::stages::{insert_new_order, insert_order, read_customer, read_warehouse, take_number};
 use oe_engine::{Engine, Progress, Tx};
 use oe_formulas::orders::Seen;
+use oe_locks::Lock;
 use oe_requests::{NewOrderRequest, Refusal, ReplyRef};
 use oe_rows::Name;
 use oe_store::Tables;
 use oe_values::{OrderNumber, Rate};
-use oe_writes::Lock;
 
 /// Where a New-Order stands: the stage that it comes to next, with what the stages before have
 /// read. Whoever carries the program out keeps its request. The program has a fixed size, and any

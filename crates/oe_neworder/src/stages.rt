@@ -14,10 +14,10 @@ use crate::programs::Program;
 use oe_engine::stages::{failed, hold, put};
 use oe_engine::{Engine, Progress, Tx};
 use oe_formulas::orders::{Seen, order_row};
+use oe_locks::Lock;
 use oe_requests::{LineReplies, NewOrderRequest, Refusal};
 use oe_rows::{Mode, Name};
 use oe_values::{OrderNumber, Rate};
-use oe_writes::Lock;
 use oe_writes::kinds::{inserts, updates};
 
 /// Takes the warehouse's name beside others.

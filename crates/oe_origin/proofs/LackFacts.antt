@@ -4,7 +4,8 @@ use Rattle.oe_requests.specs.declared.audits.Condition.{Condition}
 use Rattle.oe_requests.specs.declared.audits.Verdict.{Verdict}
 use Rattle.oe_requests.specs.declared.audits.Verdict.TheVariants as told
 use Rattle.oe_rows.specs.declared.keys.Key.{Key}
-use Rattle.oe_audit.specs.Verdict.{condition_of, IsAudited}
+use Rattle.oe_machine.specs.Verdict.{condition_of}
+use Rattle.oe_audit.specs.Verdict.{IsAudited}
 use Rattle.oe_model.specs.Rows.{Rows}
 use Rattle.oe_model.specs.Verdicts.{IsMet, IsFirstRow}
 use Rattle.oe_model.proofs.VerdictFacts.{verdicts_are_exact}

@@ -8,7 +8,8 @@ use Rattle.oe_rows.specs.Key.{stock_cmp}
 use Rattle.oe_rows.specs.declared.histories.History.{History}
 use Rattle.oe_rows.specs.declared.keys.HistoryKey.{HistoryKey}
 use Rattle.oe_rows.specs.declared.keys.StockKey.{StockKey}
-use Rattle.oe_audit.specs.Verdict.{AreMet, condition_of}
+use Rattle.oe_machine.specs.Verdict.{condition_of}
+use Rattle.oe_audit.specs.Verdict.{AreMet}
 use Rattle.oe_model.specs.Conditions.{Condition_1, Condition_2, Condition_3}
 use Rattle.oe_model.specs.Keys.{warehouse_of_stock, item_of_stock}
 use Rattle.oe_model.specs.Rows.{Rows}

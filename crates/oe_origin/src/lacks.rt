@@ -1,7 +1,8 @@
 //! What tables lack of a population: conditions 1 to 4 are asked in order, and then STOCK rows in
 //! key order. The first lack is told.
 ghost use Rattle.std.specs.Prelude.{◌≡◌, MatchOption};
-ghost use Rattle.oe_audit.specs.Verdict.{AreMet, condition_of};
+ghost use Rattle.oe_machine.specs.Verdict.{condition_of};
+ghost use Rattle.oe_audit.specs.Verdict.{AreMet};
 ghost use Rattle.oe_model.specs.Conditions.{IsPopulation};
 ghost use Rattle.oe_model.specs.Verdicts.{IsMet, IsFirstRow};
 ghost use Rattle.oe_store.specs.Places.{rows};

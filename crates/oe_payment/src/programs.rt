@@ -7,16 +7,17 @@ ghost use Rattle.oe_requests.specs.declared.replies.Reply.{Reply};
 ghost use Rattle.oe_model.specs.Positions.{InPayment, PaymentCustomer, PaymentWarehouse};
 ghost use Rattle.oe_model.specs.Payment.{names_lock, payment_ask};
 ghost use Rattle.oe_store.specs.Places.{rows};
-ghost use Rattle.oe_engine.specs.Programs.{Progresses, hold_of, payment_reply, lock_asked};
+ghost use Rattle.oe_locks.specs.Holds.{hold_of, lock_asked};
+ghost use Rattle.oe_engine.specs.Programs.{Progresses, payment_reply};
 
 use crate::positions::{Position, Stage};
 use crate::stages::carry_out;
 use oe_engine::{Engine, Progress, Tx};
+use oe_locks::Lock;
 use oe_requests::{CustomerChoice, PaymentReply, PaymentRequest, Refusal};
 use oe_rows::Name;
 use oe_store::Tables;
 use oe_values::{CustomerNumber, ShortText};
-use oe_writes::Lock;
 use std::marker::Model;
 
 /// Where a payment stands: the stage that it comes to next, with what the stages before have read.

@@ -28,12 +28,13 @@ use oe_formulas::payments::{
     account_after, bad_credit_entry, district_ytd_after, history_data, history_key, history_row,
     warehouse_ytd_after,
 };
+use oe_locks::Lock;
 use oe_requests::{Column, CustomerChoice, PaymentReply, PaymentRequest, Refusal};
 use oe_rows::{Account, Credit, Customer, CustomerKey, DistrictKey, Key, Mode, Name, WarehouseKey};
 use oe_values::{CustomerNumber, ShortText, Text};
+use oe_writes::OneWrite;
 use oe_writes::kinds::inserts::InsertHistory;
 use oe_writes::kinds::updates::{BadCredit, CustomerAccount, DistrictYtd, WarehouseYtd};
-use oe_writes::{Lock, OneWrite};
 
 // Why a stage fails: for its own reason, or since another holds the name that it asks for.
 #[inline(never)]

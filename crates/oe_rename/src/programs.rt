@@ -8,16 +8,17 @@ ghost use Rattle.oe_model.specs.Positions.{InRename};
 ghost use Rattle.oe_model.specs.Rename.{rename_ask};
 ghost use Rattle.oe_store.specs.Places.{rows};
 ghost use Rattle.oe_engine.specs.View.{IsOpen};
-ghost use Rattle.oe_engine.specs.Programs.{Progresses, hold_of, renamed_reply, lock_asked};
+ghost use Rattle.oe_locks.specs.Holds.{hold_of, lock_asked};
+ghost use Rattle.oe_engine.specs.Programs.{Progresses, renamed_reply};
 ghost use Rattle.oe_rename.specs.Program.{position_of, HasEnded, HoldsTaken, Recalls, Steps};
 
 use crate::stages::{set_names, take_customer, take_old_name};
 use oe_engine::{Engine, Progress, Tx};
+use oe_locks::Lock;
 use oe_requests::{Refusal, RenameRequest, ReplyRef};
 use oe_rows::Name;
 use oe_store::Tables;
 use oe_values::ShortText;
-use oe_writes::Lock;
 
 /// Where a rename stands: the stage that it comes to next, with the C_LAST that the customer had.
 /// Whoever carries the program out keeps its request. The program has a fixed size, and any value

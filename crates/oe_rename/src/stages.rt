@@ -7,10 +7,10 @@ ghost use Rattle.oe_rename.specs.Program.{HoldsTaken, Recalls, Steps};
 use crate::programs::{Program, new_name};
 use oe_engine::stages::{hold, put_under};
 use oe_engine::{Engine, Tx};
+use oe_locks::Lock;
 use oe_requests::{Refusal, RenameRequest};
 use oe_rows::Name;
 use oe_values::ShortText;
-use oe_writes::Lock;
 use oe_writes::kinds::updates::CustomerNames;
 
 /// Takes the customer's name alone, and reads C_LAST. `NoCustomer` where the customer is absent.

@@ -3,7 +3,7 @@ use Rattle.std.specs.Prelude.{◌≡◌, ◌≤◌, ◌<◌, Bool, true, false, 
 use Rattle.oe_requests.specs.declared.audits.Condition.{Condition}
 use Rattle.oe_requests.specs.declared.audits.Condition.TheVariants as condition
 use Rattle.oe_requests.specs.Condition.{condition_number}
-use Rattle.oe_audit.specs.Verdict.{condition_of}
+use Rattle.oe_machine.specs.Verdict.{condition_of}
 use Rattle.oe_model.specs.Audits as model
 use Rattle.oe_model.specs.Rows.{Rows}
 

@@ -11,8 +11,8 @@ use Rattle.oe_requests.specs.declared.audits.Verdict.{Verdict}
 use Rattle.oe_requests.specs.declared.audits.Verdict.TheVariants as verdict
 use Rattle.oe_requests.specs.declared.steps.Step.{Step}
 use Rattle.oe_requests.specs.declared.steps.Step.TheVariants as step
-use Rattle.oe_audit.specs.Verdict.{verdict_of}
-use Rattle.oe_core.specs.Steps.{answer_in, refusal_in, other_refusal}
+use Rattle.oe_machine.specs.Verdict.{verdict_of}
+use Rattle.oe_machine.specs.Steps.{answer_in, refusal_in, other_refusal}
 
 -- the way back
 abbrev verdict_back : model.Verdict → Verdict

@@ -26,7 +26,7 @@ use Rattle.oe_consistency.proofs.KeptMore.{kept, base_more}
 use Rattle.oe_movements.specs.Kept.{HasMovements}
 use Rattle.oe_movements.proofs.KeptMoves as movements
 use Rattle.oe_movements.proofs.KeptMoves.{base_moves}
-use Rattle.oe_core.specs.Steps.{step_in, answer_in}
+use Rattle.oe_machine.specs.Steps.{step_in, answer_in}
 use Rattle.oe_runs.specs.Run.{Served, steps_in, answers_in, AreUnpurged, PastBy, IsPassed, AreWhole, Ran}
 use Rattle.oe_runs.proofs.AnswerFacts.{answer_once}
 

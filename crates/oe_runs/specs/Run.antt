@@ -16,7 +16,7 @@ use Rattle.oe_model.specs.Headline.{Conditions}
 use Rattle.oe_model.specs.FurtherConditions.{More}
 use Rattle.oe_model.specs.System.{system}
 use Rattle.oe_movements.specs.Kept.{HasMovements}
-use Rattle.oe_core.specs.Steps.{step_in, answer_in}
+use Rattle.oe_machine.specs.Steps.{step_in, answer_in}
 
 -- these steps, one after another, were answered so, and left the last world
 abbrev pub Served : World system → List Step → List Answer → World system → Type 0

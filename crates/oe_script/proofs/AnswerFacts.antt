@@ -42,8 +42,8 @@ use Rattle.oe_model.specs.Choice.{customer_meant}
 use Rattle.oe_model.specs.Queries.{reply_with, last_order, status_of, recent_lines, is_low, answer_of}
 use Rattle.oe_model.specs.System.{system, terminal_limit}
 use Rattle.oe_model.proofs.SystemLaws.{laws}
-use Rattle.oe_audit.specs.Verdict.{condition_of, verdict_of}
-use Rattle.oe_core.specs.Steps.{step_in, answer_in}
+use Rattle.oe_machine.specs.Verdict.{condition_of, verdict_of}
+use Rattle.oe_machine.specs.Steps.{step_in, answer_in}
 use Rattle.oe_script.specs.Script.{RunsIn}
 use Rattle.oe_admission.specs.Programs.{IsLive}
 use Rattle.oe_admission.proofs.LiveFacts.{left, falls, next_live}

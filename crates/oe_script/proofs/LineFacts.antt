@@ -30,9 +30,9 @@ use Rattle.oe_model.specs.Population.{IsScale, IsPopulated}
 use Rattle.oe_model.specs.System.{system}
 use Rattle.oe_model.proofs.PopulationFacts.{population_is_one}
 use Rattle.oe_model.proofs.SystemLaws.{laws, population_is_good}
-use Rattle.oe_core.specs.Steps.{step_in, answer_in, Advances}
-use Rattle.oe_core.specs.declared.advances.Advanced.{Advanced}
-use Rattle.oe_core.specs.declared.advances.Advanced.TheVariants as advanced
+use Rattle.oe_machine.specs.Steps.{step_in, answer_in, Advances}
+use Rattle.oe_machine.specs.declared.advances.Advanced.{Advanced}
+use Rattle.oe_machine.specs.declared.advances.Advanced.TheVariants as advanced
 use Rattle.oe_io.specs.Lines.{bad_line}
 use Rattle.oe_script.specs.Script.{State, moment_in, step_answer, Stepped, IsAllowed, Answers, Asks, LineAnswer}
 use Rattle.oe_script.specs.Script.{RunOfLines}

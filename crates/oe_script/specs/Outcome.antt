@@ -8,9 +8,9 @@ use Rattle.oe_requests.specs.declared.answers.Answer.{Answer}
 use Rattle.oe_requests.specs.declared.answers.Answer.TheVariants as answer
 use Rattle.oe_texts.specs.Answer.{answer_line}
 use Rattle.oe_model.specs.System.{system}
-use Rattle.oe_core.specs.Steps.{step_in, answer_in}
-use Rattle.oe_core.specs.declared.advances.Advanced.{Advanced}
-use Rattle.oe_core.specs.declared.advances.Advanced.TheVariants as advanced
+use Rattle.oe_machine.specs.Steps.{step_in, answer_in}
+use Rattle.oe_machine.specs.declared.advances.Advanced.{Advanced}
+use Rattle.oe_machine.specs.declared.advances.Advanced.TheVariants as advanced
 use Rattle.oe_io.specs.Ports.{Sink, Sent, Cut}
 use Rattle.oe_script.specs.Script.{State, step_answer, RunsIn, LineAnswer}
 use Rattle.oe_script.specs.Hearing.{Takes}

@@ -2,7 +2,8 @@
 use Rattle.std.specs.Prelude.{◌≡◌, ℕ, ◌+◌, ◌^◌, ◌≤◌, ◌⊎◌, List, [], ◌++◌, length, ⊤, Option, Some, None}
 use Rattle.std.specs.Prelude.{Result, Ok, Err, MatchResult}
 use Rattle.oe_admission.specs.Programs.{IsLive}
-use Rattle.oe_core.specs.Core.{CoreState, world_of}
+use Rattle.oe_theory.specs.World.{World}
+use Rattle.oe_model.specs.System.{system}
 use Rattle.oe_script.specs.declared.session.Session.{Session}
 use Rattle.oe_script.specs.declared.session.ScriptFault.{ScriptFault}
 use Rattle.oe_script.specs.declared.session.ScriptFault.TheVariants.{Read, Write}
@@ -11,10 +12,10 @@ use Rattle.oe_io.specs.Ports.{Source, Sink, Sent, Cut}
 use Rattle.oe_script.specs.Script.{State, Output, Holds, Reached}
 use Rattle.oe_script.specs.Hearing.{Heard, HearsAll, HearsEach, HearsReached, HeardFront}
 
--- the state that a session's core stands for
-abbrev pub state_of : Option CoreState → State
-state_of None = None
-state_of (Some c) = Some (world_of c)
+-- the state that a session's machine stands for
+abbrev pub state_of : {C : Type 0} → (C → World system) → Option C → State
+state_of world None = None
+state_of world (Some c) = Some (world c)
 
 -- The session stands behind this input: what it has written or holds back is the output so far, and the listener heard
 -- of its lines.
@@ -46,16 +47,19 @@ pub record Dialogue (L : Type 0) : Type 0 where
   pub start : Option Sink
 
 -- In a dialogue the session stands behind this input, with the listener and what is written as they are now.
-abbrev pub StandsIn : {L : Type 0} → Dialogue L → (L → Heard → L → Type 0) → List ℕ → L → Option Sink → Session → Type 0
-StandsIn d hears input last now s =
-    Standing d.begun hears d.first last d.start input now s.out.items (state_of s.core) s.count s.line
+abbrev pub StandsIn : {C L : Type 0} → Dialogue L → (C → World system) → (L → Heard → L → Type 0) → List ℕ → L →
+    Option Sink → Session C
+    → Type 0
+StandsIn d world hears input last now s =
+    Standing d.begun hears d.first last d.start input now s.out.items (state_of world s.core) s.count s.line
 
 -- So it does once a call has ended well. Else a call of the writer failed: what was written is a beginning of an output
 -- of the input, and the listener heard of some first lines.
-abbrev pub FedIn : {L T E : Type 0} → Dialogue L → (L → Heard → L → Type 0) → List ℕ → L → Option Sink → Session
-    → Result T E → Type 0
-FedIn d hears input last now s r =
-    Fed d.begun hears d.first last d.start input now s.out.items (state_of s.core) s.count s.line r
+abbrev pub FedIn : {C L T E : Type 0} → Dialogue L → (C → World system) → (L → Heard → L → Type 0) → List ℕ → L →
+    Option Sink
+    → Session C → Result T E → Type 0
+FedIn d world hears input last now s r =
+    Fed d.begun hears d.first last d.start input now s.out.items (state_of world s.core) s.count s.line r
 
 -- The input is answered whole, all of it is written, and the listener heard of it.
 abbrev pub Ended : {L T E : Type 0} → State → (L → Heard → L → Type 0) → L → L → Option Sink → List ℕ → Option Sink

@@ -3,7 +3,7 @@
 //! written. Clause numbers are TPC Benchmark C 5.11's. A test says four lines to a session:
 //!
 //! ```
-//! let mut session = Session::new();
+//! let mut session = Session::<Core>::new();
 //! let lines =
 //!     b"open 2 10 20 64\nbegin 5 payment 2 7 1 3 9 250.00 2001-01-01T00:00:00\nnext 5\nrollback 5\n";
 //! let is_written = session

@@ -12,7 +12,6 @@ ghost use Rattle.oe_requests.specs.declared.replies.Reply.{Reply};
 ghost use Rattle.oe_requests.specs.declared.answers.Answer.{Answer};
 ghost use Rattle.oe_requests.specs.declared.steps.Step.TheVariants as step;
 ghost use Rattle.oe_texts.specs.Answer.{answer_line};
-ghost use Rattle.oe_core.specs.Core.{world_of, last_reply};
 ghost use Rattle.oe_io.specs.Ports.{Streams};
 ghost use Rattle.oe_script.specs.Script.{LineAnswer, RunsIn, moment_in, shown_text};
 ghost use Rattle.oe_script.specs.Session.{state_of};
@@ -20,12 +19,12 @@ ghost use Rattle.oe_admission.specs.Programs.{IsLive};
 ghost use Rattle.oe_script.specs.Hearing.{Takes};
 ghost use Rattle.oe_script.specs.Outcome.{IsAnswer, Tells, TellsRun, Sorts};
 
-use oe_core::{Advanced, Core};
 use oe_io::dumps::dump;
 use oe_io::output::{bad, make_room};
 use oe_io::ports::{Failed, Outlet};
 use oe_lines::commands::RingChoice;
 use oe_lines::{Command, Display, MomentChoice, command, payment_to_begin, terminal_to_run};
+use oe_machine::{Advanced, Machine};
 use oe_population::populate;
 use oe_requests::{Answer, Condition, Query, Refusal, Request};
 use oe_rows::Scale;
@@ -37,8 +36,8 @@ use std::alloc::Global;
 /// Answers a line, which stands without its end and has this number, and tells whether it is a
 /// command here; where it is none, it is answered `BadLine`. What waits is written first where the
 /// longest line has no room behind it; where that failed, no step was taken.
-pub fn answer_line<W: Outlet>(
-    core: &mut Option<Core>,
+pub fn answer_line<W: Outlet, M: Machine>(
+    core: &mut Option<M>,
     alloc: Global,
     line: &[u8],
     number: u128,
@@ -46,8 +45,8 @@ pub fn answer_line<W: Outlet>(
     to: &mut W,
 ) -> Result<bool, Failed>
     requires short { length line.now ≤ 1_024 }
-    requires live { IsLive (state_of core.old) }
-    ensures { Sorts (state_of core.old) number line.now (state_of core.new)
+    requires live { IsLive (state_of M.world core.old) }
+    ensures { Sorts (state_of M.world core.old) number line.now (state_of M.world core.new)
         (W.sink to.old) out.old.items (W.sink to.new) out.new.items result }
 {
     if let Err(e) = make_room(out, to) {
@@ -58,8 +57,8 @@ pub fn answer_line<W: Outlet>(
 
 // Takes a line where there is room.
 #[inline(always)]
-fn take_line<W: Outlet>(
-    core: &mut Option<Core>,
+fn take_line<W: Outlet, M: Machine>(
+    core: &mut Option<M>,
     alloc: Global,
     line: &[u8],
     number: u128,
@@ -68,8 +67,8 @@ fn take_line<W: Outlet>(
 ) -> Result<bool, Failed>
     requires room { array_vec_len out.old + LONGEST ≤ SIZE }
     requires short { length line.now ≤ 1_024 }
-    requires live { IsLive (state_of core.old) }
-    ensures { Sorts (state_of core.old) number line.now (state_of core.new)
+    requires live { IsLive (state_of M.world core.old) }
+    ensures { Sorts (state_of M.world core.old) number line.now (state_of M.world core.new)
         (W.sink to.old) out.old.items (W.sink to.new) out.new.items result }
 {
     match core {
@@ -80,8 +79,8 @@ fn take_line<W: Outlet>(
 
 /// Answers a line before something is open.
 #[inline(never)]
-fn first_line(
-    core: &mut Option<Core>,
+fn first_line<M: Machine>(
+    core: &mut Option<M>,
     alloc: Global,
     line: &[u8],
     number: u128,
@@ -90,7 +89,7 @@ fn first_line(
     requires room { array_vec_len out.old + LONGEST ≤ SIZE }
     requires short { length line.now ≤ 1_024 }
     requires none { core.old ≡ None }
-    ensures { (text : List ℕ) × LineAnswer None number line.now text (state_of core.new)
+    ensures { (text : List ℕ) × LineAnswer None number line.now text (state_of M.world core.new)
         × (out.new.items ≡ out.old.items ++ text) × Takes result None line.now }
 {
     match command(line) {
@@ -103,8 +102,8 @@ fn first_line(
 }
 
 /// Answers a line where something is open. A run has the terminal alone, since a command is long.
-fn run_or_later<W: Outlet>(
-    core: &mut Core,
+fn run_or_later<W: Outlet, M: Machine>(
+    core: &mut M,
     line: &[u8],
     number: u128,
     out: &mut Pending,
@@ -112,8 +111,8 @@ fn run_or_later<W: Outlet>(
 ) -> Result<bool, Failed>
     requires room { array_vec_len out.old + LONGEST ≤ SIZE }
     requires short { length line.now ≤ 1_024 }
-    requires live { IsLive (Some (world_of core.old)) }
-    ensures { Sorts (Some (world_of core.old)) number line.now (Some (world_of core.new))
+    requires live { IsLive (Some (M.world core.old)) }
+    ensures { Sorts (Some (M.world core.old)) number line.now (Some (M.world core.new))
         (W.sink to.old) out.old.items (W.sink to.new) out.new.items result }
 {
     if let Some(terminal) = terminal_to_run(line) {
@@ -124,8 +123,8 @@ fn run_or_later<W: Outlet>(
 }
 
 /// Answers a line that runs nothing. Of a payment no more is written than it has.
-fn begin_or_later<W: Outlet>(
-    core: &mut Core,
+fn begin_or_later<W: Outlet, M: Machine>(
+    core: &mut M,
     line: &[u8],
     number: u128,
     out: &mut Pending,
@@ -133,8 +132,8 @@ fn begin_or_later<W: Outlet>(
 ) -> Result<bool, Failed>
     requires room { array_vec_len out.old + LONGEST ≤ SIZE }
     requires short { length line.now ≤ 1_024 }
-    requires live { IsLive (Some (world_of core.old)) }
-    ensures { Sorts (Some (world_of core.old)) number line.now (Some (world_of core.new))
+    requires live { IsLive (Some (M.world core.old)) }
+    ensures { Sorts (Some (M.world core.old)) number line.now (Some (M.world core.new))
         (W.sink to.old) out.old.items (W.sink to.new) out.new.items result }
 {
     if let Some(asked) = payment_to_begin(line) {
@@ -147,8 +146,8 @@ fn begin_or_later<W: Outlet>(
 
 /// Answers any line.
 #[inline(never)]
-fn later_line<W: Outlet>(
-    core: &mut Core,
+fn later_line<W: Outlet, M: Machine>(
+    core: &mut M,
     line: &[u8],
     number: u128,
     out: &mut Pending,
@@ -156,8 +155,8 @@ fn later_line<W: Outlet>(
 ) -> Result<bool, Failed>
     requires room { array_vec_len out.old + LONGEST ≤ SIZE }
     requires short { length line.now ≤ 1_024 }
-    requires live { IsLive (Some (world_of core.old)) }
-    ensures { Sorts (Some (world_of core.old)) number line.now (Some (world_of core.new))
+    requires live { IsLive (Some (M.world core.old)) }
+    ensures { Sorts (Some (M.world core.old)) number line.now (Some (M.world core.new))
         (W.sink to.old) out.old.items (W.sink to.new) out.new.items result }
 {
     let Some(asked) = command(line) else {
@@ -168,8 +167,8 @@ fn later_line<W: Outlet>(
 }
 
 /// Answers what a line asks for.
-fn first(
-    core: &mut Option<Core>,
+fn first<M: Machine>(
+    core: &mut Option<M>,
     alloc: Global,
     asked: &Command,
     number: u128,
@@ -179,7 +178,7 @@ fn first(
     requires none { core.old ≡ None }
     requires form { HasForm asked.now }
     ensures { (line : List ℕ) → length line ≤ 1_024 → Says line asked.now →
-        (text : List ℕ) × LineAnswer None number line text (state_of core.new)
+        (text : List ℕ) × LineAnswer None number line text (state_of M.world core.new)
         × (out.new.items ≡ out.old.items ++ text) × Takes result None line }
 {
     match asked {
@@ -202,22 +201,22 @@ fn first(
     }
 }
 
-/// Opens a core with the population of a scale.
-fn populated(alloc: Global, scale: Scale, ring: RingChoice) -> Result<Core, NoMemory>
+/// Opens a machine with the population of a scale.
+fn populated<M: Machine>(alloc: Global, scale: Scale, ring: RingChoice) -> Result<M, NoMemory>
     requires { HasForm (asks.Open scale ring) }
     ensures { IfOk result (λ c.
         (r : Rows) × IsPopulated scale r
-        × (world_of c ≡ world_at_opening system r ring.extents (layout_of ring))) }
+        × (M.world c ≡ world_at_opening system r ring.extents (layout_of ring))) }
 {
     match populate(alloc, scale) {
-        Ok(tables) => Core::open(alloc, tables, ring.extents, ring.layout_or_whole_rows()),
+        Ok(tables) => M::open(alloc, tables, ring.extents, ring.layout_or_whole_rows()),
         Err(e) => Err(e),
     }
 }
 
 /// Answers what a line asks for.
-fn later<W: Outlet>(
-    core: &mut Core,
+fn later<W: Outlet, M: Machine>(
+    core: &mut M,
     asked: &Command,
     number: u128,
     out: &mut Pending,
@@ -225,9 +224,9 @@ fn later<W: Outlet>(
 ) -> Result<bool, Failed>
     requires room { array_vec_len out.old + LONGEST ≤ SIZE }
     requires form { HasForm asked.now }
-    requires live { IsLive (Some (world_of core.old)) }
+    requires live { IsLive (Some (M.world core.old)) }
     ensures { (line : List ℕ) → length line ≤ 1_024 → Says line asked.now →
-        Sorts (Some (world_of core.old)) number line (Some (world_of core.new))
+        Sorts (Some (M.world core.old)) number line (Some (M.world core.new))
         (W.sink to.old) out.old.items (W.sink to.new) out.new.items result }
 {
     match asked {
@@ -283,9 +282,14 @@ fn later<W: Outlet>(
 }
 
 /// Shows a core's table, who waits for whom, or who holds what.
-fn show<W: Outlet>(core: &Core, shown: Display, out: &mut Pending, to: &mut W) -> Result<(), Failed>
+fn show<W: Outlet, M: Machine>(
+    core: &M,
+    shown: Display,
+    out: &mut Pending,
+    to: &mut W,
+) -> Result<(), Failed>
     ensures { Streams (W.sink to.old) out.old.items (W.sink to.new) out.new.items
-        (shown_text shown (world_of core.now)) result }
+        (shown_text shown (M.world core.now)) result }
 {
     match shown {
         Display::Rows(table) => dump(core.tables(), table, out, to),
@@ -295,9 +299,9 @@ fn show<W: Outlet>(core: &Core, shown: Display, out: &mut Pending, to: &mut W) -
 }
 
 /// Begins a transaction.
-fn tell_begin(core: &mut Core, terminal: Terminal, request: &Request, out: &mut Pending)
+fn tell_begin<M: Machine>(core: &mut M, terminal: Terminal, request: &Request, out: &mut Pending)
     requires { array_vec_len out.old + LONGEST ≤ SIZE }
-    ensures { Tells (world_of core.old) (step.Begin terminal request.now) (world_of core.new)
+    ensures { Tells (M.world core.old) (step.Begin terminal request.now) (M.world core.new)
         out.old.items out.new.items }
 {
     match core.begin(terminal, request) {
@@ -307,9 +311,9 @@ fn tell_begin(core: &mut Core, terminal: Terminal, request: &Request, out: &mut 
 }
 
 /// Takes one row.
-fn tell_next(core: &mut Core, terminal: Terminal, out: &mut Pending)
+fn tell_next<M: Machine>(core: &mut M, terminal: Terminal, out: &mut Pending)
     requires { array_vec_len out.old + LONGEST ≤ SIZE }
-    ensures { Tells (world_of core.old) (step.Advance terminal) (world_of core.new)
+    ensures { Tells (M.world core.old) (step.Advance terminal) (M.world core.new)
         out.old.items out.new.items }
 {
     let ended = core.advance(terminal);
@@ -317,10 +321,10 @@ fn tell_next(core: &mut Core, terminal: Terminal, out: &mut Pending)
 }
 
 /// Runs stages until one does not answer `more`, and writes only that answer.
-fn tell_run(core: &mut Core, terminal: Terminal, out: &mut Pending)
+fn tell_run<M: Machine>(core: &mut M, terminal: Terminal, out: &mut Pending)
     requires room { array_vec_len out.old + LONGEST ≤ SIZE }
-    requires live { IsLive (Some (world_of core.old)) }
-    ensures { TellsRun (world_of core.old) terminal (world_of core.new)
+    requires live { IsLive (Some (M.world core.old)) }
+    ensures { TellsRun (M.world core.old) terminal (M.world core.new)
         out.old.items out.new.items }
 {
     let ended = run(core, terminal);
@@ -328,10 +332,10 @@ fn tell_run(core: &mut Core, terminal: Terminal, out: &mut Pending)
 }
 
 /// Advances up to the first answer that is not `more`.
-fn run(core: &mut Core, terminal: Terminal) -> Advanced
-    requires { IsLive (Some (world_of core.old)) }
-    ensures { (n : ℕ) × (x : Answer) × IsAnswer (last_reply core.new terminal) result x
-        × RunsIn n (world_of core.old) terminal x (world_of core.new) }
+fn run<M: Machine>(core: &mut M, terminal: Terminal) -> Advanced
+    requires { IsLive (Some (M.world core.old)) }
+    ensures { (n : ℕ) × (x : Answer) × IsAnswer (M.last core.new terminal) result x
+        × RunsIn n (M.world core.old) terminal x (M.world core.new) }
 {
     loop {
         match core.advance(terminal) {
@@ -343,10 +347,10 @@ fn run(core: &mut Core, terminal: Terminal) -> Advanced
 
 /// Appends the answer of a terminal's advance that ended so. The core lends the reply of a commit.
 #[inline(always)]
-fn tell_advanced(core: &Core, terminal: Terminal, ended: &Advanced, out: &mut Pending)
+fn tell_advanced<M: Machine>(core: &M, terminal: Terminal, ended: &Advanced, out: &mut Pending)
     requires room { array_vec_len out.old + LONGEST ≤ SIZE }
-    requires answer { (x : Answer) × IsAnswer (last_reply core.now terminal) ended.now x }
-    ensures { (x : Answer) → IsAnswer (last_reply core.now terminal) ended.now x
+    requires answer { (x : Answer) × IsAnswer (M.last core.now terminal) ended.now x }
+    ensures { (x : Answer) → IsAnswer (M.last core.now terminal) ended.now x
         → out.new.items ≡ out.old.items ++ answer_line x }
 {
     match ended {
@@ -358,10 +362,10 @@ fn tell_advanced(core: &Core, terminal: Terminal, ended: &Advanced, out: &mut Pe
 
 /// Appends the answer of the commit at a moment which a terminal's last transaction made.
 #[inline]
-fn tell_commit(core: &Core, terminal: Terminal, moment: Moment, out: &mut Pending)
+fn tell_commit<M: Machine>(core: &M, terminal: Terminal, moment: Moment, out: &mut Pending)
     requires room { array_vec_len out.old + LONGEST ≤ SIZE }
-    requires reply { IsSome (last_reply core.now terminal) }
-    ensures { (y : Reply) → last_reply core.now terminal ≡ Some y
+    requires reply { IsSome (M.last core.now terminal) }
+    ensures { (y : Reply) → M.last core.now terminal ≡ Some y
         → out.new.items ≡ out.old.items ++ answer_line (Answer.Committed moment y) }
 {
     match &core.last_reply(terminal) {
@@ -372,11 +376,16 @@ fn tell_commit(core: &Core, terminal: Terminal, moment: Moment, out: &mut Pendin
 
 /// Audits the moment that is asked for.
 #[inline(never)]
-fn tell_audit(core: &mut Core, condition: Condition, moment: MomentChoice, out: &mut Pending)
+fn tell_audit<M: Machine>(
+    core: &mut M,
+    condition: Condition,
+    moment: MomentChoice,
+    out: &mut Pending,
+)
     requires { array_vec_len out.old + LONGEST ≤ SIZE }
-    ensures { Tells (world_of core.old)
-        (step.Audit condition (moment_in (world_of core.old) moment))
-        (world_of core.new) out.old.items out.new.items }
+    ensures { Tells (M.world core.old)
+        (step.Audit condition (moment_in (M.world core.old) moment))
+        (M.world core.new) out.old.items out.new.items }
 {
     let moment = moment_of(core, moment);
     match core.audit(condition, moment) {
@@ -387,39 +396,39 @@ fn tell_audit(core: &mut Core, condition: Condition, moment: MomentChoice, out: 
 
 /// Answers a query of the moment that is asked for.
 #[inline(never)]
-fn tell_read(core: &mut Core, moment: MomentChoice, query: &Query, out: &mut Pending)
+fn tell_read<M: Machine>(core: &mut M, moment: MomentChoice, query: &Query, out: &mut Pending)
     requires { array_vec_len out.old + LONGEST ≤ SIZE }
-    ensures { Tells (world_of core.old)
-        (step.Read (moment_in (world_of core.old) moment) query.now)
-        (world_of core.new) out.old.items out.new.items }
+    ensures { Tells (M.world core.old)
+        (step.Read (moment_in (M.world core.old) moment) query.now)
+        (M.world core.new) out.old.items out.new.items }
 {
     let moment = moment_of(core, moment);
     answer(out, &core.read(moment, query));
 }
 
 /// Lets go of what is older than the moment that is asked for.
-fn tell_purge(core: &mut Core, moment: MomentChoice, out: &mut Pending)
+fn tell_purge<M: Machine>(core: &mut M, moment: MomentChoice, out: &mut Pending)
     requires { array_vec_len out.old + LONGEST ≤ SIZE }
-    ensures { Tells (world_of core.old) (step.Purge (moment_in (world_of core.old) moment))
-        (world_of core.new) out.old.items out.new.items }
+    ensures { Tells (M.world core.old) (step.Purge (moment_in (M.world core.old) moment))
+        (M.world core.new) out.old.items out.new.items }
 {
     let moment = moment_of(core, moment);
     answer(out, &core.purge(moment));
 }
 
 /// Takes the tables back to the moment that is asked for.
-fn tell_rewind(core: &mut Core, moment: MomentChoice, out: &mut Pending)
+fn tell_rewind<M: Machine>(core: &mut M, moment: MomentChoice, out: &mut Pending)
     requires { array_vec_len out.old + LONGEST ≤ SIZE }
-    ensures { Tells (world_of core.old) (step.Rewind (moment_in (world_of core.old) moment))
-        (world_of core.new) out.old.items out.new.items }
+    ensures { Tells (M.world core.old) (step.Rewind (moment_in (M.world core.old) moment))
+        (M.world core.new) out.old.items out.new.items }
 {
     let moment = moment_of(core, moment);
     answer(out, &core.rewind(moment));
 }
 
 /// Gives the moment that is asked for.
-fn moment_of(core: &Core, choice: MomentChoice) -> Moment
-    ensures { result ≡ moment_in (world_of core.now) choice }
+fn moment_of<M: Machine>(core: &M, choice: MomentChoice) -> Moment
+    ensures { result ≡ moment_in (M.world core.now) choice }
 {
     match choice {
         MomentChoice::Now => core.newest(),

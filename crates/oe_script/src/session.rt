@@ -11,10 +11,10 @@ use crate::listeners::{Listener, Place};
 use crate::outcome::answer_line;
 use arrayvec::ArrayVec;
 use memchr::memchr;
-use oe_core::Core;
 use oe_filelines::HeldLine;
 use oe_io::output::{flush, put_bad};
 use oe_io::ports::{Failed, Intake, Outlet};
+use oe_machine::Machine;
 use oe_texts::Pending;
 use std::alloc::Global;
 use thiserror::Error;
@@ -25,9 +25,9 @@ pub const LINE: usize = 1_024;
 /// So many bytes are read at once.
 pub const PIECE: usize = 65_536;
 
-/// It can't be dropped, since a core can't: `close` ends it.
-pub struct Session {
-    pub core: Option<Core>,
+/// It can't be dropped, since a machine can't: `close` ends it.
+pub struct Session<M: Machine> {
+    pub core: Option<M>,
     /// The beginning of a line whose end was not read yet.
     pub line: HeldLine<LINE>,
     /// How many lines came before.
@@ -46,9 +46,9 @@ pub enum ScriptFault {
     Write,
 }
 
-impl Session {
+impl<M: Machine> Session<M> {
     /// Makes a session where nothing is open, read or answered.
-    pub fn new() -> Session
+    pub fn new() -> Session<M>
         ensures { result ≡ record {
           core = None;
           line = Some [];
@@ -59,8 +59,8 @@ impl Session {
         Session::begun(None)
     }
 
-    /// Makes a session where that core is open, and nothing read or answered.
-    pub fn on(core: Core) -> Session
+    /// Makes a session where that machine is open, and nothing read or answered.
+    pub fn on(core: M) -> Session<M>
         ensures { result ≡ record {
           core = Some core;
           line = Some [];
@@ -72,7 +72,7 @@ impl Session {
     }
 
     /// Makes a session where this is open, and nothing read or answered.
-    fn begun(core: Option<Core>) -> Session
+    fn begun(core: Option<M>) -> Session<M>
         ensures { result ≡ record {
           core = core;
           line = Some [];
@@ -111,11 +111,11 @@ impl Session {
         writer: &mut W,
         listener: &mut H,
     ) -> Result<(), ScriptFault>
-        requires live { IsLive (state_of self.old.core) }
+        requires live { IsLive (state_of M.world self.old.core) }
         requires line { self.old.line ≡ Some [] }
         requires count { self.old.count ≡ 0 }
         requires out { self.old.out.items ≡ [] }
-        ensures { ScriptHeard (state_of self.old.core)
+        ensures { ScriptHeard (state_of M.world self.old.core)
             (λ told. HearsEach H.hears listener.old told listener.new)
             (R.source reader.old) (R.source reader.new)
             (W.sink writer.old) (W.sink writer.new) result }
@@ -150,13 +150,13 @@ impl Session {
         listener: &mut H,
     ) -> Result<(), Failed>
         requires count { self.old.count + length piece.now < 2 ^ 128 }
-        requires live { IsLive (state_of self.old.core) }
+        requires live { IsLive (state_of M.world self.old.core) }
         ensures fed { (d : Dialogue H) (input : List ℕ)
-            → StandsIn d H.hears input listener.old (W.sink to.old) self.old
-            → FedIn d H.hears (input ++ piece.now) listener.new (W.sink to.new) self.new result }
+            → StandsIn d M.world H.hears input listener.old (W.sink to.old) self.old
+            → FedIn d M.world H.hears (input ++ piece.now) listener.new (W.sink to.new) self.new result }
         ensures written { OnOk result (self.new.out.items ≡ []) }
         ensures count { self.new.count ≤ self.old.count + length piece.now }
-        ensures live { IsLive (state_of self.new.core) }
+        ensures live { IsLive (state_of M.world self.new.core) }
     {
         if let Err(e) = self.feed(alloc, piece, to, listener) {
             return Err(e);
@@ -173,12 +173,12 @@ impl Session {
         listener: &mut H,
     ) -> Result<(), Failed>
         requires count { self.old.count + length piece.now < 2 ^ 128 }
-        requires live { IsLive (state_of self.old.core) }
+        requires live { IsLive (state_of M.world self.old.core) }
         ensures fed { (d : Dialogue H) (input : List ℕ)
-            → StandsIn d H.hears input listener.old (W.sink to.old) self.old
-            → FedIn d H.hears (input ++ piece.now) listener.new (W.sink to.new) self.new result }
+            → StandsIn d M.world H.hears input listener.old (W.sink to.old) self.old
+            → FedIn d M.world H.hears (input ++ piece.now) listener.new (W.sink to.new) self.new result }
         ensures count { self.new.count ≤ self.old.count + length piece.now }
-        ensures live { IsLive (state_of self.new.core) }
+        ensures live { IsLive (state_of M.world self.new.core) }
     {
         let mut rest = piece;
         while let Some(n) = memchr(b'\n', rest) {
@@ -196,7 +196,7 @@ impl Session {
     fn finish<W: Outlet, H: Listener>(&mut self, to: &mut W, listener: &mut H) -> Result<(), Failed>
         requires { self.old.count + 1 < 2 ^ 128 }
         ensures { (d : Dialogue H) (input : List ℕ)
-            → StandsIn d H.hears input listener.old (W.sink to.old) self.old
+            → StandsIn d M.world H.hears input listener.old (W.sink to.old) self.old
             → EndedIn d H.hears input listener.new (W.sink to.new) result }
     {
         let is_begun = self.line.is_begun();
@@ -235,17 +235,17 @@ impl Session {
         listener: &mut H,
     ) -> Result<(), Failed>
         requires count { self.old.count + 1 < 2 ^ 128 }
-        requires live { IsLive (state_of self.old.core) }
+        requires live { IsLive (state_of M.world self.old.core) }
         ensures answer { (line : List ℕ) → Holds self.old.line line →
-            Replies (state_of self.old.core) (self.old.count + 1) (line ++ last.now)
-            (state_of self.new.core) (W.sink to.old) self.old.out.items
+            Replies (state_of M.world self.old.core) (self.old.count + 1) (line ++ last.now)
+            (state_of M.world self.new.core) (W.sink to.old) self.old.out.items
             (W.sink to.new) self.new.out.items result }
         ensures heard { (line : List ℕ) → Holds self.old.line line →
-            Attends H.hears (state_of self.old.core) (self.old.count + 1) (line ++ last.now)
+            Attends H.hears (state_of M.world self.old.core) (self.old.count + 1) (line ++ last.now)
             listener.old listener.new result }
         ensures line { self.new.line ≡ Some [] }
         ensures count { self.new.count ≡ self.old.count + 1 }
-        ensures live { IsLive (state_of self.new.core) }
+        ensures live { IsLive (state_of M.world self.new.core) }
     {
         self.count += 1;
         if self.line.is_begun() || LINE < last.len() {
@@ -271,16 +271,16 @@ impl Session {
         to: &mut W,
         listener: &mut H,
     ) -> Result<(), Failed>
-        requires live { IsLive (state_of self.old.core) }
+        requires live { IsLive (state_of M.world self.old.core) }
         ensures answer { (line : List ℕ) → Holds self.old.line line →
-            Replies (state_of self.old.core) self.old.count line (state_of self.new.core)
+            Replies (state_of M.world self.old.core) self.old.count line (state_of M.world self.new.core)
             (W.sink to.old) self.old.out.items (W.sink to.new) self.new.out.items result }
         ensures heard { (line : List ℕ) → Holds self.old.line line →
-            Attends H.hears (state_of self.old.core) self.old.count line
+            Attends H.hears (state_of M.world self.old.core) self.old.count line
             listener.old listener.new result }
         ensures line { self.new.line ≡ Some [] }
         ensures count { self.new.count ≡ self.old.count }
-        ensures live { IsLive (state_of self.new.core) }
+        ensures live { IsLive (state_of M.world self.new.core) }
     {
         let Some(line) = self.line.text() else {
             self.line.clear();
@@ -306,8 +306,8 @@ impl Session {
 }
 
 /// Tells where a whole line stands.
-fn place_in(core: &Option<Core>) -> Place
-    ensures { result ≡ place_of (state_of core.now) }
+fn place_in<M: Machine>(core: &Option<M>) -> Place
+    ensures { result ≡ place_of (state_of M.world core.now) }
 {
     match core {
         None => Place::Closed,
@@ -317,8 +317,8 @@ fn place_in(core: &Option<Core>) -> Place
 
 /// Answers a line of at most 1,024 bytes. The listener hears of it where it is no command.
 #[inline(always)]
-fn answer_whole<W: Outlet, H: Listener>(
-    core: &mut Option<Core>,
+fn answer_whole<W: Outlet, H: Listener, M: Machine>(
+    core: &mut Option<M>,
     alloc: Global,
     line: &[u8],
     number: u128,
@@ -327,10 +327,10 @@ fn answer_whole<W: Outlet, H: Listener>(
     listener: &mut H,
 ) -> Result<(), Failed>
     requires short { length line.now ≤ 1_024 }
-    requires live { IsLive (state_of core.old) }
-    ensures answer { Replies (state_of core.old) number line.now (state_of core.new)
+    requires live { IsLive (state_of M.world core.old) }
+    ensures answer { Replies (state_of M.world core.old) number line.now (state_of M.world core.new)
         (W.sink to.old) out.old.items (W.sink to.new) out.new.items result }
-    ensures heard { Attends H.hears (state_of core.old) number line.now
+    ensures heard { Attends H.hears (state_of M.world core.old) number line.now
         listener.old listener.new result }
 {
     match answer_line(core, alloc, line, number, out, to) {

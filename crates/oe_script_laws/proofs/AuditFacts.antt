@@ -24,7 +24,7 @@ use Rattle.oe_model.specs.System.{system}
 use Rattle.oe_model.proofs.ConsistencyFacts.{consistent}
 use Rattle.oe_model.proofs.SystemLaws.{laws}
 use Rattle.oe_model.proofs.VerdictFacts.{verdicts_are_exact}
-use Rattle.oe_audit.specs.Verdict.{condition_of, verdict_of}
+use Rattle.oe_machine.specs.Verdict.{condition_of, verdict_of}
 use Rattle.oe_texts.specs.Answer.{audit_line}
 use Rattle.oe_lines.specs.declared.commands.Command.{Command}
 use Rattle.oe_lines.specs.declared.commands.Command.TheVariants as command
@@ -32,7 +32,7 @@ use Rattle.oe_lines.specs.declared.commands.MomentChoice.{MomentChoice}
 use Rattle.oe_lines.specs.declared.commands.MomentChoice.TheVariants as moment
 use Rattle.oe_consistency.proofs.KeptMore.{kept, base_more}
 use Rattle.oe_consistency.proofs.PopulationMore.{population_has_more}
-use Rattle.oe_core.specs.Steps.{step_in, answer_in}
+use Rattle.oe_machine.specs.Steps.{step_in, answer_in}
 use Rattle.oe_script.specs.Script as script
 use Rattle.oe_script.specs.Script.{State, moment_in, step_answer, Answers, Asks, LineAnswer, RunOfLines}
 use Rattle.oe_script.proofs.LineFacts.{one_command}

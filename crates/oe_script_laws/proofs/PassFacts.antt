@@ -18,7 +18,7 @@ use Rattle.oe_lines.specs.declared.commands.RingChoice.{RingChoice}
 use Rattle.oe_lines.specs.Rings.{layout_of}
 use Rattle.oe_lines.specs.Grammar.{Says}
 use Rattle.oe_lines.specs.declared.commands.Command.TheVariants as command
-use Rattle.oe_core.specs.Steps.{step_in, answer_in}
+use Rattle.oe_machine.specs.Steps.{step_in, answer_in}
 use Rattle.oe_runs.specs.Run.{Served, Ran}
 use Rattle.oe_runs.proofs.RunFacts.{ran_so, still_reached}
 use Rattle.oe_script.specs.Script.{State, RunOfLines}

@@ -23,7 +23,7 @@ use Rattle.oe_lines.specs.Rings.{layout_of}
 use Rattle.oe_lines.specs.declared.commands.Command.{Command}
 use Rattle.oe_lines.specs.declared.commands.Command.TheVariants as command
 use Rattle.oe_lines.specs.declared.commands.MomentChoice.{MomentChoice}
-use Rattle.oe_core.specs.Steps.{answer_in}
+use Rattle.oe_machine.specs.Steps.{answer_in}
 use Rattle.oe_runs.specs.Run.{steps_in, answers_in}
 use Rattle.oe_script.specs.Script as script
 use Rattle.oe_script.specs.Script.{State, moment_in, Answers, Asks, LineAnswer}

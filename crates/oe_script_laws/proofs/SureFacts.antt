@@ -23,7 +23,7 @@ use Rattle.oe_lines.specs.Rings.{layout_of}
 use Rattle.oe_lines.specs.declared.commands.Command.{Command}
 use Rattle.oe_lines.specs.declared.commands.Command.TheVariants as command
 use Rattle.oe_lines.specs.declared.commands.Display.{Display}
-use Rattle.oe_core.specs.Steps.{step_in, answer_in}
+use Rattle.oe_machine.specs.Steps.{step_in, answer_in}
 use Rattle.oe_script.specs.Script.{State, shown_text, Opens, Answers, last_text, Output}
 use Rattle.oe_filelines.specs.Lines.{IsInLine, with_line_end}
 use Rattle.oe_script.proofs.LineFacts.{one_command}

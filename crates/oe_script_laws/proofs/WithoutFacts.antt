@@ -28,7 +28,7 @@ use Rattle.oe_lines.specs.declared.commands.Command.{Command}
 use Rattle.oe_lines.specs.declared.commands.Command.TheVariants as command
 use Rattle.oe_lines.specs.declared.commands.MomentChoice.{MomentChoice}
 use Rattle.oe_lines.specs.declared.commands.MomentChoice.TheVariants as moment
-use Rattle.oe_core.specs.Steps.{step_in, other_refusal, refusal_in, answer_in}
+use Rattle.oe_machine.specs.Steps.{step_in, other_refusal, refusal_in, answer_in}
 use Rattle.oe_script.specs.Script.{State, moment_in, shown_text, IsAllowed, Asks}
 use Rattle.oe_filelines.specs.Lines.{IsInLine}
 use Rattle.oe_script_laws.specs.Beside.{gives_way, answer_without, without_open}

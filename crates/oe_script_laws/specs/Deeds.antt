@@ -12,7 +12,7 @@ use Rattle.oe_lines.specs.declared.commands.RingChoice.{RingChoice}
 use Rattle.oe_lines.specs.declared.commands.Command.{Command}
 use Rattle.oe_lines.specs.declared.commands.Command.TheVariants as command
 use Rattle.oe_lines.specs.declared.commands.Display.{Display}
-use Rattle.oe_core.specs.Steps.{step_in, answer_in}
+use Rattle.oe_machine.specs.Steps.{step_in, answer_in}
 use Rattle.oe_io.specs.Lines.{bad_line}
 use Rattle.oe_runs.specs.Run.{steps_in, answers_in}
 use Rattle.oe_script.specs.Script.{State, moment_in, step_answer, Answers, Asks}

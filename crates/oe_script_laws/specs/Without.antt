@@ -10,7 +10,7 @@ use Rattle.oe_requests.specs.declared.answers.Answer.TheVariants as answer
 use Rattle.oe_requests.specs.declared.steps.Step.TheVariants as step
 use Rattle.oe_lines.specs.Grammar.{words_of}
 use Rattle.oe_lines.specs.declared.commands.Command.TheVariants as command
-use Rattle.oe_core.specs.Steps.{step_in, answer_in}
+use Rattle.oe_machine.specs.Steps.{step_in, answer_in}
 use Rattle.oe_script_laws.specs.Beside.{gives_way}
 use Rattle.oe_script_laws.specs.Deeds.{Deed, No_form, Opening, Shown, Steps, Entry, Was}
 

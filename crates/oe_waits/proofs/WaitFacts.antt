@@ -14,8 +14,8 @@ use Rattle.oe_rows.specs.declared.locks.Name.{Name}
 use Rattle.oe_requests.specs.declared.refusals.Refusal.{Refusal}
 use Rattle.oe_model.specs.System.{system, ask, terminal_limit}
 use Rattle.oe_model.proofs.SystemLaws.{laws}
-use Rattle.oe_engine.specs.Programs.{lock_asked}
-use Rattle.oe_core.specs.Asks.{wanted_of, wanted_by, held_of, held_by}
+use Rattle.oe_locks.specs.Holds.{lock_asked}
+use Rattle.oe_machine.specs.Asks.{wanted_of, wanted_by, held_of, held_by}
 use Rattle.oe_waits.specs.Knots.{Chain}
 use Rattle.oe_waits.specs.Waits.{is_kept_out, waits_for, last_terminal, waits, Waiting_is_busy, Waits_are_chains}
 use Rattle.oe_waits.specs.Waits.{Someone_goes_on}

@@ -10,7 +10,7 @@ use Rattle.oe_values.specs.Text.{IsText}
 use Rattle.oe_rows.specs.declared.locks.Name.{Name}
 use Rattle.oe_rows.specs.declared.locks.Name.TheVariants.{Warehouse, District, Customer, Order, Queue, Stock, Names}
 use Rattle.oe_model.specs.System.{system}
-use Rattle.oe_core.specs.Asks.{held_by}
+use Rattle.oe_machine.specs.Asks.{held_by}
 
 -- the greatest numbers in a key; shut, so that no proof counts up to them
 unfoldable pub last_warehouse : ℕ

@@ -8,7 +8,7 @@ use Rattle.oe_rows.specs.declared.locks.Name.{Name}
 use Rattle.oe_model.specs.System.{system}
 use Rattle.oe_texts.specs.Dump.{count_line}
 use Rattle.oe_texts.specs.Key.{name_text}
-use Rattle.oe_core.specs.Asks.{held_by, wanted_by}
+use Rattle.oe_machine.specs.Asks.{held_by, wanted_by}
 use Rattle.oe_waits.specs.Knots.{count_to}
 use Rattle.oe_waits.specs.Names.{held_count, held_names}
 use Rattle.oe_waits.specs.Waits.{waits_for, last_terminal, waits, wait_in_cycle, is_least_in_cycle}

@@ -8,7 +8,7 @@ use Rattle.oe_theory.specs.Theorems.{IsReached}
 use Rattle.oe_values.specs.declared.numbers.TheConstants.{TERMINALS}
 use Rattle.oe_rows.specs.declared.locks.Name.{Name}
 use Rattle.oe_model.specs.System.{system}
-use Rattle.oe_core.specs.Asks.{wanted_by, held_by}
+use Rattle.oe_machine.specs.Asks.{wanted_by, held_by}
 use Rattle.oe_waits.specs.Knots.{any_to, leads_through, are_knotted, is_least_knotted, Reaches, HasNoCycle}
 
 -- what is asked for can't be had beside what is held

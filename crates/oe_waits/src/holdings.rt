@@ -9,7 +9,6 @@ ghost use Rattle.std.specs.Option.{MatchOption};
 ghost use Rattle.arrayvec.specs.ArrayVec.{array_vec_len};
 ghost use Rattle.oe_values.specs.Text.{IsText};
 ghost use Rattle.oe_rows.specs.declared.locks.Name.{Name};
-ghost use Rattle.oe_core.specs.Core.{world_of};
 ghost use Rattle.oe_io.specs.Ports.{Streams};
 ghost use Rattle.oe_waits.specs.Names.{held_count, held_names, is_before, is_left, lesser, place, IsInRanges, IsLeast};
 ghost use Rattle.oe_waits.specs.Texts.{held_line, held_lines, locks_text, texts_to};
@@ -18,9 +17,9 @@ ghost use Rattle.oe_waits.specs.Waits.{last_terminal};
 use crate::shows::{mode as append_mode, total};
 use crate::waiting::terminal_after;
 use arrayvec::ArrayVec;
-use oe_core::Core;
 use oe_io::output::make_room;
 use oe_io::ports::{Failed, Outlet};
+use oe_machine::Machine;
 use oe_rows::Name;
 use oe_texts::{LONGEST, Pending, SIZE, name as append_name, small, text};
 use oe_values::{ShortText, TERMINALS, Terminal};
@@ -109,10 +108,10 @@ fn lesser<'a>(least: Option<&'a Name>, name: &'a Name, is_left: bool) -> Option<
 }
 
 /// Gives the least name behind a place that a terminal holds, where there is one.
-fn next_held<'a>(core: &'a Core, holder: Terminal, behind: &Place) -> Option<&'a Name>
+fn next_held<'a, M: Machine>(core: &'a M, holder: Terminal, behind: &Place) -> Option<&'a Name>
     ensures { MatchOption (option_map (λ n. n.now) result)
-        ((q : Name) → is_left (world_of core.now) holder behind.now.items q ≡ false)
-        (IsLeast (is_left (world_of core.now) holder behind.now.items)) }
+        ((q : Name) → is_left (M.world core.now) holder behind.now.items q ≡ false)
+        (IsLeast (is_left (M.world core.now) holder behind.now.items)) }
 {
     let names = core.names(holder);
     let mut least = None;
@@ -123,9 +122,9 @@ fn next_held<'a>(core: &'a Core, holder: Terminal, behind: &Place) -> Option<&'a
 }
 
 /// Appends the line of a name in the mode in which a terminal holds it, where it does.
-fn held(core: &Core, holder: Terminal, name: &Name, out: &mut Pending)
+fn held<M: Machine>(core: &M, holder: Terminal, name: &Name, out: &mut Pending)
     requires { array_vec_len out.old + LONGEST ≤ SIZE }
-    ensures { out.new.items ≡ out.old.items ++ held_line (world_of core.now) holder name.now }
+    ensures { out.new.items ≡ out.old.items ++ held_line (M.world core.now) holder name.now }
 {
     match core.held(holder, name) {
         Some(mode) => {
@@ -141,22 +140,22 @@ fn held(core: &Core, holder: Terminal, name: &Name, out: &mut Pending)
 }
 
 /// Tells that a terminal's names are few: all stand on one list.
-fn names_are_few(core: &Core, holder: Terminal)
-    ensures { length (held_names (world_of core.now) holder) < 2 ^ 64 }
+fn names_are_few<M: Machine>(core: &M, holder: Terminal)
+    ensures { length (held_names (M.world core.now) holder) < 2 ^ 64 }
 {
     let _count = core.names(holder).len();
 }
 
 /// Appends the lines of a terminal's names, and tells how many there are.
-fn all_of_one<W: Outlet>(
-    core: &Core,
+fn all_of_one<W: Outlet, M: Machine>(
+    core: &M,
     holder: Terminal,
     out: &mut Pending,
     to: &mut W,
 ) -> Result<u128, Failed>
     ensures stream { Streams (W.sink to.old) out.old.items (W.sink to.new) out.new.items
-        (held_lines (world_of core.now) holder) result }
-    ensures count { IfOk result (λ n. n ≡ length (held_names (world_of core.now) holder)) }
+        (held_lines (M.world core.now) holder) result }
+    ensures count { IfOk result (λ n. n ≡ length (held_names (M.world core.now) holder)) }
     ensures few { IfOk result (λ n. n < 2 ^ 64) }
 {
     names_are_few(core, holder);
@@ -174,10 +173,10 @@ fn all_of_one<W: Outlet>(
 }
 
 /// Appends the lines of all terminals' names, and tells how many there are.
-fn all_held<W: Outlet>(core: &Core, out: &mut Pending, to: &mut W) -> Result<u128, Failed>
+fn all_held<W: Outlet, M: Machine>(core: &M, out: &mut Pending, to: &mut W) -> Result<u128, Failed>
     ensures stream { Streams (W.sink to.old) out.old.items (W.sink to.new) out.new.items
-        (texts_to (held_lines (world_of core.now)) last_terminal) result }
-    ensures count { IfOk result (λ n. n ≡ held_count (world_of core.now) last_terminal) }
+        (texts_to (held_lines (M.world core.now)) last_terminal) result }
+    ensures count { IfOk result (λ n. n ≡ held_count (M.world core.now) last_terminal) }
 {
     let mut count = 0u128;
     for before in 0..TERMINALS {
@@ -192,9 +191,13 @@ fn all_held<W: Outlet>(core: &Core, out: &mut Pending, to: &mut W) -> Result<u12
 /// Writes which names the terminals hold, in which modes, and how many there are: by terminal, and
 /// of each terminal by the kind of name, the columns of its key and the letters of a last name. An
 /// error is one of the writer.
-pub fn show_locks<W: Outlet>(core: &Core, out: &mut Pending, to: &mut W) -> Result<(), Failed>
+pub fn show_locks<W: Outlet, M: Machine>(
+    core: &M,
+    out: &mut Pending,
+    to: &mut W,
+) -> Result<(), Failed>
     ensures { Streams (W.sink to.old) out.old.items (W.sink to.new) out.new.items
-        (locks_text (world_of core.now)) result }
+        (locks_text (M.world core.now)) result }
 {
     match all_held(core, out, to) {
         Ok(count) => total(count, out, to),

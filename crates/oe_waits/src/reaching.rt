@@ -4,12 +4,11 @@
 //! terminal that is found is done once all to which it leads at once are found too.
 ghost use Rattle.std.specs.Prelude.{◌≡◌, ◌≤◌, ◌&&◌, ◌||◌, ℕ, length, true, false};
 ghost use Rattle.std.specs.Option.{MatchOption};
-ghost use Rattle.oe_core.specs.Core.{world_of};
 ghost use Rattle.oe_waits.specs.Reaching.{is_in, leads, leads_through};
 ghost use Rattle.oe_waits.specs.Waits.{waits_through};
 
 use crate::waiting::{terminal_after, waits_for};
-use oe_core::Core;
+use oe_machine::Machine;
 use oe_values::{TERMINALS, Terminal};
 
 /// Which way a wait is followed: to whom a terminal waits for, or to who waits for it.
@@ -20,8 +19,8 @@ pub(crate) enum Way {
 }
 
 /// Tells whether a wait leads from one terminal to another.
-fn leads(core: &Core, way: Way, from: Terminal, to: Terminal) -> bool
-    ensures { result ≡ leads (world_of core.now) way from to }
+fn leads<M: Machine>(core: &M, way: Way, from: Terminal, to: Terminal) -> bool
+    ensures { result ≡ leads (M.world core.now) way from to }
 {
     match way {
         Way::Ahead => waits_for(core, from, to),
@@ -30,9 +29,9 @@ fn leads(core: &Core, way: Way, from: Terminal, to: Terminal) -> bool
 }
 
 /// Adds the terminals to which a wait leads from one.
-fn add_next(core: &Core, way: Way, from: Terminal, found: &mut [bool; 65])
+fn add_next<M: Machine>(core: &M, way: Way, from: Terminal, found: &mut [bool; 65])
     ensures { (u : ℕ) → 1 ≤ u → u ≤ 64 → is_in found.new u
-        ≡ (is_in found.old u || leads (world_of core.now) way from u) }
+        ≡ (is_in found.old u || leads (M.world core.now) way from u) }
 {
     for before in 0..TERMINALS {
         let to = terminal_after(before);
@@ -74,9 +73,9 @@ pub(crate) fn is_in_both(ahead: &[bool; 65], back: &[bool; 65], terminal: Termin
 }
 
 /// Finds the terminals to which waits lead from one, at once or through others.
-pub(crate) fn reached(core: &Core, way: Way, from: Terminal) -> [bool; 65]
+pub(crate) fn reached<M: Machine>(core: &M, way: Way, from: Terminal) -> [bool; 65]
     ensures { (u : ℕ) → 1 ≤ u → u ≤ 64 →
-        is_in result u ≡ leads_through (world_of core.now) way from u }
+        is_in result u ≡ leads_through (M.world core.now) way from u }
 {
     core.is_reached();
     let mut found = none();
@@ -97,8 +96,8 @@ fn is_in(set: &[bool; 65], terminal: Terminal) -> bool
 }
 
 /// Tells whether a terminal waits for itself, through others.
-pub fn waits_for_itself(core: &Core, terminal: Terminal) -> bool
-    ensures { result ≡ waits_through (world_of core.now) terminal terminal }
+pub fn waits_for_itself<M: Machine>(core: &M, terminal: Terminal) -> bool
+    ensures { result ≡ waits_through (M.world core.now) terminal terminal }
 {
     let _number = terminal.get();
     let ahead = reached(core, Way::Ahead, terminal);

@@ -3,9 +3,8 @@ ghost use Rattle.std.specs.Prelude.{◌≡◌, ◌≤◌, ◌<◌, ◌+◌, ◌+
 ghost use Rattle.oe_texts.specs.Dump.{count_line};
 ghost use Rattle.arrayvec.specs.ArrayVec.{array_vec_len};
 ghost use Rattle.oe_model.specs.Locks.{mode_of};
-ghost use Rattle.oe_engine.specs.Programs.{hold_of};
-ghost use Rattle.oe_core.specs.Asks.{wanted_by};
-ghost use Rattle.oe_core.specs.Core.{world_of};
+ghost use Rattle.oe_locks.specs.Holds.{hold_of};
+ghost use Rattle.oe_machine.specs.Asks.{wanted_by};
 ghost use Rattle.oe_io.specs.Ports.{Streams};
 ghost use Rattle.oe_waits.specs.Knots.{any_to, count_to};
 ghost use Rattle.oe_waits.specs.Waits.{is_least_in_cycle, last_terminal, wait_in_cycle, waits, waits_for};
@@ -15,13 +14,13 @@ ghost use Rattle.oe_waits.specs.Texts.{cycle_line, lock_text, mode_text, or_no_c
 use crate::reaching::{Way, is_in_both, reached};
 use crate::waiting::{terminal_after, waits, waits_for};
 use itoa::Buffer;
-use oe_core::Core;
 use oe_io::output::make_room;
 use oe_io::ports::{Failed, Outlet};
+use oe_locks::Lock;
+use oe_machine::Machine;
 use oe_rows::Mode;
 use oe_texts::{LONGEST, Pending, SIZE, name, small, text};
 use oe_values::{TERMINALS, Terminal};
-use oe_writes::Lock;
 
 /// Appends `S` or `X`.
 pub(crate) fn mode(out: &mut Pending, mode: Mode)
@@ -57,10 +56,10 @@ fn terminal(out: &mut Pending, terminal: Terminal)
 }
 
 /// Appends the terminals that one waits for.
-fn holders(core: &Core, waiting: Terminal, out: &mut Pending)
+fn holders<M: Machine>(core: &M, waiting: Terminal, out: &mut Pending)
     requires { array_vec_len out.old + 704 ≤ SIZE }
     ensures items { out.new.items ≡ out.old.items ++ texts_to
-        (λ u. cond (waits_for (world_of core.now) waiting u) (terminal_text u) []) last_terminal }
+        (λ u. cond (waits_for (M.world core.now) waiting u) (terminal_text u) []) last_terminal }
     ensures len { array_vec_len out.new ≤ array_vec_len out.old + 704 }
 {
     for before in 0..TERMINALS {
@@ -72,10 +71,10 @@ fn holders(core: &Core, waiting: Terminal, out: &mut Pending)
 }
 
 /// Appends the lock that a terminal's next stage asks for, where it asks for one.
-fn wanted(core: &Core, waiting: Terminal, out: &mut Pending)
+fn wanted<M: Machine>(core: &M, waiting: Terminal, out: &mut Pending)
     requires { array_vec_len out.old + 47 ≤ SIZE }
     ensures items { out.new.items
-        ≡ out.old.items ++ lock_text (wanted_by (world_of core.now) waiting) }
+        ≡ out.old.items ++ lock_text (wanted_by (M.world core.now) waiting) }
     ensures len { array_vec_len out.new ≤ array_vec_len out.old + 47 }
 {
     match core.wanted(waiting) {
@@ -85,11 +84,11 @@ fn wanted(core: &Core, waiting: Terminal, out: &mut Pending)
 }
 
 /// Appends a terminal's line where it waits, and tells whether it does.
-fn waiting(core: &Core, waiting: Terminal, out: &mut Pending) -> bool
+fn waiting<M: Machine>(core: &M, waiting: Terminal, out: &mut Pending) -> bool
     requires { array_vec_len out.old + LONGEST ≤ SIZE }
     ensures items { out.new.items
-        ≡ out.old.items ++ waiting_line (world_of core.now) waiting }
-    ensures waits { result ≡ waits (world_of core.now) waiting }
+        ≡ out.old.items ++ waiting_line (M.world core.now) waiting }
+    ensures waits { result ≡ waits (M.world core.now) waiting }
 {
     if !waits(core, waiting) {
         return false;
@@ -112,11 +111,15 @@ fn with_one(count: u64, is_one: bool) -> u64
 }
 
 /// Appends the lines of all that wait, and tells how many do.
-fn all_waiting<W: Outlet>(core: &Core, out: &mut Pending, to: &mut W) -> Result<u64, Failed>
+fn all_waiting<W: Outlet, M: Machine>(
+    core: &M,
+    out: &mut Pending,
+    to: &mut W,
+) -> Result<u64, Failed>
     ensures stream { Streams (W.sink to.old) out.old.items (W.sink to.new) out.new.items
-        (texts_to (waiting_line (world_of core.now)) last_terminal) result }
+        (texts_to (waiting_line (M.world core.now)) last_terminal) result }
     ensures count { IfOk result
-        (λ n. n ≡ count_to (waits (world_of core.now)) last_terminal) }
+        (λ n. n ≡ count_to (waits (M.world core.now)) last_terminal) }
 {
     let mut count = 0u64;
     for before in 0..TERMINALS {
@@ -187,10 +190,10 @@ fn cycle_in(ahead: &[bool; 65], back: &[bool; 65], least: Terminal, out: &mut Pe
 }
 
 /// Appends the line of the cycle in which a terminal is the least, and tells whether there is one.
-fn cycle(core: &Core, least: Terminal, out: &mut Pending) -> bool
+fn cycle<M: Machine>(core: &M, least: Terminal, out: &mut Pending) -> bool
     requires { array_vec_len out.old + LONGEST ≤ SIZE }
-    ensures items { out.new.items ≡ out.old.items ++ cycle_line (world_of core.now) least }
-    ensures found { result ≡ is_least_in_cycle (world_of core.now) least }
+    ensures items { out.new.items ≡ out.old.items ++ cycle_line (M.world core.now) least }
+    ensures found { result ≡ is_least_in_cycle (M.world core.now) least }
 {
     let ahead = reached(core, Way::Ahead, least);
     let back = reached(core, Way::Back, least);
@@ -206,11 +209,15 @@ fn either(one: bool, other: bool) -> bool
 }
 
 /// Appends the lines of all cycles, and tells whether there is one.
-fn all_cycles<W: Outlet>(core: &Core, out: &mut Pending, to: &mut W) -> Result<bool, Failed>
+fn all_cycles<W: Outlet, M: Machine>(
+    core: &M,
+    out: &mut Pending,
+    to: &mut W,
+) -> Result<bool, Failed>
     ensures stream { Streams (W.sink to.old) out.old.items (W.sink to.new) out.new.items
-        (texts_to (cycle_line (world_of core.now)) last_terminal) result }
+        (texts_to (cycle_line (M.world core.now)) last_terminal) result }
     ensures found { IfOk result
-        (λ f. f ≡ any_to (is_least_in_cycle (world_of core.now)) last_terminal) }
+        (λ f. f ≡ any_to (is_least_in_cycle (M.world core.now)) last_terminal) }
 {
     let mut is_found = false;
     for before in 0..TERMINALS {
@@ -224,9 +231,9 @@ fn all_cycles<W: Outlet>(core: &Core, out: &mut Pending, to: &mut W) -> Result<b
 }
 
 /// Appends the lines of all cycles, or that there is none.
-fn cycles<W: Outlet>(core: &Core, out: &mut Pending, to: &mut W) -> Result<(), Failed>
+fn cycles<W: Outlet, M: Machine>(core: &M, out: &mut Pending, to: &mut W) -> Result<(), Failed>
     ensures { Streams (W.sink to.old) out.old.items (W.sink to.new) out.new.items
-        (or_no_cycle (texts_to (cycle_line (world_of core.now)) last_terminal)) result }
+        (or_no_cycle (texts_to (cycle_line (M.world core.now)) last_terminal)) result }
 {
     match all_cycles(core, out, to) {
         Ok(true) => Ok(()),
@@ -271,9 +278,13 @@ pub(crate) fn total<W: Outlet>(count: u128, out: &mut Pending, to: &mut W) -> Re
 }
 
 /// Writes who waits for whom, the cycles, and how many wait. An error is one of the writer.
-pub fn show_waits<W: Outlet>(core: &Core, out: &mut Pending, to: &mut W) -> Result<(), Failed>
+pub fn show_waits<W: Outlet, M: Machine>(
+    core: &M,
+    out: &mut Pending,
+    to: &mut W,
+) -> Result<(), Failed>
     ensures { Streams (W.sink to.old) out.old.items (W.sink to.new) out.new.items
-        (waits_text (world_of core.now)) result }
+        (waits_text (M.world core.now)) result }
 {
     let count = match all_waiting(core, out, to) {
         Ok(count) => count,

@@ -2,10 +2,9 @@
 ghost use Rattle.std.specs.Prelude.{◌≡◌, ◌<◌, ◌+◌, not, option_map};
 ghost use Rattle.oe_theory.specs.World.{go_together};
 ghost use Rattle.oe_model.specs.Locks.{mode_of};
-ghost use Rattle.oe_core.specs.Core.{world_of};
 ghost use Rattle.oe_waits.specs.Waits.{waits, waits_for};
 
-use oe_core::Core;
+use oe_machine::Machine;
 use oe_rows::Mode;
 use oe_values::{TERMINALS, Terminal};
 
@@ -22,8 +21,8 @@ fn conflicts(asked: Mode, held: Option<Mode>) -> bool
 
 /// Tells whether a terminal waits for another one: its transaction's next stage asks for a name
 /// that the other's transaction holds in a mode that conflicts.
-pub fn waits_for(core: &Core, terminal: Terminal, other: Terminal) -> bool
-    ensures { result ≡ waits_for (world_of core.now) terminal other }
+pub fn waits_for<M: Machine>(core: &M, terminal: Terminal, other: Terminal) -> bool
+    ensures { result ≡ waits_for (M.world core.now) terminal other }
 {
     if terminal == other {
         return false;
@@ -43,8 +42,8 @@ pub(crate) fn terminal_after(before: u32) -> Terminal
 }
 
 /// Tells whether a terminal waits for any other.
-pub fn waits(core: &Core, terminal: Terminal) -> bool
-    ensures { result ≡ waits (world_of core.now) terminal }
+pub fn waits<M: Machine>(core: &M, terminal: Terminal) -> bool
+    ensures { result ≡ waits (M.world core.now) terminal }
 {
     for before in 0..TERMINALS {
         let other = terminal_after(before);

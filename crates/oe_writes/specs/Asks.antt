@@ -7,7 +7,7 @@ use Rattle.oe_requests.specs.declared.refusals.Refusal.{Refusal}
 use Rattle.oe_model.specs.Locks.{mode_of, governs}
 use Rattle.oe_change.specs.declared.writes.Write.{Write}
 use Rattle.oe_change.specs.Writes.{key_written}
-use Rattle.oe_writes.specs.declared.locks.Lock.{Lock}
+use Rattle.oe_locks.specs.declared.asks.Lock.{Lock}
 
 -- the lock that a row asks for, in the words of the theory
 abbrev pub ask_of : Option Lock → Ask Name Refusal

@@ -7,10 +7,9 @@ mod columns;
 mod inserts;
 pub mod kinds;
 mod lending;
-pub mod locks;
+mod locks;
 mod parts;
 mod settings;
 mod unplaced;
 
 pub use kinds::OneWrite;
-pub use locks::Lock;

@@ -16,8 +16,9 @@ ghost use Rattle.oe_writes.specs.Asks.{ask_of_write};
 pub mod inserts;
 pub mod updates;
 
-use crate::locks::{Lock, lock_of};
+use crate::locks::lock_of;
 use oe_layout::LentRecord;
+use oe_locks::Lock;
 use oe_requests::Refusal;
 use oe_rows::{Key, Layout};
 use oe_store::Tables;

@@ -3,7 +3,8 @@ use Rattle.oe_store.specs.Places.{rows}
 use Rattle.oe_store.specs.Places as tables
 use Rattle.oe_versions.specs.Versions.{rows_of}
 use Rattle.oe_audit.specs.AsOf.{ArePassed}
-use Rattle.oe_audit.specs.Verdict.{IsAudited, condition_of, verdict_of}
+use Rattle.oe_machine.specs.Verdict.{condition_of, verdict_of}
+use Rattle.oe_audit.specs.Verdict.{IsAudited}
 use Rattle.oe_audit.proofs.QuietFacts.{audited_now}
 use Rattle.oe_audit.proofs.conditions.condition_at.Goals as goal
 

@@ -1,6 +1,6 @@
 use Rattle.std.proofs.Common.{refl, sym, ◌∙◌, ap}
 use Rattle.oe_store.specs.Places.{rows}
-use Rattle.oe_audit.specs.Verdict.{condition_of}
+use Rattle.oe_machine.specs.Verdict.{condition_of}
 use Rattle.oe_audit.proofs.PopulationFacts.{is_holds, holds_is}
 use Rattle.oe_audit.proofs.populations.holds.Goals as goal
 

@@ -1,6 +1,6 @@
 use Rattle.oe_requests.specs.declared.steps.Step.TheVariants as step
 use Rattle.oe_core.specs.Core.{world_of}
-use Rattle.oe_core.specs.Steps.{answer_in}
+use Rattle.oe_machine.specs.Steps.{answer_in}
 use Rattle.oe_file_serial.proofs.WorkFacts.{purge_keeps}
 use Rattle.oe_file_serial.proofs.alone.forget.Goals as goal
 

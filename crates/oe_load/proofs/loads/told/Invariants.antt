@@ -1,5 +1,4 @@
 use Rattle.std.proofs.Common.{◌≡◌, []}
-use Rattle.oe_core.specs.Core.{world_of}
 use Rattle.oe_numbers.specs.declared.forms.Form.TheVariants.{Script}
 use Rattle.oe_load.specs.Loads.{opening_text}
 use Rattle.oe_load.specs.Scripts.{first_state, IsScript}
@@ -10,7 +9,7 @@ use Rattle.oe_load.proofs.loads.told.Given as goal
 
 -- the lines so far are written or wait
 abbrev pub invariant-loop : goal.invariant-loop
-invariant-loop g l = (o : Origin) → IsScript l.plan o [] (first_state l.plan (world_of l.initial.core))
+invariant-loop g l = (o : Origin) → IsScript l.plan o [] (first_state l.plan (g.M.Machine.world l.initial.core))
     → l.initial.out.items ≡ opening_text l.plan o Script
     → Standing l.plan o (g.W.Outlet.sink l.initial.to) (g.W.Outlet.sink l.to) l.out.items
-    (state_of (world_of l.core) (counts_of l.served) l.drawing)
+    (state_of (g.M.Machine.world l.core) (counts_of l.served) l.drawing)

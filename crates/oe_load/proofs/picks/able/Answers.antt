@@ -1,6 +1,5 @@
 use Rattle.std.proofs.Common.{◌≡◌, ℕ, ◌+◌, ◌-◌, ◌<◌, Some, true, false, sym, ap, ◌∙◌, subst, rules, arith}
 use Rattle.std.specs.Prelude.{Bool}
-use Rattle.oe_core.specs.Core.{world_of}
 use Rattle.oe_load.specs.Turns.{counts_of}
 use Rattle.oe_load.specs.Flats.{behind}
 use Rattle.oe_load.specs.Picks.{holders_of, is_able}
@@ -9,10 +8,10 @@ use Rattle.oe_load.proofs.PickFacts.{found_behind}
 use Rattle.oe_load.proofs.picks.able.Goals as goal
 
 pub returns-then-is_able : goal.returns-then-is_able
-returns-then-is_able c =
+returns-then-is_able g c =
     let p = c.args.plan.now in
     let f : ℕ → Bool =
-    is_able p (world_of c.args.core.now) (counts_of c.args.served.now) (holders_of c.args.holders.now)
+    is_able p (g.M.Machine.world c.args.core.now) (counts_of c.args.served.now) (holders_of c.args.holders.now)
     in
     let b = c.loop-before.before in
     let place : c.terminal_after-terminal.result ≡ behind p c.args.drawn b = search rules in
@@ -23,10 +22,10 @@ returns-then-is_able c =
     ∙ c.loop-before.invariant)
 
 pub loop-before-preserved : goal.loop-before-preserved
-loop-before-preserved c =
+loop-before-preserved g c =
     let p = c.args.plan.now in
     let f : ℕ → Bool =
-    is_able p (world_of c.args.core.now) (counts_of c.args.served.now) (holders_of c.args.holders.now)
+    is_able p (g.M.Machine.world c.args.core.now) (counts_of c.args.served.now) (holders_of c.args.holders.now)
     in
     let b = c.loop-before.before in
     let place : c.terminal_after-terminal.result ≡ behind p c.args.drawn b = search rules in

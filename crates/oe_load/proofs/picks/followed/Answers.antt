@@ -2,15 +2,14 @@ use Rattle.std.proofs.Common.{◌≡◌, ℕ, suc, ◌+◌, ◌-◌, ◌<◌, Op
 use Rattle.std.proofs.lemmas.Bool.{eq-eqb, ne_eqb}
 use Rattle.oe_theory.specs.World.{World}
 use Rattle.oe_model.specs.System.{system}
-use Rattle.oe_core.specs.Core.{world_of}
 use Rattle.oe_waits.specs.Waits.{last_terminal}
 use Rattle.oe_load.specs.Picks.{holders_of, waits_end}
 use Rattle.oe_load.proofs.PickFacts.{ends, comes_back, goes_on, all_are}
 use Rattle.oe_load.proofs.picks.followed.Goals as goal
 
 pub returns-in-None : goal.returns-in-None
-returns-in-None c =
-    let w : World system = world_of c.args.core.now in
+returns-in-None g c =
+    let w : World system = g.M.Machine.world c.args.core.now in
     let named : ℕ → Option ℕ = holders_of c.args.holders.now in
     let t = c.args.terminal in
     let k = c.loop.counter in
@@ -21,8 +20,8 @@ returns-in-None c =
     ∙ c.loop.invariant
 
 pub returns-then-eq : goal.returns-then-eq
-returns-then-eq c =
-    let w : World system = world_of c.args.core.now in
+returns-then-eq g c =
+    let w : World system = g.M.Machine.world c.args.core.now in
     let named : ℕ → Option ℕ = holders_of c.args.holders.now in
     let t = c.args.terminal in
     let k = c.loop.counter in
@@ -34,8 +33,8 @@ returns-then-eq c =
     ∙ c.loop.invariant
 
 pub loop-preserved : goal.loop-preserved
-loop-preserved c =
-    let w : World system = world_of c.args.core.now in
+loop-preserved g c =
+    let w : World system = g.M.Machine.world c.args.core.now in
     let named : ℕ → Option ℕ = holders_of c.args.holders.now in
     let t = c.args.terminal in
     let k = c.loop.counter in
@@ -47,8 +46,8 @@ loop-preserved c =
     ∙ c.loop.invariant
 
 pub returns : goal.returns
-returns c =
-    let w : World system = world_of c.args.core.now in
+returns g c =
+    let w : World system = g.M.Machine.world c.args.core.now in
     let named : ℕ → Option ℕ = holders_of c.args.holders.now in
     let all : c.loop.counter ≡ 64 = omega arith in
     let done : last_terminal - c.loop.counter ≡ 0 = omega (arith, all, all_are) in

@@ -1,4 +1,3 @@
-use Rattle.oe_core.specs.Core.{world_of}
 use Rattle.oe_load.specs.Turns.{counts_of, state_of}
 use Rattle.oe_load.specs.declared.turns.Shortage.TheVariants.{NoEnd}
 use Rattle.oe_load.proofs.LoadFacts.{first_is}
@@ -6,32 +5,34 @@ use Rattle.oe_load.proofs.BusyFacts.{watching_first, watching_more, watches_serv
 use Rattle.oe_load.proofs.watches.watched.Goals as goal
 
 pub loop-init : goal.loop-init
-loop-init c = λ o fresh none.
-    watching_first c.args.plan.now o (world_of c.args.core.now)
-    (state_of (world_of c.args.core.now) (counts_of c.none_served-served.result) c.first_drawing-drawing.result)
+loop-init g c = λ o fresh none.
+    watching_first c.args.plan.now o (g.M.Machine.world c.args.core.now)
+    (state_of (g.M.Machine.world c.args.core.now) (counts_of c.none_served-served.result)
+    c.first_drawing-drawing.result)
     c.args.busyness.now
-    (first_is c.args.plan.now (world_of c.args.core.now) (counts_of c.none_served-served.result)
+    (first_is c.args.plan.now (g.M.Machine.world c.args.core.now) (counts_of c.none_served-served.result)
     c.first_drawing-drawing.result c.none_served-served.ensures c.first_drawing-drawing.ensures.begun
     c.first_drawing-drawing.ensures.holders c.first_drawing-drawing.ensures.words)
     fresh none
 
 pub returns-then-is_done : goal.returns-then-is_done
-returns-then-is_done c = λ o fresh none.
-    watches_served c.args.plan.now o (state_of (world_of c.loop.core) (counts_of c.loop.served) c.loop.drawing)
+returns-then-is_done g c = λ o fresh none.
+    watches_served c.args.plan.now o (state_of (g.M.Machine.world c.loop.core) (counts_of c.loop.served) c.loop.drawing)
     c.loop.busyness (c.loop.invariant o fresh none) (c.is_done.ensures c.if-is_done.true)
 
 pub returns-in-Err : goal.returns-in-Err
-returns-in-Err c = λ o fresh none.
-    watches_short c.args.plan.now o (state_of (world_of c.loop.core) (counts_of c.loop.served) c.loop.drawing)
+returns-in-Err g c = λ o fresh none.
+    watches_short c.args.plan.now o (state_of (g.M.Machine.world c.loop.core) (counts_of c.loop.served) c.loop.drawing)
     c.loop.busyness c.in-Err.shortage (c.loop.invariant o fresh none)
 
 pub loop-preserved : goal.loop-preserved
-loop-preserved c = λ o fresh none.
-    watching_more c.args.plan.now o (state_of (world_of c.loop.core) (counts_of c.loop.served) c.loop.drawing) _ _ _
-    (state_of (world_of c.taken.new.core) (counts_of c.taken.new.served) c.taken.new.drawing) c.loop.busyness
+loop-preserved g c = λ o fresh none.
+    watching_more c.args.plan.now o (state_of (g.M.Machine.world c.loop.core) (counts_of c.loop.served)
+    c.loop.drawing) _ _ _
+    (state_of (g.M.Machine.world c.taken.new.core) (counts_of c.taken.new.served) c.taken.new.drawing) c.loop.busyness
     c.note.new.self c.in-Ok.ensures c.in_default.ensures (c.loop.invariant o fresh none)
 
 pub returns : goal.returns
-returns c = λ o fresh none.
-    watches_short c.args.plan.now o (state_of (world_of c.loop.core) (counts_of c.loop.served) c.loop.drawing)
+returns g c = λ o fresh none.
+    watches_short c.args.plan.now o (state_of (g.M.Machine.world c.loop.core) (counts_of c.loop.served) c.loop.drawing)
     c.loop.busyness NoEnd (c.loop.invariant o fresh none)

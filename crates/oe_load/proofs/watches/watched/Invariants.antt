@@ -1,5 +1,4 @@
 use Rattle.std.proofs.Common.{[]}
-use Rattle.oe_core.specs.Core.{world_of}
 use Rattle.oe_busy.specs.Tables.{AreCounted}
 use Rattle.oe_load.specs.Scripts.{first_state, IsWatched}
 use Rattle.oe_load.specs.declared.origins.Origin.{Origin}
@@ -9,6 +8,6 @@ use Rattle.oe_load.proofs.watches.watched.Given as goal
 
 -- what happened so far is counted
 abbrev pub invariant-loop : goal.invariant-loop
-invariant-loop l = (o : Origin) → IsWatched l.plan o [] (first_state l.plan (world_of l.initial.core))
+invariant-loop g l = (o : Origin) → IsWatched l.plan o [] (first_state l.plan (g.M.Machine.world l.initial.core))
     → AreCounted l.initial.busyness [] → Watching l.plan o
-    (state_of (world_of l.core) (counts_of l.served) l.drawing) l.busyness
+    (state_of (g.M.Machine.world l.core) (counts_of l.served) l.drawing) l.busyness

@@ -7,12 +7,13 @@ use Rattle.oe_script.proofs.LineFacts.{refused}
 use Rattle.oe_script.proofs.outcome.first_line.Goals as goal
 
 pub returns-in-Some : goal.returns-in-Some
-returns-in-Some c = c.first.ensures c.args.line.now c.requires.short c.in-Some.ensures.found
+returns-in-Some g c = c.first.ensures c.args.line.now c.requires.short c.in-Some.ensures.found
 
 pub returns-in-None : goal.returns-in-None
-returns-in-None c = (
+returns-in-None g c = (
   bad_line c.args.number,
-  subst (LineAnswer None c.args.number c.args.line.now (bad_line c.args.number)) (sym (ap state_of c.requires.none))
+  subst (LineAnswer None c.args.number c.args.line.now (bad_line c.args.number))
+      (sym (ap (state_of g.M.Machine.world) c.requires.none))
       (refused None c.args.number c.args.line.now
       (λ d asks. let said : ◌≡◌ {A = Option Command} None (Some d) = sym c.in-None.is
       ∙ c.command.ensures.only d asks.says in let no : ⊥ = cc in no)),

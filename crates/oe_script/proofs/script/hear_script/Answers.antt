@@ -7,7 +7,8 @@ use Rattle.oe_script.proofs.script.hear_script.Goals as goal
 
 pub returns-clause-heard : goal.returns-clause-heard
 returns-clause-heard g c =
-    heard_from (state_of c.new-session.result.core) None (ap (λ (s : Session). state_of s.core) c.new-session.ensures)
+    heard_from (state_of g.M.Machine.world c.new-session.result.core) None
+    (ap (λ (s : Session _). state_of g.M.Machine.world s.core) c.new-session.ensures)
     (λ told. HearsEach g.H.Listener.hears c.args.listener.now told c.run-ran.new.listener)
     (g.R.Intake.source c.args.reader.now) (g.R.Intake.source c.run-ran.new.reader)
     (g.W.Outlet.sink c.args.writer.now) (g.W.Outlet.sink c.run-ran.new.writer) c.run-ran.result c.run-ran.ensures

@@ -1,5 +1,4 @@
 use Rattle.std.proofs.Common.{◌≡◌, ◌≤◌, ◌+◌, ◌*◌, ◌^◌}
-use Rattle.oe_core.specs.Core.{world_of}
 use Rattle.oe_io.specs.Ports.{Sent}
 use Rattle.oe_waits.specs.Names.{held_count}
 use Rattle.oe_waits.specs.Texts.{held_lines, texts_to}
@@ -9,5 +8,5 @@ use Rattle.oe_waits.proofs.holdings.all_held.Given as goal
 abbrev pub invariant-loop-before : goal.invariant-loop-before
 invariant-loop-before g l =
     Sent (g.W.Outlet.sink l.initial.to) l.initial.out.items (g.W.Outlet.sink l.to) l.out.items
-    (texts_to (held_lines (world_of l.core)) l.before)
-    × (l.count ≡ held_count (world_of l.core) l.before) × (l.count + l.before ≤ 2 ^ 64 * l.before)
+    (texts_to (held_lines (g.M.Machine.world l.core)) l.before)
+    × (l.count ≡ held_count (g.M.Machine.world l.core) l.before) × (l.count + l.before ≤ 2 ^ 64 * l.before)

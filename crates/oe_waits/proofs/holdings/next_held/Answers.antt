@@ -1,12 +1,11 @@
 use Rattle.std.proofs.Common.{◌+◌, take, option_map, sym, ap, ◌∙◌, subst, arith}
-use Rattle.oe_core.specs.Core.{world_of}
 use Rattle.oe_waits.specs.Names.{is_before, is_left, lesser}
 use Rattle.oe_waits.proofs.HeldFacts.{IsBest, best_all, best_more, left_listed, not_left}
 use Rattle.oe_waits.proofs.holdings.next_held.Goals as goal
 
 pub loop-name-preserved : goal.loop-name-preserved
-loop-name-preserved c =
-    let w = world_of c.args.core.now in
+loop-name-preserved g c =
+    let w = g.M.Machine.world c.args.core.now in
     let f = is_left w c.args.holder c.args.behind.now.items in
     let best = option_map (λ n. n.now) c.loop-name.least in
     let left = left_listed w c.args.holder c.args.behind.now.items c.names-names.result.now c.names-names.ensures.held
@@ -19,8 +18,9 @@ loop-name-preserved c =
     c.loop-name.invariant)
 
 pub returns : goal.returns
-returns c =
-    best_all (is_left (world_of c.args.core.now) c.args.holder c.args.behind.now.items) c.names-names.result.now
+returns g c =
+    best_all (is_left (g.M.Machine.world c.args.core.now) c.args.holder c.args.behind.now.items)
+    c.names-names.result.now
     c.loop-name.name-index (option_map (λ n. n.now) c.loop-name.least) (omega arith) c.loop-name.invariant
-    (not_left (world_of c.args.core.now) c.args.holder c.args.behind.now.items c.names-names.result.now
+    (not_left (g.M.Machine.world c.args.core.now) c.args.holder c.args.behind.now.items c.names-names.result.now
     c.names-names.ensures.held)

@@ -1,5 +1,4 @@
 use Rattle.std.proofs.Common.{◌≡◌, ◌≤◌, ◌+◌, ◌++◌, suc, sym, ap, ◌∙◌, subst, arith}
-use Rattle.oe_core.specs.Core.{world_of}
 use Rattle.oe_io.specs.Ports.{Sent}
 use Rattle.oe_waits.specs.Knots.{count_to}
 use Rattle.oe_waits.specs.Waits.{waits}
@@ -10,7 +9,7 @@ use Rattle.oe_waits.proofs.shows.all_waiting.Goals as goal
 pub returns-in-Err-clause-stream : goal.returns-in-Err-clause-stream
 returns-in-Err-clause-stream g c =
     cut_off (g.W.Outlet.sink c.args.to.now) (g.W.Outlet.sink c.loop-before.to) (g.W.Outlet.sink c.make_room.new.to)
-    c.args.out.now.items c.loop-before.out.items (waiting_line (world_of c.args.core.now)) c.loop-before.before
+    c.args.out.now.items c.loop-before.out.items (waiting_line (g.M.Machine.world c.args.core.now)) c.loop-before.before
     (omega arith)
     c.loop-before.invariant.0 c.in-Err.ensures.stream
 
@@ -18,18 +17,18 @@ pub returns-clause-stream : goal.returns-clause-stream
 returns-clause-stream g c =
     let all : c.loop-before.before ≡ 64 = omega arith in
     subst (λ n. Sent (g.W.Outlet.sink c.args.to.now) c.args.out.now.items (g.W.Outlet.sink c.loop-before.to)
-    c.loop-before.out.items (texts_to (waiting_line (world_of c.args.core.now)) n)) (last_is _ all)
+    c.loop-before.out.items (texts_to (waiting_line (g.M.Machine.world c.args.core.now)) n)) (last_is _ all)
     c.loop-before.invariant.0
 
 pub returns-clause-count : goal.returns-clause-count
 returns-clause-count g c =
     let all : c.loop-before.before ≡ 64 = omega arith in
-    subst (λ n. c.loop-before.count ≡ count_to (waits (world_of c.args.core.now)) n) (last_is _ all)
+    subst (λ n. c.loop-before.count ≡ count_to (waits (g.M.Machine.world c.args.core.now)) n) (last_is _ all)
     c.loop-before.invariant.1
 
 pub loop-before-preserved : goal.loop-before-preserved
 loop-before-preserved g c =
-    let w = world_of c.args.core.now in
+    let w = g.M.Machine.world c.args.core.now in
     let n = c.loop-before.before in
     let same : c.terminal_after-terminal.result ≡ n + 1 = c.terminal_after-terminal.ensures in
     let one : n + 1 ≡ suc n = omega arith in (

@@ -1,9 +1,8 @@
 use Rattle.std.proofs.Common.{◌≡◌, false}
-use Rattle.oe_core.specs.Core.{world_of}
 use Rattle.oe_waits.specs.Knots.{any_to}
 use Rattle.oe_waits.specs.Waits.{waits_for}
 use Rattle.oe_waits.proofs.waiting.waits.Given as goal
 
 -- it waits for none of the terminals so far
 abbrev pub invariant-loop-before : goal.invariant-loop-before
-invariant-loop-before l = any_to (waits_for (world_of l.core) l.terminal) l.before ≡ false
+invariant-loop-before g l = any_to (waits_for (g.M.Machine.world l.core) l.terminal) l.before ≡ false

@@ -11,7 +11,7 @@ use Rattle.oe_theory.proofs.Sets.{set_idle}
 use Rattle.oe_core.proofs.LastFacts.{still_open, both_slots}
 use Rattle.oe_core.specs.Works.{WorkState}
 use Rattle.oe_requests.specs.declared.requests.Request.{Request}
-use Rattle.oe_core.specs.Steps.{refusal_in}
+use Rattle.oe_machine.specs.Steps.{refusal_in}
 use Rattle.oe_core.proofs.SlotFacts.{set_twice}
 use Rattle.oe_core.proofs.MoveFacts.{carries, nothing_open, HasOpen, lent_tx, lent_here}
 use Rattle.oe_core.proofs.AdvanceFacts.{holds_taken, recalls_here, went_on_here, taken_is, taken_is_open, has_reply}

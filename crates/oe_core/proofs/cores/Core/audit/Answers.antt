@@ -1,4 +1,4 @@
-use Rattle.oe_audit.specs.Verdict.{verdict_of}
+use Rattle.oe_machine.specs.Verdict.{verdict_of}
 use Rattle.oe_audit.proofs.PassedFacts.{passed_at}
 use Rattle.oe_core.proofs.AuditFacts.{audited_here, refused_here}
 use Rattle.oe_core.proofs.LentFacts.{stands_here}

@@ -1,6 +1,6 @@
 use Rattle.std.proofs.Common.{refl, ap, ◌∙◌}
 use Rattle.oe_model.specs.System.{ask}
-use Rattle.oe_engine.specs.Programs.{lock_asked}
+use Rattle.oe_locks.specs.Holds.{lock_asked}
 use Rattle.oe_core.proofs.AskFacts.{none_asks, open_asks}
 use Rattle.oe_core.proofs.MoveFacts.{lent_tx, lent_work}
 use Rattle.oe_core.proofs.cores.Core.wanted.Goals as goal

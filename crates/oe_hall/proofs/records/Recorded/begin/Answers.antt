@@ -1,6 +1,6 @@
 use Rattle.std.proofs.Common.{◌≡◌, ◌∙◌, ap, refl}
 use Rattle.oe_requests.specs.declared.steps.Step.TheVariants as step
-use Rattle.oe_core.specs.Steps.{begin_answer}
+use Rattle.oe_machine.specs.Steps.{begin_answer}
 use Rattle.oe_core.specs.Core.{world_of}
 use Rattle.oe_history.specs.declared.views.Entry.{Entry}
 use Rattle.oe_history.specs.Views.{entry}

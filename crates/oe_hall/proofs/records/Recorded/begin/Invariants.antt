@@ -1,5 +1,5 @@
 use Rattle.oe_requests.specs.declared.steps.Step.TheVariants as step
-use Rattle.oe_core.specs.Steps.{begin_answer}
+use Rattle.oe_machine.specs.Steps.{begin_answer}
 use Rattle.oe_history.specs.Views.{entry}
 use Rattle.oe_hall.proofs.records.Recorded.begin.Given as goal
 

@@ -1,5 +1,5 @@
 use Rattle.std.proofs.Common.{rules, ◌≡◌, ℕ, inl, subst}
-use Rattle.oe_core.specs.declared.advances.Advanced.TheVariants as advanced
+use Rattle.oe_machine.specs.declared.advances.Advanced.TheVariants as advanced
 use Rattle.oe_hall.specs.Histories.{HasHappened}
 use Rattle.oe_hall.specs.Turns.{AdvanceCall}
 use Rattle.oe_hall.specs.Desks.{TheDesk}

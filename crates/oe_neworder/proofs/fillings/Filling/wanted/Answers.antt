@@ -1,7 +1,7 @@
 use Rattle.std.proofs.Common.{sym, ap, ◌∙◌}
 use Rattle.oe_model.specs.NewOrder.{new_order_ask}
 use Rattle.oe_store.specs.Places.{rows}
-use Rattle.oe_engine.specs.Programs.{lock_asked}
+use Rattle.oe_locks.specs.Holds.{lock_asked}
 use Rattle.oe_neworder.proofs.LineFacts.{end_at, stock_at, stock_wanted}
 use Rattle.oe_neworder.proofs.fillings.Filling.wanted.Goals as goal
 

@@ -22,7 +22,7 @@ returns-in-Err-clause-fed g c = λ d input s.
     let broken = stand_line d.begun d.live g.H.Listener.hears d.first {T = Unit {0}} {E = Failed} l.listener
     c.end_line.new.listener
     d.start (g.W.Outlet.sink l.to) sink (input ++ t.0) was.out.items
-    new.out.items (state_of was.core) (state_of new.core) was.count was.line
+    new.out.items (state_of g.M.Machine.world was.core) (state_of g.M.Machine.world new.core) was.count was.line
     last (Err c.in-Err.e) (before_end l.rest.now n found) c.in-Err.ensures.answer c.in-Err.ensures.heard
     (t.3 d input s) in
     broken_as d.begun d.live d.start sink _ (input ++ c.args.piece.now)
@@ -53,15 +53,17 @@ loop-n-preserved g c =
         λ d input s.
             standing_as d.begun d.live g.H.Listener.hears d.first c.end_line.new.listener d.start (g.W.Outlet.sink
             c.end_line.new.to) _ _
-            new.out.items (state_of new.core) new.count new.line (to_end input t.0 last)
+            new.out.items (state_of g.M.Machine.world new.core) new.count new.line (to_end input t.0 last)
             (standing_same d.begun d.live g.H.Listener.hears d.first c.end_line.new.listener d.start
             (g.W.Outlet.sink c.end_line.new.to) (((input ++ t.0) ++ last) ++ 10 ∷ []) new.out.items new.out.items
-            (state_of new.core) (state_of new.core) (was.count + 1) new.count (Some []) new.line
+            (state_of g.M.Machine.world new.core) (state_of g.M.Machine.world new.core) (was.count + 1) new.count
+            (Some []) new.line
             refl refl (sym e.count) (sym e.line)
             (stand_line d.begun d.live g.H.Listener.hears d.first {T = Unit {0}} {E = Failed} l.listener
             c.end_line.new.listener d.start
             (g.W.Outlet.sink l.to) (g.W.Outlet.sink c.end_line.new.to)
-            (input ++ t.0) was.out.items new.out.items (state_of was.core) (state_of new.core) was.count
+            (input ++ t.0) was.out.items new.out.items (state_of g.M.Machine.world was.core)
+            (state_of g.M.Machine.world new.core) was.count
             was.line last (Ok tt) (before_end l.rest.now n found) e.answer e.heard (t.3 d input s))),
       );
       live = e.live;
@@ -73,10 +75,12 @@ returns-clause-fed g c = λ d input s.
     let t = l.invariant.taken in
     let was = l.self in
     let sink = g.W.Outlet.sink l.to in
-    standing_as d.begun d.live g.H.Listener.hears d.first l.listener d.start sink _ _ was.out.items (state_of was.core)
+    standing_as d.begun d.live g.H.Listener.hears d.first l.listener d.start sink _ _ was.out.items
+    (state_of g.M.Machine.world was.core)
     was.count c.keep.new.self (append_assoc input t.0 l.rest.now ∙ ap (λ z. input ++ z) t.1)
     (stand_bytes d.begun d.live g.H.Listener.hears d.first l.listener d.start sink (input ++ t.0) was.out.items
-    (state_of was.core) was.count was.line c.keep.new.self l.rest.now (no_end l.rest.now c.in_default.ensures)
+    (state_of g.M.Machine.world was.core) was.count was.line c.keep.new.self l.rest.now
+    (no_end l.rest.now c.in_default.ensures)
     c.keep.ensures (t.3 d input s))
 
 pub loop-n-init : goal.loop-n-init
@@ -90,7 +94,7 @@ loop-n-init g c =
         λ d input s.
             standing_as d.begun d.live g.H.Listener.hears d.first c.args.listener.now d.start
             (g.W.Outlet.sink c.args.to.now) input
-            (input ++ []) was.out.items (state_of was.core) was.count was.line
+            (input ++ []) was.out.items (state_of g.M.Machine.world was.core) was.count was.line
             (sym (append-nil input)) s,
       );
       live = c.requires.live;

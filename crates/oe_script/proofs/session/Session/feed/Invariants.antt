@@ -8,9 +8,10 @@ abbrev pub invariant-loop-n : goal.invariant-loop-n
 invariant-loop-n g l = record {
   taken : (front : List ℕ) × (front ++ l.rest ≡ l.piece) × (l.self.count ≤ l.initial.self.count + length front)
       × ((d : Dialogue g.row.H.Denot) (input : List ℕ)
-      → StandsIn d g.H.Listener.hears input l.initial.listener (g.W.Outlet.sink l.initial.to) l.initial.self
-      → StandsIn d g.H.Listener.hears (input ++ front) l.listener (g.W.Outlet.sink l.to) l.self);
-  live : IsLive (state_of l.self.core);
+      → StandsIn d g.M.Machine.world g.H.Listener.hears input l.initial.listener (g.W.Outlet.sink l.initial.to)
+      l.initial.self
+      → StandsIn d g.M.Machine.world g.H.Listener.hears (input ++ front) l.listener (g.W.Outlet.sink l.to) l.self);
+  live : IsLive (state_of g.M.Machine.world l.self.core);
 }
 
 abbrev pub decreases-loop-n : goal.decreases-loop-n

@@ -11,10 +11,10 @@ use Rattle.oe_requests.specs.declared.steps.Step.{Step}
 use Rattle.oe_requests.specs.declared.steps.Step.TheVariants as step
 use Rattle.oe_requests.specs.declared.answers.Answer.{Answer}
 use Rattle.oe_requests.specs.declared.answers.Answer.TheVariants as answer
-use Rattle.oe_audit.specs.Verdict.{condition_of, verdict_of}
+use Rattle.oe_machine.specs.Verdict.{condition_of, verdict_of}
 use Rattle.oe_model.specs.System.{system}
-use Rattle.oe_core.specs.declared.advances.Advanced.{Advanced}
-use Rattle.oe_core.specs.declared.advances.Advanced.TheVariants as advanced
+use Rattle.oe_machine.specs.declared.advances.Advanced.{Advanced}
+use Rattle.oe_machine.specs.declared.advances.Advanced.TheVariants as advanced
 
 abbrev pub step_in : Step → theory.Step system
 step_in (step.Begin t q) = theory.Begin t q

@@ -5,7 +5,7 @@ use Rattle.oe_theory.specs.Machine.{Hold}
 use Rattle.oe_theory.specs.World.{World, Open, tx_of, tables}
 use Rattle.oe_rows.specs.declared.locks.Name.{Name}
 use Rattle.oe_model.specs.System.{system, ask}
-use Rattle.oe_engine.specs.Programs.{lock_asked}
+use Rattle.oe_locks.specs.Holds.{lock_asked}
 
 -- the lock that the next stage of a terminal's transaction asks for; none where it asks for none, and where nothing is
 -- open

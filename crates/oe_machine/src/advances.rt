@@ -1,11 +1,11 @@
-//! How an advance ends. The core lends the reply of a commit until its terminal begins again, so
+//! How an advance ends. The machine lends the reply of a commit until its terminal begins again, so
 //! that no answer carries one.
 
 use oe_requests::Refusal;
 use oe_values::Moment;
 
-/// How an advance ends. `Core::last_reply` lends the reply of a commit until its terminal begins
-/// again.
+/// How an advance ends. `Machine::last_reply` lends the reply of a commit until its terminal
+/// begins again.
 #[derive(Drop)]
 pub enum Advanced {
     /// A stage is done, and the transaction is open.
