@@ -18,6 +18,7 @@ use crate::nine::{closed_status, no_population, stopped};
 use crate::notes::{tell_comparison, tell_verdict};
 use oe_command_line::Separator;
 use oe_comparison::{ComparisonFault, Verdict as ComparisonVerdict, run_comparison};
+use oe_core::Core;
 use oe_file_loading::{Sources, TableFile};
 use oe_file_serial::{Origin, SerialFault, Verdict, run_serial};
 use oe_file_tables::Format;
@@ -146,7 +147,7 @@ fn decide<R: Eprint + AllocGlobal, W: Output, E: Outlet>(
     ensures { Decided (W.sink writer.old) (W.sink writer.new) (E.sink errors.old)
         (E.sink errors.new) replies.now result }
 {
-    let answer = run_serial(rt.alloc(), replies, Origin::Population, writer);
+    let answer = run_serial::<Core, W>(rt.alloc(), replies, Origin::Population, writer);
     tell(rt, &answer, writer, errors)
 }
 
@@ -189,7 +190,14 @@ fn compare<R: Clock + Eprint + AllocGlobal, F: Read + Drop, W: Output, E: Outlet
         Err(error) => return Err(error),
     }
     let origin = Origin::Population;
-    let answer = run_comparison(rt.alloc(), format, replies, origin, sources, writer);
+    let answer = run_comparison::<Core, TableFile<'_, '_, R, F>, W>(
+        rt.alloc(),
+        format,
+        replies,
+        origin,
+        sources,
+        writer,
+    );
     tell_compared(rt, &answer, sources, writer, errors)
 }
 

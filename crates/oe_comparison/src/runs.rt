@@ -18,6 +18,7 @@ use oe_file_serial::{
 use oe_file_tables::{Faults, Format, Stop};
 use oe_io::output::{flush, write_all};
 use oe_io::ports::{Failed, Intake, Outlet};
+use oe_machine::Machine;
 use oe_store::Tables;
 use oe_texts::{LONGEST, Pending};
 use std::alloc::Global;
@@ -144,7 +145,7 @@ fn compare<'a, S: Intake, W: Outlet>(
 /// tables that the transactions leave, and writes the verdict and a line for each table that
 /// differs; else it writes the verdict alone. Nothing is written where lines can't be read: they
 /// are part of the verdict then.
-pub fn run_comparison<'a, S: Intake, W: Outlet>(
+pub fn run_comparison<'a, M: Machine, S: Intake, W: Outlet>(
     alloc: Global,
     format: Format,
     input: &'a [u8],
@@ -157,7 +158,7 @@ pub fn run_comparison<'a, S: Intake, W: Outlet>(
         (nine_of S.source sources.new) (W.sink writer.old) (W.sink writer.new) result }
 {
     let mut ours: AnswerText = ArrayVec::new();
-    let decision = match decide(alloc, input, origin, &mut ours) {
+    let decision = match decide::<M>(alloc, input, origin, &mut ours) {
         Ok(decision) => decision,
         Err(shortage) => return Err(ComparisonFault::Short(shortage)),
     };

@@ -5,7 +5,6 @@ ghost use Rattle.std.specs.Prelude.{◌≡◌, [], None, IfOk, OnOk};
 ghost use Rattle.oe_texts.specs.Refusal.{error_text};
 ghost use Rattle.oe_file_serial.specs.declared.lines.Asked.TheVariants as asked;
 ghost use Rattle.oe_file_serial.specs.Answers.{Answers};
-ghost use Rattle.oe_core.specs.Core.{world_of, last_reply};
 ghost use Rattle.oe_model.specs.System.{system};
 ghost use Rattle.oe_file_serial.specs.InOrder.{between};
 ghost use Rattle.oe_file_serial.specs.Worlds.{IsFree, Ends, IsAnswered, shortage_of};
@@ -13,16 +12,15 @@ ghost use Rattle.oe_file_serial.specs.Worlds.{IsFree, Ends, IsAnswered, shortage
 use crate::answers::{AnswerText, write_answer, write_refusal, write_reply};
 use crate::lines::Asked;
 use crate::verdicts::Shortage;
-use oe_core::Core;
-use oe_machine::Advanced;
+use oe_machine::{Advanced, Machine};
 use oe_requests::{Query, Refusal, Request};
 use oe_values::Terminal;
 
 // Begins a transaction and carries it out to its end.
-fn carried_out(core: &mut Core, terminal: Terminal, request: &Request) -> Advanced
-    requires { IsFree (world_of core.old) }
-    ensures { Ends (between system (world_of core.old)) terminal request.now result
-        (last_reply core.new terminal) (world_of core.new) }
+fn carried_out<M: Machine>(core: &mut M, terminal: Terminal, request: &Request) -> Advanced
+    requires { IsFree (M.world core.old) }
+    ensures { Ends (between system (M.world core.old)) terminal request.now result
+        (M.last core.new terminal) (M.world core.new) }
 {
     if let Err(refusal) = core.begin(terminal, request) {
         return Advanced::Kept(refusal);
@@ -36,10 +34,10 @@ fn carried_out(core: &mut Core, terminal: Terminal, request: &Request) -> Advanc
 }
 
 // Forgets the commits so far.
-fn forget(core: &mut Core)
-    requires { IsFree (world_of core.old) }
-    ensures free { IsFree (world_of core.new) }
-    ensures same { between system (world_of core.new) ≡ between system (world_of core.old) }
+fn forget<M: Machine>(core: &mut M)
+    requires { IsFree (M.world core.old) }
+    ensures free { IsFree (M.world core.new) }
+    ensures same { between system (M.world core.new) ≡ between system (M.world core.old) }
 {
     let _purged = core.purge(core.newest());
 }
@@ -72,15 +70,15 @@ fn refused(refusal: &Refusal, out: &mut AnswerText) -> Result<(), Shortage>
 
 // Carries a transaction out alone, and writes the text that it is answered.
 #[tactic(none)]
-fn transacted(
-    core: &mut Core,
+fn transacted<M: Machine>(
+    core: &mut M,
     terminal: Terminal,
     request: &Request,
     out: &mut AnswerText,
 ) -> Result<(), Shortage>
-    requires { IsFree (world_of core.old) }
-    ensures { IfOk result (λ o. IsAnswered (between system (world_of core.old))
-        (asked.Transaction terminal request.now) out.new.items (world_of core.new)) }
+    requires { IsFree (M.world core.old) }
+    ensures { IfOk result (λ o. IsAnswered (between system (M.world core.old))
+        (asked.Transaction terminal request.now) out.new.items (M.world core.new)) }
 {
     out.clear();
     match carried_out(core, terminal, request) {
@@ -97,20 +95,24 @@ fn transacted(
 
 // Writes the text that a query of the tables as they stand is answered.
 #[tactic(none)]
-fn enquired(core: &Core, query: &Query, out: &mut AnswerText)
-    requires { IsFree (world_of core.now) }
-    ensures { Answers (between system (world_of core.now)) (asked.Query query.now) out.new.items
-        (between system (world_of core.now)) }
+fn enquired<M: Machine>(core: &M, query: &Query, out: &mut AnswerText)
+    requires { IsFree (M.world core.now) }
+    ensures { Answers (between system (M.world core.now)) (asked.Query query.now) out.new.items
+        (between system (M.world core.now)) }
 {
     out.clear();
     write_answer(&core.read(core.newest(), query), out);
 }
 
 /// Has one transaction or query answered, alone, and writes the text of its answer.
-pub(crate) fn answered(core: &mut Core, asked: &Asked, out: &mut AnswerText) -> Result<(), Shortage>
-    requires { IsFree (world_of core.old) }
-    ensures { IfOk result (λ o. IsAnswered (between system (world_of core.old)) asked.now
-        out.new.items (world_of core.new)) }
+pub(crate) fn answered<M: Machine>(
+    core: &mut M,
+    asked: &Asked,
+    out: &mut AnswerText,
+) -> Result<(), Shortage>
+    requires { IsFree (M.world core.old) }
+    ensures { IfOk result (λ o. IsAnswered (between system (M.world core.old)) asked.now
+        out.new.items (M.world core.new)) }
 {
     match asked {
         Asked::Transaction(terminal, request) => transacted(core, *terminal, request, out),

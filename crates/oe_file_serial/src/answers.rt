@@ -6,11 +6,10 @@ ghost use Rattle.oe_texts.specs.Refusal.{error_text};
 ghost use Rattle.oe_texts.specs.Reply.{reply_text};
 ghost use Rattle.oe_requests.specs.declared.answers.Answer.{Answer};
 ghost use Rattle.oe_requests.specs.declared.replies.Reply.{Reply};
-ghost use Rattle.oe_core.specs.Core.{last_reply};
 
 use crate::texts::commit_front;
 use arrayvec::ArrayVec;
-use oe_core::Core;
+use oe_machine::Machine;
 use oe_requests::{Answer, Refusal};
 use oe_texts::{LONGEST, Pending, SIZE, answer, committed, refused};
 use oe_values::{Moment, Terminal};
@@ -37,10 +36,10 @@ fn inner<'a>(line: &'a [u8], front: &[u8]) -> &'a [u8]
 }
 
 // Appends the line of the commit at a moment, whose reply is the terminal's last.
-fn commit_line(core: &Core, terminal: Terminal, moment: Moment, line: &mut Pending)
+fn commit_line<M: Machine>(core: &M, terminal: Terminal, moment: Moment, line: &mut Pending)
     requires room { array_vec_len line.old + LONGEST ≤ SIZE }
-    requires reply { (y : Reply) × (last_reply core.now terminal ≡ Some y) }
-    ensures items { (y : Reply) → last_reply core.now terminal ≡ Some y
+    requires reply { (y : Reply) × (M.last core.now terminal ≡ Some y) }
+    ensures items { (y : Reply) → M.last core.now terminal ≡ Some y
         → line.new.items ≡ line.old.items ++ answer_line (Answer.Committed moment y) }
     ensures len { array_vec_len line.new ≤ array_vec_len line.old + LONGEST }
 {
@@ -51,10 +50,15 @@ fn commit_line(core: &Core, terminal: Terminal, moment: Moment, line: &mut Pendi
 }
 
 /// Writes the text of the reply of the commit at a moment.
-pub(crate) fn write_reply(core: &Core, terminal: Terminal, moment: Moment, out: &mut AnswerText)
+pub(crate) fn write_reply<M: Machine>(
+    core: &M,
+    terminal: Terminal,
+    moment: Moment,
+    out: &mut AnswerText,
+)
     requires empty { out.old.items ≡ [] }
-    requires reply { (y : Reply) × (last_reply core.now terminal ≡ Some y) }
-    ensures { (y : Reply) → last_reply core.now terminal ≡ Some y
+    requires reply { (y : Reply) × (M.last core.now terminal ≡ Some y) }
+    ensures { (y : Reply) → M.last core.now terminal ≡ Some y
         → out.new.items ≡ reply_text y }
 {
     let mut front = Pending::new();

@@ -9,6 +9,7 @@ use crate::verdicts::{Shortage, Verdict, decide};
 use arrayvec::ArrayVec;
 use oe_io::output::flush;
 use oe_io::ports::{Failed, Outlet};
+use oe_machine::Machine;
 use oe_reply_words::other_line;
 use oe_texts::{LONGEST, Pending};
 use std::alloc::Global;
@@ -75,7 +76,7 @@ pub fn write_verdict<W: Outlet>(
 /// Decides whether a file's lines tell the replies that its transactions and queries have, one at a
 /// time in this order, and writes the verdict. Nothing is written where lines have no form: they
 /// are part of the verdict then.
-pub fn run_serial<'a, W: Outlet>(
+pub fn run_serial<'a, M: Machine, W: Outlet>(
     alloc: Global,
     input: &'a [u8],
     origin: Origin,
@@ -85,7 +86,7 @@ pub fn run_serial<'a, W: Outlet>(
     ensures { SerialRan origin input.now (W.sink writer.old) (W.sink writer.new) result }
 {
     let mut ours: ArrayVec<u8, LONGEST> = ArrayVec::new();
-    let verdict = match decide(alloc, input, origin, &mut ours) {
+    let verdict = match decide::<M>(alloc, input, origin, &mut ours) {
         Ok(decision) => decision.verdict(),
         Err(shortage) => return Err(SerialFault::Short(shortage)),
     };

@@ -2,7 +2,6 @@
 //! answered is compared with what the line tells.
 ghost use Rattle.std.specs.Prelude.{◌≡◌, IfOk, MatchOption};
 ghost use Rattle.std.specs.List.{All};
-ghost use Rattle.oe_core.specs.Core.{world_of};
 ghost use Rattle.oe_model.specs.Conditions.{IsPopulation};
 ghost use Rattle.oe_model.specs.Population.{IsPopulated, IsScale};
 ghost use Rattle.oe_store.specs.Places.{rows};
@@ -18,7 +17,7 @@ use crate::answers::AnswerText;
 use crate::changes::last_change;
 use crate::lines::{BadLines, bad_lines, opening, read_words, told};
 use crate::origins::Origin;
-use oe_core::Core;
+use oe_machine::Machine;
 use oe_population::populate;
 use oe_reply_words::{Change, parted_at};
 use oe_rows::{Layout, Scale};
@@ -65,18 +64,18 @@ pub enum Shortage {
 // Compares what a line tells with what it asks for is answered: gives the line's text where they
 // differ, and leaves the answer's in `ours`.
 #[tactic(none)]
-fn other_text<'a>(
-    core: &mut Core,
+fn other_text<'a, M: Machine>(
+    core: &mut M,
     line: &'a [u8],
     ours: &mut AnswerText,
 ) -> Result<Option<&'a [u8]>, Shortage>
     requires told { IsTold line.now }
-    requires free { IsFree (world_of core.old) }
+    requires free { IsFree (M.world core.old) }
     ensures { IfOk result (λ r. MatchOption r
-        (IsFree (world_of core.new)
-        × Agrees (between system (world_of core.old)) line.now (between system (world_of core.new)))
+        (IsFree (M.world core.new)
+        × Agrees (between system (M.world core.old)) line.now (between system (M.world core.new)))
         (λ theirs.
-        Differs (between system (world_of core.old)) line.now theirs.now ours.new.items)) }
+        Differs (between system (M.world core.old)) line.now theirs.now ours.new.items)) }
 {
     let Some((words, theirs)) = told(line) else {
         unreachable!()
@@ -95,16 +94,16 @@ fn other_text<'a>(
 
 // Compares lines in order, up to the first that disagrees.
 #[tactic(none)]
-fn compared<'a>(
-    core: &mut Core,
+fn compared<'a, M: Machine>(
+    core: &mut M,
     lines: &'a [u8],
     ours: &mut AnswerText,
 ) -> Result<Verdict<'a>, Shortage>
     requires told { All IsTold (lines_of lines.now) }
-    requires free { IsFree (world_of core.old) }
+    requires free { IsFree (M.world core.old) }
     ensures { IfOk result (λ v.
-        IsVerdict (between system (world_of core.old)) (lines_of lines.now) v ours.new.items
-        (between system (world_of core.new))) }
+        IsVerdict (between system (M.world core.old)) (lines_of lines.now) v ours.new.items
+        (between system (M.world core.new))) }
 {
     let mut left = lines;
     let mut count = 0u128;
@@ -123,13 +122,13 @@ fn compared<'a>(
     Ok(Verdict::Serial(count))
 }
 
-// Opens a core on tables, with as many undo extents as there can be.
-fn opened_on(alloc: Global, tables: Tables) -> Result<Core, NoMemory>
+// Opens a machine on tables, with as many undo extents as there can be.
+fn opened_on<M: Machine>(alloc: Global, tables: Tables) -> Result<M, NoMemory>
     requires { IsPopulation (rows tables) }
-    ensures { IfOk result (λ c. IsFree (world_of c)
-        × (between system (world_of c) ≡ at_first system (rows tables))) }
+    ensures { IfOk result (λ c. IsFree (M.world c)
+        × (between system (M.world c) ≡ at_first system (rows tables))) }
 {
-    Core::open(
+    M::open(
         alloc,
         tables,
         Number::new(4_096).unwrap(),
@@ -137,41 +136,41 @@ fn opened_on(alloc: Global, tables: Tables) -> Result<Core, NoMemory>
     )
 }
 
-// Opens a core on the population of a scale.
-fn opened(alloc: Global, scale: Scale) -> Result<Core, NoMemory>
+// Opens a machine on the population of a scale.
+fn opened<M: Machine>(alloc: Global, scale: Scale) -> Result<M, NoMemory>
     requires { IsScale scale }
-    ensures { IfOk result (λ c. IsFree (world_of c)
-        × ((r : Rows) × IsPopulated scale r × (between system (world_of c) ≡ at_first system r))) }
+    ensures { IfOk result (λ c. IsFree (M.world c)
+        × ((r : Rows) × IsPopulated scale r × (between system (M.world c) ≡ at_first system r))) }
 {
     match populate(alloc, scale) {
-        Ok(tables) => opened_on(alloc, tables),
+        Ok(tables) => opened_on::<M>(alloc, tables),
         Err(e) => Err(e),
     }
 }
 
-// Opens a core on what the first line of a file opens.
-fn begun(alloc: Global, line: &[u8], origin: Origin) -> Result<Core, NoMemory>
+// Opens a machine on what the first line of a file opens.
+fn begun<M: Machine>(alloc: Global, line: &[u8], origin: Origin) -> Result<M, NoMemory>
     requires opening { IsOpening (opening_of origin) line.now }
     requires origin { IsOrigin origin }
-    ensures { IfOk result (λ c. IsFree (world_of c)
+    ensures { IfOk result (λ c. IsFree (M.world c)
         × ((r : Rows) × Begins origin line.now r
-        × (between system (world_of c) ≡ at_first system r))) }
+        × (between system (M.world c) ≡ at_first system r))) }
 {
     match origin {
         Origin::Population => {
             let Some(scale) = opening(line) else {
                 unreachable!()
             };
-            opened(alloc, scale)
+            opened::<M>(alloc, scale)
         }
-        Origin::Tables(tables) => opened_on(alloc, tables),
+        Origin::Tables(tables) => opened_on::<M>(alloc, tables),
     }
 }
 
-// Ends a core, and gives a verdict with its tables where that is serial.
-fn closed<'a>(core: Core, verdict: Verdict<'a>) -> Decision<'a>
+// Ends a machine, and gives a verdict with its tables where that is serial.
+fn closed<'a, M: Machine>(core: M, verdict: Verdict<'a>) -> Decision<'a>
     ensures verdict { verdict_of result ≡ verdict.entry }
-    ensures tables { Leaves result (between system (world_of core)) }
+    ensures tables { Leaves result (between system (M.world core)) }
 {
     match verdict {
         Verdict::Serial(count) => Decision::Serial(count, core.close()),
@@ -210,7 +209,7 @@ impl<'a> Decision<'a> {
 ///
 /// A `Shortage` is a want of memory or of undo extents: nothing is decided then.
 #[tactic(none)]
-pub fn decide<'a>(
+pub fn decide<'a, M: Machine>(
     alloc: Global,
     input: &'a [u8],
     origin: Origin,
@@ -227,7 +226,7 @@ pub fn decide<'a>(
     let Some((first, lines)) = parted_at(input, b'\n') else {
         unreachable!()
     };
-    let Ok(mut core) = begun(alloc, first, origin) else {
+    let Ok(mut core) = begun::<M>(alloc, first, origin) else {
         return Err(Shortage::NoMemory);
     };
     match compared(&mut core, lines, ours) {

@@ -3,6 +3,7 @@ ghost use Rattle.oe_file_loading.specs.Loading.{nine_of};
 ghost use Rattle.oe_from.specs.Serials.{ComparisonFromRan, SerialFromRan};
 
 use oe_comparison::{ComparisonFault, Verdict as ComparisonVerdict, run_comparison};
+use oe_core::Core;
 use oe_file_loading::Sources;
 use oe_file_serial::{Origin, SerialFault, Verdict, run_serial};
 use oe_file_tables::Format;
@@ -38,7 +39,7 @@ pub fn run_serial_from<'a, S: Intake, W: Outlet>(
         Ok(tables) => tables,
         Err(error) => return Err(FromFault::NoPopulation(error)),
     };
-    match run_serial(alloc, input, Origin::Tables(tables), writer) {
+    match run_serial::<Core, W>(alloc, input, Origin::Tables(tables), writer) {
         Ok(verdict) => Ok(verdict),
         Err(fault) => Err(FromFault::Fault(fault)),
     }
@@ -65,7 +66,7 @@ pub fn run_comparison_from<'a, S: Intake, W: Outlet>(
         Ok(tables) => tables,
         Err(error) => return Err(FromFault::NoPopulation(error)),
     };
-    match run_comparison(
+    match run_comparison::<Core, S, W>(
         alloc,
         format,
         input,

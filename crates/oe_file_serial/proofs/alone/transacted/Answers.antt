@@ -5,7 +5,6 @@ use Rattle.oe_requests.specs.declared.requests.Request.{Request}
 use Rattle.oe_requests.specs.declared.refusals.Refusal.{Refusal}
 use Rattle.oe_texts.specs.Refusal.{error_text}
 use Rattle.oe_model.specs.System.{system}
-use Rattle.oe_core.specs.Core.{world_of}
 use Rattle.oe_file_serial.specs.InOrder.{Between, Commits, Refuses, between}
 use Rattle.oe_file_serial.specs.Worlds.{IsFree, IsAnswered, shortage_of}
 use Rattle.oe_file_serial.specs.declared.lines.Asked.TheVariants as asked
@@ -13,38 +12,39 @@ use Rattle.oe_file_serial.specs.declared.verdicts.Shortage.{Shortage}
 use Rattle.oe_file_serial.proofs.alone.transacted.Goals as goal
 
 pub clear-requires : goal.clear-requires
-clear-requires c = lit< tt
+clear-requires g c = lit< tt
 
 pub carried_out-requires : goal.carried_out-requires
-carried_out-requires c = c.requires
+carried_out-requires g c = c.requires
 
 pub write_reply-requires-clause-empty : goal.write_reply-requires-clause-empty
-write_reply-requires-clause-empty c = c.clear.ensures
+write_reply-requires-clause-empty g c = c.clear.ensures
 
 pub write_reply-requires-clause-reply : goal.write_reply-requires-clause-reply
-write_reply-requires-clause-reply c = (c.in-Committed.ensures.0, c.in-Committed.ensures.1)
+write_reply-requires-clause-reply g c = (c.in-Committed.ensures.0, c.in-Committed.ensures.1)
 
 pub forget-requires : goal.forget-requires
-forget-requires c = c.in-Committed.ensures.3
+forget-requires g c = c.in-Committed.ensures.3
 
 pub refused-requires : goal.refused-requires
-refused-requires c = c.clear.ensures
+refused-requires g c = c.clear.ensures
 
 pub refused-requires-in-RolledBack : goal.refused-requires-in-RolledBack
-refused-requires-in-RolledBack c = c.clear.ensures
+refused-requires-in-RolledBack g c = c.clear.ensures
 
 pub unreachable-requires : goal.unreachable-requires
-unreachable-requires c = c.in-More.ensures
+unreachable-requires g c = c.in-More.ensures
 
 pub unreachable-unreachable : goal.unreachable-unreachable
-unreachable-unreachable c = c.in-More.ensures
+unreachable-unreachable g c = c.in-More.ensures
 
 pub returns-in-Committed : goal.returns-in-Committed
-returns-in-Committed c =
+returns-in-Committed g c =
     let e = c.in-Committed.ensures in (
       inl (
         e.0,
-        subst (λ (z : Between system). Commits system (between system (world_of c.args.core.now)) c.args.terminal
+        subst (λ (z : Between system). Commits system (between system (g.M.Machine.world c.args.core.now))
+            c.args.terminal
             c.args.request.now e.0 z)
             (sym c.forget.ensures.same) e.2,
         c.write_reply.ensures e.0 e.1,
@@ -61,12 +61,13 @@ told b t q e text w (Ok x) own is ends = let h = ends own in (inr (e, h.0, is, h
 told b t q e text w (Err y) own is ends = tt
 
 pub returns-in-Kept : goal.returns-in-Kept
-returns-in-Kept c =
-    told (between system (world_of c.args.core.now)) c.args.terminal c.args.request.now c.in-Kept.refusal _ _
+returns-in-Kept g c =
+    told (between system (g.M.Machine.world c.args.core.now)) c.args.terminal c.args.request.now c.in-Kept.refusal _ _
     c.refused.result c.refused.ensures.own c.refused.ensures.text c.in-Kept.ensures
 
 pub returns-in-RolledBack : goal.returns-in-RolledBack
-returns-in-RolledBack c =
-    told (between system (world_of c.args.core.now)) c.args.terminal c.args.request.now c.in-RolledBack.refusal _ _
+returns-in-RolledBack g c =
+    told (between system (g.M.Machine.world c.args.core.now)) c.args.terminal c.args.request.now
+    c.in-RolledBack.refusal _ _
     c.refused-in-RolledBack.result c.refused-in-RolledBack.ensures.own c.refused-in-RolledBack.ensures.text
     c.in-RolledBack.ensures

@@ -4,7 +4,7 @@ use Rattle.oe_file_serial.proofs.AnswerFacts.{reply_framed}
 use Rattle.oe_file_serial.proofs.answers.write_reply.Goals as goal
 
 pub inner-requires : goal.inner-requires
-inner-requires c =
+inner-requires g c =
     let y = c.requires.reply in (
       reply_text y.0,
       reply_framed c.as_slice.result.now c.as_slice-2.result.now c.new-line.result.items c.new-front.result.items
@@ -14,7 +14,7 @@ inner-requires c =
     )
 
 pub put-requires : goal.put-requires
-put-requires c =
+put-requires g c =
     let short = c.inner.ensures.short in
     let value = ap length c.as_slice.ensures.value in
     let len = c.commit_line.ensures.len in
@@ -23,7 +23,7 @@ put-requires c =
     omega (arith, short, value, len, new, empty)
 
 pub returns : goal.returns
-returns c = λ y e.
+returns g c = λ y e.
     c.put.ensures ∙ (ap (λ (z : List ℕ). z ++ c.inner.result.now) c.requires.empty
     ∙ c.inner.ensures.text (reply_text y)
     (reply_framed c.as_slice.result.now c.as_slice-2.result.now c.new-line.result.items c.new-front.result.items
