@@ -1,5 +1,5 @@
 -- What steps keep of a world, and that a run of advances ends.
-use Rattle.std.proofs.Common.{◌≡◌, ℕ, zero, suc, ◌<◌, ◌==◌, cond, Bool, true, false, Option, None, Some, [], ◌∷◌, refl}
+use Rattle.std.proofs.Common.{◌≡◌, ℕ, ◌<◌, ◌==◌, cond, Bool, true, false, Option, None, Some, [], ◌∷◌, refl}
 use Rattle.std.proofs.Common.{ap, ◌∙◌, subst, arith}
 use Rattle.oe_theory.specs.Machine.{Go}
 use Rattle.oe_theory.specs.World.{World, State, Open, set, tx_of, tables}

@@ -5,5 +5,5 @@
 mod ranges;
 mod rejections;
 
-pub use ranges::ranges_hold;
+pub use ranges::{choice_holds, district_holds, ranges_hold};
 pub use rejections::rejection;

@@ -9,16 +9,18 @@ use oe_requests::{
 };
 use oe_rows::DistrictKey;
 
+/// States that a district's numbers are in their ranges.
 #[inline]
-fn district_holds(district: &DistrictKey)
+pub fn district_holds(district: &DistrictKey)
     ensures { IsDistrict district.now }
 {
     let _warehouse = district.warehouse.get();
     let _district = district.district.get();
 }
 
+/// States that a customer's number or last name is in its range.
 #[inline]
-fn choice_holds(choice: &CustomerChoice)
+pub fn choice_holds(choice: &CustomerChoice)
     ensures { IsChoice choice.now }
 {
     match choice {

@@ -5,7 +5,7 @@ ghost use Rattle.oe_answers.specs.Folders.{lasting_tables, names_of, only_of, ta
 ghost use Rattle.oe_answers.specs.Folders.{AreOf, HasTables};
 
 use crate::progress::{Progress, Watched};
-use oe_facts::Table;
+use oe_facts::{TABLES, Table};
 use oe_file_audit::{Side, TableSource};
 use oe_sources::table_of_file;
 use std::path::Path;
@@ -41,19 +41,6 @@ pub struct BeforeFolder<'a, S> {
     pub name: &'a str,
     pub sources: io::Result<Option<Vec<TableSource<S>>>>,
 }
-
-/// The tables, in the order in which their files are read: customers before orders.
-const TABLES: [Table; 9] = [
-    Table::Warehouse,
-    Table::District,
-    Table::Customer,
-    Table::History,
-    Table::NewOrder,
-    Table::Order,
-    Table::OrderLine,
-    Table::Item,
-    Table::Stock,
-];
 
 /// The tables whose rows are compared with earlier ones.
 const LASTING: [Table; 5] = [

@@ -2,7 +2,8 @@
 //! with which it ends. Drives alone are answered elsewhere, since they start threads. Clause
 //! numbers are TPC Benchmark C 5.11's.
 //!
-//! The caller opens streams and files. What it could not open comes here as the system's error.
+//! The caller opens streams and files. What it could not open comes here as the system's error. It
+//! chooses the machine too, the first type parameter of each command that opens one.
 #![tactic(auto)]
 
 pub mod audits;

@@ -11,12 +11,12 @@ ghost use Rattle.oe_answers.specs.Statuses.{load_status, following_status};
 use crate::endings::{Aim, Output, fail};
 use crate::nine::{closed_status, no_population};
 use oe_command_line::LoadOptions;
-use oe_core::Core;
 use oe_file_loading::{Sources, TableFile};
 use oe_file_tables::Format;
 use oe_from::{Following, FollowingFault, FromFault, run_load_from, write_gap};
 use oe_io::ports::Outlet;
 use oe_load::{LoadFault, Origin, run_load};
+use oe_machine::Machine;
 use oe_numbers::{FollowingNumbers, LoadNumbers};
 use oe_terms::Plan;
 use std::io;
@@ -47,7 +47,7 @@ fn plan_of(numbers: &LoadNumbers, options: &LoadOptions) -> Plan
 }
 
 /// Writes a load that begins on the population of its scale.
-pub fn answer_load<R: Eprint + AllocGlobal, W: Output>(
+pub fn answer_load<M: Machine, R: Eprint + AllocGlobal, W: Output>(
     rt: &R,
     numbers: &LoadNumbers,
     options: &LoadOptions,
@@ -57,7 +57,7 @@ pub fn answer_load<R: Eprint + AllocGlobal, W: Output>(
         (W.sink writer.old) (W.sink writer.new)) load_status result }
 {
     let plan = &plan_of(numbers, options);
-    let answer = run_load::<Core, W>(rt.alloc(), plan, Origin::Population, options.form, writer);
+    let answer = run_load::<M, W>(rt.alloc(), plan, Origin::Population, options.form, writer);
     tell(rt, &answer, writer)
 }
 
@@ -102,7 +102,13 @@ fn following_of(numbers: &FollowingNumbers, options: &LoadOptions) -> Following
 }
 
 /// Writes a load that begins on the population in nine files, and draws from its scale.
-pub fn answer_following<R: Clock + Eprint + AllocGlobal, F: Read + Drop, W: Output, E: Outlet>(
+pub fn answer_following<
+    M: Machine,
+    R: Clock + Eprint + AllocGlobal,
+    F: Read + Drop,
+    W: Output,
+    E: Outlet,
+>(
     rt: &R,
     from: &mut Sources<TableFile<'_, '_, R, F>>,
     numbers: &FollowingNumbers,
@@ -120,7 +126,7 @@ pub fn answer_following<R: Clock + Eprint + AllocGlobal, F: Read + Drop, W: Outp
         Err(error) => return Err(error),
     }
     let following = &following_of(numbers, options);
-    let answer = run_load_from(
+    let answer = run_load_from::<M, _, _>(
         rt.alloc(),
         Format::Dump,
         from,

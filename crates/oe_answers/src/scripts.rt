@@ -9,13 +9,13 @@ ghost use Rattle.oe_answers.specs.Statuses.{script_status, script_from_status};
 
 use crate::endings::{Aim, Output, fail};
 use crate::nine::{closed_status, no_population};
-use oe_core::Core;
 use oe_explain::{Explainer, explain_script};
 use oe_file_loading::{Sources, TableFile};
 use oe_file_tables::Format;
 use oe_from::{FromFault, OpenedFault, run_script_from};
 use oe_io::ports::{Intake, Outlet};
 use oe_io::standard::Standard;
+use oe_machine::Machine;
 use oe_rows::Layout;
 use oe_script::script::run_script;
 use oe_script::session::ScriptFault;
@@ -54,7 +54,7 @@ fn tell<R: Eprint, W: Output>(
 }
 
 /// Answers the script of that name.
-pub fn script<R: Eprint + AllocGlobal, I: Intake, W: Output>(
+pub fn script<M: Machine, R: Eprint + AllocGlobal, I: Intake, W: Output>(
     rt: &R,
     name: &str,
     input: &mut io::Result<I>,
@@ -65,7 +65,7 @@ pub fn script<R: Eprint + AllocGlobal, I: Intake, W: Output>(
 {
     match input {
         Ok(reader) => {
-            let answer = run_script::<Core, I, W>(rt.alloc(), reader, writer);
+            let answer = run_script::<M, I, W>(rt.alloc(), reader, writer);
             tell(rt, &answer, writer)
         }
         Err(cause) => unopened(rt, name, cause),
@@ -73,7 +73,7 @@ pub fn script<R: Eprint + AllocGlobal, I: Intake, W: Output>(
 }
 
 /// Answers the script of that name, and says on the explainer's output why lines are bad.
-pub fn explain<R: Eprint + AllocGlobal, I: Intake, W: Output, E: Outlet>(
+pub fn explain<M: Machine, R: Eprint + AllocGlobal, I: Intake, W: Output, E: Outlet>(
     rt: &R,
     name: &str,
     input: &mut io::Result<I>,
@@ -87,7 +87,7 @@ pub fn explain<R: Eprint + AllocGlobal, I: Intake, W: Output, E: Outlet>(
 {
     match input {
         Ok(reader) => {
-            let answer = explain_script::<Core, I, W, E>(rt.alloc(), reader, writer, explainer);
+            let answer = explain_script::<M, I, W, E>(rt.alloc(), reader, writer, explainer);
             tell(rt, &answer, writer)
         }
         Err(cause) => unopened(rt, name, cause),
@@ -120,6 +120,7 @@ fn tell_from<R: Clock + Eprint, F: Read + Drop, W: Output, E: Outlet>(
 /// Answers the script of that name, which begins opened, on the population in nine files, with such
 /// an undo ring.
 pub fn opened_script<
+    M: Machine,
     R: Clock + Eprint + AllocGlobal,
     F: Read + Drop,
     I: Intake,
@@ -148,6 +149,14 @@ pub fn opened_script<
         Err(error) => return Err(error),
     }
     let format = Format::Dump;
-    let answer = run_script_from(rt.alloc(), format, from, extents, layout, reader, writer);
+    let answer = run_script_from::<M, _, _, _>(
+        rt.alloc(),
+        format,
+        from,
+        extents,
+        layout,
+        reader,
+        writer,
+    );
     tell_from(rt, &answer, from, writer, errors)
 }

@@ -18,12 +18,12 @@ use crate::nine::{closed_status, no_population, stopped};
 use crate::notes::{tell_comparison, tell_verdict};
 use oe_command_line::Separator;
 use oe_comparison::{ComparisonFault, Verdict as ComparisonVerdict, run_comparison};
-use oe_core::Core;
 use oe_file_loading::{Sources, TableFile};
 use oe_file_serial::{Origin, SerialFault, Verdict, run_serial};
 use oe_file_tables::Format;
 use oe_from::{FromFault, run_comparison_from, run_serial_from};
 use oe_io::ports::Outlet;
+use oe_machine::Machine;
 use std::io::Read;
 use std::rt::Files;
 use std::time::Clock;
@@ -138,7 +138,7 @@ fn tell_compared_from<'p, 'r, R: Clock + Eprint, F: Read + Drop, W: Output, E: O
 }
 
 // Decides from the population of the file's scale.
-fn decide<R: Eprint + AllocGlobal, W: Output, E: Outlet>(
+fn decide<M: Machine, R: Eprint + AllocGlobal, W: Output, E: Outlet>(
     rt: &R,
     replies: &[u8],
     writer: &mut W,
@@ -147,12 +147,12 @@ fn decide<R: Eprint + AllocGlobal, W: Output, E: Outlet>(
     ensures { Decided (W.sink writer.old) (W.sink writer.new) (E.sink errors.old)
         (E.sink errors.new) replies.now result }
 {
-    let answer = run_serial::<Core, W>(rt.alloc(), replies, Origin::Population, writer);
+    let answer = run_serial::<M, W>(rt.alloc(), replies, Origin::Population, writer);
     tell(rt, &answer, writer, errors)
 }
 
 // Decides from the population in nine files.
-fn decide_from<R: Clock + Eprint + AllocGlobal, F: Read + Drop, W: Output, E: Outlet>(
+fn decide_from<M: Machine, R: Clock + Eprint + AllocGlobal, F: Read + Drop, W: Output, E: Outlet>(
     rt: &R,
     format: Format,
     from: &mut Sources<TableFile<'_, '_, R, F>>,
@@ -168,12 +168,12 @@ fn decide_from<R: Clock + Eprint + AllocGlobal, F: Read + Drop, W: Output, E: Ou
         Ok(Some(status)) => return Ok(status),
         Err(error) => return Err(error),
     }
-    let answer = run_serial_from(rt.alloc(), format, from, replies, writer);
+    let answer = run_serial_from::<M, _, _>(rt.alloc(), format, from, replies, writer);
     tell_from(rt, &answer, from, writer, errors)
 }
 
 // Decides, and compares the tables at the end with nine files.
-fn compare<R: Clock + Eprint + AllocGlobal, F: Read + Drop, W: Output, E: Outlet>(
+fn compare<M: Machine, R: Clock + Eprint + AllocGlobal, F: Read + Drop, W: Output, E: Outlet>(
     rt: &R,
     format: Format,
     replies: &[u8],
@@ -190,7 +190,7 @@ fn compare<R: Clock + Eprint + AllocGlobal, F: Read + Drop, W: Output, E: Outlet
         Err(error) => return Err(error),
     }
     let origin = Origin::Population;
-    let answer = run_comparison::<Core, TableFile<'_, '_, R, F>, W>(
+    let answer = run_comparison::<M, TableFile<'_, '_, R, F>, W>(
         rt.alloc(),
         format,
         replies,
@@ -202,7 +202,15 @@ fn compare<R: Clock + Eprint + AllocGlobal, F: Read + Drop, W: Output, E: Outlet
 }
 
 // Decides from the population in nine files, and compares with nine others.
-fn compare_from<'p, 'r, R: Clock + Eprint + AllocGlobal, F: Read + Drop, W: Output, E: Outlet>(
+fn compare_from<
+    'p,
+    'r,
+    M: Machine,
+    R: Clock + Eprint + AllocGlobal,
+    F: Read + Drop,
+    W: Output,
+    E: Outlet,
+>(
     rt: &R,
     format: Format,
     from: &mut Sources<TableFile<'p, 'r, R, F>>,
@@ -224,7 +232,7 @@ fn compare_from<'p, 'r, R: Clock + Eprint + AllocGlobal, F: Read + Drop, W: Outp
         Ok(Some(status)) => return Ok(status),
         Err(error) => return Err(error),
     }
-    let answer = run_comparison_from(rt.alloc(), format, from, replies, sources, writer);
+    let answer = run_comparison_from::<M, _, _>(rt.alloc(), format, from, replies, sources, writer);
     tell_compared_from(rt, &answer, from, sources, writer, errors)
 }
 
@@ -249,7 +257,15 @@ impl<'a> Replies<'a> {
 
 /// Tells whether replies are serial, from the population in nine files where there are such, and
 /// what differs between the tables at the end and nine others, where there are such.
-pub fn serial<'p, 'r, R: Clock + Eprint + AllocGlobal, F: Read + Drop, W: Output, E: Outlet>(
+pub fn serial<
+    'p,
+    'r,
+    M: Machine,
+    R: Clock + Eprint + AllocGlobal,
+    F: Read + Drop,
+    W: Output,
+    E: Outlet,
+>(
     rt: &R,
     separator: Separator,
     replies: &Replies<'_>,
@@ -268,12 +284,14 @@ pub fn serial<'p, 'r, R: Clock + Eprint + AllocGlobal, F: Read + Drop, W: Output
     };
     match from {
         None => match tables {
-            None => decide(rt, bytes, writer, errors),
-            Some(sources) => compare(rt, format, bytes, sources, writer, errors),
+            None => decide::<M, _, _, _>(rt, bytes, writer, errors),
+            Some(sources) => compare::<M, _, _, _, _>(rt, format, bytes, sources, writer, errors),
         },
         Some(first) => match tables {
-            None => decide_from(rt, format, first, bytes, writer, errors),
-            Some(sources) => compare_from(rt, format, first, bytes, sources, writer, errors),
+            None => decide_from::<M, _, _, _, _>(rt, format, first, bytes, writer, errors),
+            Some(sources) => compare_from::<M, _, _, _, _>(
+                rt, format, first, bytes, sources, writer, errors,
+            ),
         },
     }
 }

@@ -15,9 +15,9 @@ use Rattle.oe_rows.specs.declared.customers.Customer.{Customer}
 use Rattle.oe_model.specs.Keys.{district_of_customer}
 use Rattle.oe_model.specs.Rows.{Rows}
 use Rattle.oe_model.specs.FurtherConditions.{delivered_for, paid_by}
-use Rattle.oe_audit.specs.AsOf.{row_then, entries_then}
+use Rattle.oe_rows_of.specs.Then.{row_then}
+use Rattle.oe_audit.specs.Walks.{entries_then}
 use Rattle.oe_audit.specs.Ledgers.{most, sum_for, agrees, passes_customer, passes_then, IsAccount, IsLedger}
-use Rattle.oe_audit.specs.declared.as_of.AsOf.{AsOf}
 use Rattle.oe_audit.specs.declared.customers.CustomerCondition.{CustomerCondition}
 use Rattle.oe_audit.specs.declared.customers.CustomerCondition.TheVariants as of_customers
 use Rattle.oe_audit.specs.declared.ledgers.Ledger.{Ledger}
@@ -75,7 +75,7 @@ then_is n r l k (Some x) a h b e is of_it own t range low high =
     ∙ agrees_is n r l k x is (of_it ∙ ap Some own) (subst IsAccount (sym same) range) low high
 
 -- the first customer who failed, among those who stood or among those who stand
-module _ (n : CustomerCondition) (r : Rows) (w : AsOf) (m : FinMap customer_cmp Customer) where
+module _ (n : CustomerCondition) (r : Rows) (w : Bool) (m : FinMap customer_cmp Customer) where
   pub first_stood : (es : List (CustomerKey × Customer))
       → option_map (λ e. e.0) (find (λ e. not (passes_customer n r e.0 e.1)) (entries_then w m es))
       ≡ option_map (λ e. e.0)

@@ -22,11 +22,10 @@ use Rattle.oe_model.proofs.MapFacts.{is_same, is_self}
 use Rattle.oe_model.proofs.EntryFacts.{each_of, entries_at}
 use Rattle.oe_model.proofs.SumFacts.{sum_same}
 use Rattle.oe_model.proofs.PresenceFacts.{key_cases}
-use Rattle.oe_store.specs.Places.{rows, entries_of}
-use Rattle.oe_store.specs.Places as tables
-use Rattle.oe_audit.specs.AsOf.{rows_then, row_then, entries_then, ArePassed}
+use Rattle.oe_store.specs.Places.{entries_of}
+use Rattle.oe_rows_of.specs.Then.{row_then, ArePassed, AreNow}
+use Rattle.oe_audit.specs.Walks.{entries_then}
 use Rattle.oe_audit.specs.Ledgers.{line_adds, line_then_adds}
-use Rattle.oe_audit.specs.declared.as_of.AsOf.{AsOf}
 use Rattle.oe_audit.proofs.StoodFacts.{lines_are}
 
 -- an order of another district is not the customer's
@@ -73,7 +72,7 @@ module _ (r : Rows) (h : DistrictKey) (c : ℕ) where
       ∙ sum_of_group order_line_total exact_order_line r.order_lines own (λ l y. line_adds r l y c)
 
 -- the rows that stood, or each of the rows that stand as it stood
-sum_stood : (r : Rows) (w : AsOf) (c : ℕ) (es : List (OrderLineKey × OrderLine))
+sum_stood : (r : Rows) (w : Bool) (c : ℕ) (es : List (OrderLineKey × OrderLine))
     → sum_by (λ e. line_adds r e.0 e.1 c) (entries_then w r.order_lines es) ≡ sum_by
     (λ e. line_then_adds r e.0 (row_then w r.order_lines e.0 e.1) c) es
 sum_stood r w c [] = refl
@@ -100,12 +99,10 @@ sum_stood r w c (e ∷ es) = go (row_then w r.order_lines e.0 e.1) refl (sum_sto
         ∙ (λ i. line_adds r e.0 y c + rest i)
         ∙ sym (sum_by-cons then e es ∙ ap (λ v. line_then_adds r e.0 v c + sum_by then es) t)
 
-module _ (ts : tables.Places) (w : AsOf) (h : ArePassed (rows_then ts w) (rows ts)) where
-  pub delivered_was : (g : DistrictKey) (c : ℕ) → delivered_for (rows_then ts w) (customer_in g c)
-      ≡ sum_by (λ e. line_then_adds (rows_then ts w) e.0 (row_then w (rows_then ts w).order_lines e.0 e.1) c)
-      (entries_of district_cmp (λ k. district_of_order (order_of_line k)) g (rows ts).order_lines)
+module _ (now past : Rows) (w : Bool) (same : AreNow w past now) (h : ArePassed past now) where
+  pub delivered_was : (g : DistrictKey) (c : ℕ) → delivered_for past (customer_in g c)
+      ≡ sum_by (λ e. line_then_adds past e.0 (row_then w past.order_lines e.0 e.1) c)
+      (entries_of district_cmp (λ k. district_of_order (order_of_line k)) g now.order_lines)
   delivered_was g c =
-      delivered_is (rows_then ts w) g c
-      ∙ ap (sum_by (λ e. line_adds (rows_then ts w) e.0 e.1 c)) (lines_are ts w h g)
-      ∙ sum_stood (rows_then ts w) w c
-      (entries_of district_cmp (λ k. district_of_order (order_of_line k)) g (rows ts).order_lines)
+      delivered_is past g c ∙ ap (sum_by (λ e. line_adds past e.0 e.1 c)) (lines_are now past w same h g)
+      ∙ sum_stood past w c (entries_of district_cmp (λ k. district_of_order (order_of_line k)) g now.order_lines)

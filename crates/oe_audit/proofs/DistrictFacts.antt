@@ -23,7 +23,7 @@ use Rattle.oe_model.proofs.EntryFacts.{EachOf, each_of, kept_at}
 use Rattle.oe_store.specs.Places.{entries_of}
 use Rattle.oe_audit.specs.Tests.{are_counted, lines_agree}
 use Rattle.oe_model.proofs.GroupFacts.{sum_of_group}
-use Rattle.oe_versions.proofs.ClimbFacts.{lower}
+use Rattle.oe_rows_of.proofs.ClimbFacts.{lower}
 use Rattle.oe_audit.proofs.NumberFacts.{Rises, Rise, has_no_gap, gaps_counted}
 
 left : (a b : Bool) → T (a && b) → T a

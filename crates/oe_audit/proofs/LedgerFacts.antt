@@ -1,49 +1,22 @@
 -- The sums of a district's customers, and how great they can be.
-use Rattle.std.proofs.Common.{◌≡◌, ℕ, ◌+◌, ◌*◌, ◌-◌, ◌<◌, ◌≤◌, min, refl, sym, ◌∙◌, ap, subst, Bool, true, false, cond}
-use Rattle.std.proofs.Common.{List, [], ◌∷◌, length, set, get_or, arith}
+use Rattle.std.proofs.Common.{◌≡◌, ℕ, ◌+◌, ◌*◌, ◌-◌, ◌<◌, ◌≤◌, refl, sym, ◌∙◌, subst, Bool, true, false, cond}
+use Rattle.std.proofs.Common.{List, [], ◌∷◌, arith}
 use Rattle.std.specs.Prelude.{T, ◌≢◌, ◌&&◌, ◌==◌}
 use Rattle.std.specs.declared.cmp.Ordering.{Ordering}
 use Rattle.std.specs.declared.cmp.Ordering.TheVariants.{Less, Equal, Greater}
 use Rattle.std.specs.Cmp.{ranked}
 use Rattle.std.specs.Ordering.{is_lt, nat_cmp, ordering_then}
 use Rattle.std.specs.FinMap.Entries.{is_sorted, below_all}
-use Rattle.std.proofs.lemmas.Bool.{eqb-true, eqb-false}
-use Rattle.std.proofs.lemmas.List.{get_or-set_same, get_or-set_other}
 use Rattle.oe_rows.specs.Key.{history_cmp}
 use Rattle.oe_rows.specs.declared.keys.HistoryKey.{HistoryKey}
 use Rattle.oe_rows.specs.declared.histories.History.{History}
 use Rattle.oe_model.proofs.EntryFacts.{EachOf}
 use Rattle.oe_audit.specs.Ledgers.{sum_for, most, HaveGrown, IsPayment}
 
--- the sum of one customer, when an amount is added for one
-pub one_added : (sums : List ℕ) (length_is : length sums ≡ 3_000) (k amount : ℕ) → 1 ≤ k → k ≤ 3_000 → (c : ℕ) → 1 ≤ c
-    → c ≤ 3_000 → sum_for sums c ≤ most
-    → sum_for (set sums (k - 1) (min (sum_for sums k + amount) most)) c ≡ min (sum_for sums c + cond (k == c) amount 0)
-    most
-one_added sums length_is k amount low high c c_low c_high fits = by_test (k == c) refl
-  where
-    by_test : (b : Bool) → (k == c) ≡ b → sum_for (set sums (k - 1) (min (sum_for sums k + amount) most)) c ≡ min
-        (sum_for sums c + cond b amount 0) most
-    by_test true e =
-        let same : k ≡ c = eqb-true k c e in
-        ap (λ j. get_or (set sums (k - 1) (min (sum_for sums k + amount) most)) (j - 1) 0) (sym same)
-        ∙ get_or-set_same sums (k - 1) (min (sum_for sums k + amount) most) 0
-        (let z : k - 1 < length sums = omega arith in z)
-        ∙ ap (λ j. min (sum_for sums j + amount) most) same
-    by_test false e =
-        let differs : k ≢ c = eqb-false k c e in
-        let apart : c - 1 ≢ k - 1 = λ s. differs (omega arith) in
-        get_or-set_other sums (k - 1) (c - 1) (min (sum_for sums k + amount) most) 0 apart
-        ∙ (let z : sum_for sums c ≡ min (sum_for sums c + 0) most = omega arith in z)
-
 -- what counts or not is no more than what it is
 pub no_more : (b : Bool) (n : ℕ) → cond b n 0 ≤ n
 no_more true n = omega arith
 no_more false n = omega arith
-
--- nothing is added
-pub none_added : (sums : List ℕ) (more : ℕ → ℕ) → ((c : ℕ) → 1 ≤ c → c ≤ 3_000 → more c ≡ 0) → HaveGrown more sums sums
-none_added sums more none c low high fits = let z = none c low high in omega arith
 
 -- a C_ID
 abbrev pub IsNumber : ℕ → Type 0

@@ -4,9 +4,7 @@ mod NumberFacts
 pub mod DistrictFacts
 mod PopulationFacts
 mod StoodFacts
-pub mod PassedFacts
 mod WalkFacts
-mod QuietFacts
 mod PaidFacts
 mod DeliveredFacts
 pub mod LeadFacts

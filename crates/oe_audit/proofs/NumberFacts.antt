@@ -6,7 +6,7 @@ use Rattle.std.specs.List.{fold, reduce}
 use Rattle.std.proofs.lemmas.Bool.{eq-eqb, eqb-true, eqb-false, ne_eqb, cases_order}
 use Rattle.oe_model.specs.Lists.{IsAmong}
 use Rattle.oe_model.specs.Conditions.{IsGreatest, IsLeast}
-use Rattle.oe_model.specs.Audits.{greatest, least, none_or, some_and}
+use Rattle.oe_model.specs.Audits.{greatest, least, none_or}
 use Rattle.oe_model.proofs.EntryFacts.{EachOf}
 use Rattle.oe_model.proofs.FirstFacts.{greatest_found, least_found}
 use Rattle.oe_audit.specs.Tests.{follows}
@@ -142,19 +142,6 @@ module _ (next : ℕ) (low : 1 ≤ next) where
   before : (n : ℕ) → (n == next - 1) ≡ (next == n + 1)
   before n = same_test n (next - 1) next (n + 1) (λ e. omega arith) (λ e. omega arith)
 
-  some_before : (a : Option ℕ) → some_and a (λ n. n == next - 1) ≡ some_and a (λ n. next == n + 1)
-  some_before None = refl
-  some_before (Some n) = before n
-
   none_before : (a : Option ℕ) → none_or a (λ n. n == next - 1) ≡ none_or a (λ n. next == n + 1)
   none_before None = refl
   none_before (Some n) = before n
-
-  -- by the greatest O_ID, and by the greatest NO_O_ID
-  pub order_differs : (a b : Option ℕ) → some_and a (λ n. n == next - 1) ≡ false
-      → false ≡ (some_and a (λ n. next == n + 1) && none_or b (λ n. next == n + 1))
-  order_differs a b e = sym (ap (λ t. t && none_or b (λ n. next == n + 1)) (sym (some_before a) ∙ e))
-
-  pub order_agrees : (a b : Option ℕ) → some_and a (λ n. n == next - 1) ≡ true
-      → none_or b (λ n. n == next - 1) ≡ (some_and a (λ n. next == n + 1) && none_or b (λ n. next == n + 1))
-  order_agrees a b e = none_before b ∙ sym (ap (λ t. t && none_or b (λ n. next == n + 1)) (sym (some_before a) ∙ e))

@@ -16,17 +16,13 @@ use Rattle.oe_model.specs.Keys.{customer_in}
 use Rattle.oe_model.specs.Maps.{sum_of}
 use Rattle.oe_model.specs.FurtherConditions.{paid_by}
 use Rattle.oe_model.proofs.EntryFacts.{EachOf, entries_at}
-use Rattle.oe_store.specs.Places.{rows}
-use Rattle.oe_store.specs.Places as tables
-use Rattle.oe_versions.specs.Versions.{rows_of}
-use Rattle.oe_versions.proofs.ChosenFacts.{rows_at, rows_none, rows_some, all_is}
-use Rattle.oe_audit.specs.AsOf.{rows_then, has_row_then, ArePassed}
+use Rattle.oe_rows_of.proofs.ChosenFacts.{rows_at, rows_none, rows_some, all_is}
+use Rattle.oe_rows_of.specs.Then.{has_row_then, ArePassed, AreNow}
 use Rattle.oe_audit.specs.Payments.{is_in, paid_in, amount_in}
 use Rattle.oe_audit.specs.Ledgers.{payment_adds}
-use Rattle.oe_audit.specs.declared.as_of.AsOf.{AsOf}
-use Rattle.oe_audit.specs.declared.as_of.AsOf.TheVariants as when
 use Rattle.oe_audit.specs.declared.payments.Place.{Place}
 use Rattle.oe_audit.specs.declared.payments.Place.TheVariants as place
+use Rattle.oe_model.specs.Rows.{Rows}
 
 pub sum_pointwise : {A : Type 0} (f g : A → ℕ) → ((x : A) → f x ≡ g x) → (xs : List A) → sum_by f xs ≡ sum_by g xs
 sum_pointwise f g h [] = refl
@@ -75,26 +71,25 @@ and_turned true false n = refl
 and_turned false true n = refl
 and_turned false false n = refl
 
-module _ (ts : tables.Places) (b : HistoryKey → History → Bool) where
-  counted : (w : AsOf) → ArePassed (rows_then ts w) (rows ts)
-      → sum_of (λ k y. cond (b k y) y.amount 0) (rows_then ts w).histories ≡ sum_by
-      (λ e. cond (b e.0 e.1 && has_row_then w (rows_then ts w).histories e.0) e.1.amount 0)
-      (entries (rows ts).histories)
-  counted when.Now h = sum_pointwise _ _ (λ e. and_true (b e.0 e.1) e.1.amount) (entries (rows ts).histories)
-  counted (when.Moment v) h =
-      sum_stayed history_total exact_history (rows_of v).histories (rows ts).histories h.histories
+module _ (now past : Rows) (b : HistoryKey → History → Bool) where
+  counted : (w : Bool) → AreNow w past now → ArePassed past now
+      → sum_of (λ k y. cond (b k y) y.amount 0) past.histories ≡ sum_by
+      (λ e. cond (b e.0 e.1 && has_row_then w past.histories e.0) e.1.amount 0) (entries now.histories)
+  counted true same h =
+      ap (λ (r : Rows). sum_of (λ k y. cond (b k y) y.amount 0) r.histories) same
+      ∙ sum_pointwise _ _ (λ e. and_true (b e.0 e.1) e.1.amount) (entries now.histories)
+  counted false same h =
+      sum_stayed history_total exact_history past.histories now.histories h.histories
       (λ k y. cond (b k y) y.amount 0)
-      ∙ sum_pointwise _ _ (λ e. and_turned (is_some (get (rows_of v).histories e.0)) (b e.0 e.1) e.1.amount)
-      (entries (rows ts).histories)
+      ∙ sum_pointwise _ _ (λ e. and_turned (is_some (get past.histories e.0)) (b e.0 e.1) e.1.amount)
+      (entries now.histories)
 
-module _ (ts : tables.Places) (w : AsOf) (h : ArePassed (rows_then ts w) (rows ts)) where
+module _ (now past : Rows) (w : Bool) (same : AreNow w past now) (h : ArePassed past now) where
   -- what was paid in a place, and by a customer
-  pub paid_was : (p : Place) → paid_in (rows_then ts w) p ≡ sum_by (amount_in p w (rows_then ts w).histories)
-      (entries (rows ts).histories)
-  paid_was (place.Warehouse g) = counted ts (λ k y. is_in (place.Warehouse g) y.district) w h
-  paid_was (place.District g) = counted ts (λ k y. is_in (place.District g) y.district) w h
+  pub paid_was : (p : Place) → paid_in past p ≡ sum_by (amount_in p w past.histories) (entries now.histories)
+  paid_was (place.Warehouse g) = counted now past (λ k y. is_in (place.Warehouse g) y.district) w same h
+  paid_was (place.District g) = counted now past (λ k y. is_in (place.District g) y.district) w same h
 
   pub paid_by_was : (g : DistrictKey) (c : ℕ)
-      → paid_by (rows_then ts w) (customer_in g c) ≡ sum_by (λ e. payment_adds w (rows_then ts w).histories g e c)
-      (entries (rows ts).histories)
-  paid_by_was g c = counted ts (λ k y. eq_by_cmp customer_cmp y.customer (customer_in g c)) w h
+      → paid_by past (customer_in g c) ≡ sum_by (λ e. payment_adds w past.histories g e c) (entries now.histories)
+  paid_by_was g c = counted now past (λ k y. eq_by_cmp customer_cmp y.customer (customer_in g c)) w same h

@@ -1,11 +1,7 @@
 -- The tests of a population, put together.
-use Rattle.std.proofs.Common.{◌≡◌, ◌↔◌, refl, sym, ◌∙◌, Bool, true, false, List, [], ◌∷◌, Option, Some, None}
-use Rattle.std.proofs.Common.{option_map}
-use Rattle.std.specs.Prelude.{◌&&◌, ◌==◌, is_some, IsTrue}
-use Rattle.std.specs.List.{list_all}
-use Rattle.std.specs.declared.cmp.Ordering.{Ordering}
-use Rattle.std.specs.Cmp.{IsTotalOrder}
-use Rattle.std.specs.FinMap.{FinMap, IsAntisymmetric, get, entries}
+use Rattle.std.proofs.Common.{◌≡◌, ◌↔◌, refl, sym, ◌∙◌, Bool, true, false, [], ◌∷◌}
+use Rattle.std.specs.Prelude.{◌&&◌, ◌==◌, IsTrue}
+use Rattle.std.specs.FinMap.{get}
 use Rattle.std.proofs.lemmas.Bool.{eq-eqb, eqb-true, and_parts, and_from}
 use Rattle.oe_rows.proofs.KeyFacts.{warehouse_total, exact_warehouse, history_total, exact_history, item_total}
 use Rattle.oe_rows.proofs.KeyFacts.{exact_item}
@@ -18,31 +14,11 @@ use Rattle.oe_model.specs.Conditions.{IsStocked, IsPopulation}
 use Rattle.oe_model.specs.Audits as model
 use Rattle.oe_model.specs.PopulationTest.{each_row, has_stocks}
 use Rattle.oe_model.specs.Verdicts.{IsMet}
-use Rattle.oe_model.proofs.EntryFacts.{EachOf, each_of, entries_at, row_among}
-use Rattle.oe_model.proofs.ListFacts.{each_among}
 use Rattle.oe_model.proofs.PresenceFacts.{some_present, present_some}
+use Rattle.oe_model.proofs.PopulationTestFacts.{rows_pass}
 use Rattle.oe_model.proofs.VerdictFacts.{verdicts_are_exact}
 use Rattle.oe_machine.specs.Verdict.{verdict_of}
 use Rattle.oe_audit.specs.Verdict.{AreMet}
-
-each_passes : {A : Type 0} (p : A → Bool) (xs : List A) → list_all p xs ≡ true → EachOf (λ x. p x ≡ true) xs
-each_passes p [] e = tt
-each_passes p (x ∷ xs) e = let t = and_parts (p x) (list_all p xs) e in (t.0, each_passes p xs t.1)
-
-all_pass : {A : Type 0} (p : A → Bool) (xs : List A) → EachOf (λ x. p x ≡ true) xs → list_all p xs ≡ true
-all_pass p [] h = refl
-all_pass p (x ∷ xs) h = and_from (p x) _ h.0 (all_pass p xs h.1)
-
-module _ {K X : Type 0} {R : K → K → Ordering} (o : IsTotalOrder R) (exact : IsAntisymmetric R) (test : K → X → Bool)
-    (m : FinMap R X) where
-  rows_pass : (each_row test m ≡ true) ↔ ((k : K) (x : X) → get m k ≡ Some x → test k x ≡ true)
-  rows_pass = (
-    λ e k x row. each_among (λ e. test e.0 e.1 ≡ true) (entries m) (k, x)
-        (each_passes (λ e. test e.0 e.1) (entries m) e) (row_among o exact m k x row),
-    λ h. all_pass (λ e. test e.0 e.1) (entries m)
-        (each_of (λ e. get m e.0 ≡ Some e.1) (λ e. test e.0 e.1 ≡ true) (λ e row. h e.0 e.1 row) (entries m)
-        (entries_at o m)),
-  )
 
 -- a verdict that is the model's says whether the condition holds
 abbrev pub is_holds : Verdict → Bool
@@ -58,10 +34,6 @@ holds_is c r (told.Fails k) e = (
   λ h. let z : model.Fails k ≡ model.Holds = e ∙ (verdicts_are_exact.holds c r).1 h in
       let no : ⊥ = cc in absurd no,
 )
-
-pub some_copied : {A B : Type 0} (f : A → B) (o : Option A) → is_some (option_map f o) ≡ is_some o
-some_copied f None = refl
-some_copied f (Some x) = refl
 
 module _ (r : Rows) where
   stocks : (has_stocks r ≡ true) ↔ IsStocked r

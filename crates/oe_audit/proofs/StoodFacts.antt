@@ -23,13 +23,10 @@ use Rattle.oe_model.specs.Keys.{order_of_new_order}
 use Rattle.oe_model.specs.Rows.{Rows}
 use Rattle.oe_model.specs.Conditions.{ytd_of, lines_asked, lines_there}
 use Rattle.oe_model.specs.FurtherConditions.{lines_of_order}
-use Rattle.oe_store.specs.Places.{rows, entries_of}
-use Rattle.oe_store.specs.Places as tables
-use Rattle.oe_versions.specs.Versions.{rows_of}
-use Rattle.oe_versions.proofs.ChosenFacts.{rows_at, kept_is, kept_among, all_is}
-use Rattle.oe_audit.specs.AsOf.{rows_then, entries_then, ArePassed}
-use Rattle.oe_audit.specs.declared.as_of.AsOf.{AsOf}
-use Rattle.oe_audit.specs.declared.as_of.AsOf.TheVariants as when
+use Rattle.oe_store.specs.Places.{entries_of}
+use Rattle.oe_rows_of.proofs.ChosenFacts.{rows_at, kept_is, kept_among, all_is}
+use Rattle.oe_audit.specs.Walks.{entries_then}
+use Rattle.oe_rows_of.specs.Then.{ArePassed, AreNow}
 use Rattle.oe_model.proofs.GroupFacts.{sum_of_group}
 use Rattle.oe_audit.proofs.DistrictFacts.{asked_is, there_is, ones}
 
@@ -58,72 +55,71 @@ chosen : {A : Type 0} (b : Bool) (v : Option A) → IsSome (cond b v None) → b
 chosen true v h = refl
 chosen false v h = h
 
-stood_now : {K X : Type 0} {R : K → K → Ordering} (m : FinMap R X) (es : List (K × X)) → entries_then when.Now m es ≡ es
+stood_now : {K X : Type 0} {R : K → K → Ordering} (m : FinMap R X) (es : List (K × X)) → entries_then true m es ≡ es
 stood_now m [] = refl
 stood_now m (e ∷ es) = ap (λ xs. (e.0, e.1) ∷ xs) (stood_now m es)
 
 -- the rows of then are what the keys of the rows that stand had
 module _ {K X : Type 0} {R : K → K → Ordering} (total : IsTotalOrder R) (exact : IsAntisymmetric R)
-    (of : Rows → FinMap R X) (ts : tables.Places) where
-  pub all_stood : (w : AsOf) → ((q : K) → IsSome (get (of (rows_then ts w)) q) → IsSome (get (of (rows ts)) q))
-      → entries (of (rows_then ts w)) ≡ entries_then w (of (rows_then ts w)) (entries (of (rows ts)))
-  all_stood when.Now has = sym (stood_now (of (rows ts)) (entries (of (rows ts))))
-  all_stood (when.Moment v) has = all_is (of (rows_of v)) total exact (of (rows ts)) has
+    (of : Rows → FinMap R X) (now past : Rows) where
+  pub all_stood : (w : Bool) → AreNow w past now
+      → ((q : K) → IsSome (get (of past) q) → IsSome (get (of now) q))
+      → entries (of past) ≡ entries_then w (of past) (entries (of now))
+  all_stood true same has = ap (λ (r : Rows). entries (of r)) same ∙ sym (stood_now (of past) (entries (of now)))
+  all_stood false same has = all_is (of past) total exact (of now) has
 
-  pub kept_stood : (w : AsOf) (p : K → Bool)
-      → ((q : K) → IsSome (get (of (rows_then ts w)) q) → IsSome (get (of (rows ts)) q))
-      → entries (retain_keys (of (rows_then ts w)) p) ≡ entries_then w (of (rows_then ts w))
-      (entries (retain_keys (of (rows ts)) p))
-  kept_stood when.Now p has = sym (stood_now (of (rows ts)) (entries (retain_keys (of (rows ts)) p)))
-  kept_stood (when.Moment v) p has = kept_is (of (rows_of v)) total exact (of (rows ts)) p has
+  pub kept_stood : (w : Bool) → AreNow w past now → (p : K → Bool)
+      → ((q : K) → IsSome (get (of past) q) → IsSome (get (of now) q))
+      → entries (retain_keys (of past) p) ≡ entries_then w (of past) (entries (retain_keys (of now) p))
+  kept_stood true same p has =
+      ap (λ (r : Rows). entries (retain_keys (of r) p)) same
+      ∙ sym (stood_now (of past) (entries (retain_keys (of now) p)))
+  kept_stood false same p has = kept_is (of past) total exact (of now) p has
 
-module _ (ts : tables.Places) (w : AsOf) (h : ArePassed (rows_then ts w) (rows ts)) where
-  abbrev pub past : Rows
-  past = rows_then ts w
+module _ (now past : Rows) (w : Bool) (same : AreNow w past now) (h : ArePassed past now) where
+  pub warehouses_are : entries past.warehouses ≡ entries_then w past.warehouses (entries now.warehouses)
+  warehouses_are = all_stood warehouse_total exact_warehouse (λ r. r.warehouses) now past w same h.warehouses
 
-  pub warehouses_are : entries past.warehouses ≡ entries_then w past.warehouses (entries (rows ts).warehouses)
-  warehouses_are = all_stood warehouse_total exact_warehouse (λ r. r.warehouses) ts w h.warehouses
+  pub districts_are : entries past.districts ≡ entries_then w past.districts (entries now.districts)
+  districts_are = all_stood district_total exact_district (λ r. r.districts) now past w same h.districts
 
-  pub districts_are : entries past.districts ≡ entries_then w past.districts (entries (rows ts).districts)
-  districts_are = all_stood district_total exact_district (λ r. r.districts) ts w h.districts
+  pub customers_are : entries past.customers ≡ entries_then w past.customers (entries now.customers)
+  customers_are = all_stood customer_total exact_customer (λ r. r.customers) now past w same h.customers
 
-  pub customers_are : entries past.customers ≡ entries_then w past.customers (entries (rows ts).customers)
-  customers_are = all_stood customer_total exact_customer (λ r. r.customers) ts w h.customers
+  pub all_orders_are : entries past.orders ≡ entries_then w past.orders (entries now.orders)
+  all_orders_are = all_stood order_total exact_order (λ r. r.orders) now past w same h.orders
 
-  pub all_orders_are : entries past.orders ≡ entries_then w past.orders (entries (rows ts).orders)
-  all_orders_are = all_stood order_total exact_order (λ r. r.orders) ts w h.orders
-
-  pub all_lines_are : entries past.order_lines ≡ entries_then w past.order_lines (entries (rows ts).order_lines)
-  all_lines_are = all_stood order_line_total exact_order_line (λ r. r.order_lines) ts w h.order_lines
+  pub all_lines_are : entries past.order_lines ≡ entries_then w past.order_lines (entries now.order_lines)
+  all_lines_are = all_stood order_line_total exact_order_line (λ r. r.order_lines) now past w same h.order_lines
 
   pub districts_of_are : (g : WarehouseKey) → entries_of warehouse_cmp warehouse_of_district g past.districts
       ≡ entries_then w
-      past.districts (entries_of warehouse_cmp warehouse_of_district g (rows ts).districts)
-  districts_of_are g = kept_stood district_total exact_district (λ r. r.districts) ts w
+      past.districts (entries_of warehouse_cmp warehouse_of_district g now.districts)
+  districts_of_are g = kept_stood district_total exact_district (λ r. r.districts) now past w same
       (λ k. eq_by_cmp warehouse_cmp (warehouse_of_district k) g) h.districts
 
   pub orders_are : (g : DistrictKey) → entries_of district_cmp district_of_order g past.orders
       ≡ entries_then w past.orders
-      (entries_of district_cmp district_of_order g (rows ts).orders)
-  orders_are g = kept_stood order_total exact_order (λ r. r.orders) ts w
+      (entries_of district_cmp district_of_order g now.orders)
+  orders_are g = kept_stood order_total exact_order (λ r. r.orders) now past w same
       (λ k. eq_by_cmp district_cmp (district_of_order k) g) h.orders
 
   pub lines_are : (g : DistrictKey) → entries_of district_cmp (λ k. district_of_order (order_of_line k)) g
       past.order_lines ≡ entries_then w past.order_lines
-      (entries_of district_cmp (λ k. district_of_order (order_of_line k)) g (rows ts).order_lines)
+      (entries_of district_cmp (λ k. district_of_order (order_of_line k)) g now.order_lines)
   lines_are g =
-      kept_stood order_line_total exact_order_line (λ r. r.order_lines) ts w
+      kept_stood order_line_total exact_order_line (λ r. r.order_lines) now past w same
       (λ k. eq_by_cmp district_cmp (district_of_order (order_of_line k)) g) h.order_lines
 
   pub lines_of_are : (k : OrderKey) → entries_of order_cmp order_of_line k past.order_lines
       ≡ entries_then w past.order_lines
-      (entries_of order_cmp order_of_line k (rows ts).order_lines)
-  lines_of_are k = kept_stood order_line_total exact_order_line (λ r. r.order_lines) ts w
+      (entries_of order_cmp order_of_line k now.order_lines)
+  lines_of_are k = kept_stood order_line_total exact_order_line (λ r. r.order_lines) now past w same
       (λ l. eq_by_cmp order_cmp (order_of_line l) k) h.order_lines
 
   -- what condition 6 counts
   pub lines_were : (k : OrderKey) → lines_of_order past k ≡ length
-      (entries_then w past.order_lines (entries_of order_cmp order_of_line k (rows ts).order_lines))
+      (entries_then w past.order_lines (entries_of order_cmp order_of_line k now.order_lines))
   lines_were k =
       sum_of_group order_line_total exact_order_line past.order_lines (λ l. eq_by_cmp order_cmp (order_of_line l) k)
       (λ l y. 1)
@@ -131,19 +127,19 @@ module _ (ts : tables.Places) (w : AsOf) (h : ArePassed (rows_then ts w) (rows t
 
   -- what conditions 1 and 4 sum up
   pub ytd_was : (g : WarehouseKey) → ytd_of past g ≡ sum_by (λ (e : DistrictKey × District). e.1.ytd)
-      (entries_then w past.districts (entries_of warehouse_cmp warehouse_of_district g (rows ts).districts))
+      (entries_then w past.districts (entries_of warehouse_cmp warehouse_of_district g now.districts))
   ytd_was g =
       sum_of_group district_total exact_district past.districts
       (λ k. eq_by_cmp warehouse_cmp (warehouse_of_district k) g) (λ k x. x.ytd)
       ∙ ap (sum_by (λ (e : DistrictKey × District). e.1.ytd)) (districts_of_are g)
 
   pub asked_was : (g : DistrictKey) → lines_asked past g ≡ sum_by (λ (e : OrderKey × Order). e.1.line_count)
-      (entries_then w past.orders (entries_of district_cmp district_of_order g (rows ts).orders))
+      (entries_then w past.orders (entries_of district_cmp district_of_order g now.orders))
   asked_was g = asked_is past g ∙ ap (sum_by (λ (e : OrderKey × Order). e.1.line_count)) (orders_are g)
 
   pub there_was : (g : DistrictKey) → lines_there past g ≡ length
       (entries_then w past.order_lines
-      (entries_of district_cmp (λ k. district_of_order (order_of_line k)) g (rows ts).order_lines))
+      (entries_of district_cmp (λ k. district_of_order (order_of_line k)) g now.order_lines))
   there_was g = there_is past g ∙ ap length (lines_are g)
 
   -- an order that waited for its delivery was there, and is
@@ -152,27 +148,27 @@ module _ (ts : tables.Places) (w : AsOf) (h : ArePassed (rows_then ts w) (rows t
     in_district k = eq_by_cmp district_cmp (district_of_order k) g
 
     abbrev group : List (OrderKey × Order)
-    group = entries (retain_keys (rows ts).orders in_district)
+    group = entries (retain_keys now.orders in_district)
 
     found_in : (q : NewOrderKey) → find new_order_cmp q (as_new group) ≡ cond (in_district (order_of_new_order q))
-        (get (rows ts).orders (order_of_new_order q)) None
+        (get now.orders (order_of_new_order q)) None
     found_in q =
-        find_same q group ∙ sym (get-entries (retain_keys (rows ts).orders in_district) (order_of_new_order q))
-        ∙ get-retain_keys (rows ts).orders in_district (order_of_new_order q)
+        find_same q group ∙ sym (get-entries (retain_keys now.orders in_district) (order_of_new_order q))
+        ∙ get-retain_keys now.orders in_district (order_of_new_order q)
         (λ x e. ap in_district (sym (exact_order (order_of_new_order q) x e)))
 
     waiting_there : (q : NewOrderKey) → eq_by_cmp district_cmp (district_of_new_order q) g ≡ true
         → IsSome (get past.new_orders q) → IsSome (find new_order_cmp q (as_new group))
     waiting_there q own there =
-        ap is_some (found_in q ∙ ap (λ b. cond b (get (rows ts).orders (order_of_new_order q)) None) own)
+        ap is_some (found_in q ∙ ap (λ b. cond b (get now.orders (order_of_new_order q)) None) own)
         ∙ h.orders (order_of_new_order q) (h.new_orders q there)
 
     pub new_orders_are : entries_of district_cmp district_of_new_order g past.new_orders ≡ rows_at past.new_orders
-        (as_new (entries_of district_cmp district_of_order g (rows ts).orders))
+        (as_new (entries_of district_cmp district_of_order g now.orders))
     new_orders_are =
         kept_among past.new_orders new_order_total exact_new_order
         (λ k. eq_by_cmp district_cmp (district_of_new_order k) g) (as_new group)
-        (subst T (sym (sorted_same group)) (entries_sorted (retain_keys (rows ts).orders in_district)))
+        (subst T (sym (sorted_same group)) (entries_sorted (retain_keys now.orders in_district)))
         waiting_there
-        (λ q there. chosen (in_district (order_of_new_order q)) (get (rows ts).orders (order_of_new_order q))
+        (λ q there. chosen (in_district (order_of_new_order q)) (get now.orders (order_of_new_order q))
         (ap is_some (sym (found_in q)) ∙ there))

@@ -15,26 +15,9 @@ same_test a b c d there back = by_test (c == d) refl
         absurd (let z : ⊥ = cc in z))
 
 module _ {A : Type 0} (f : A → ℕ) where
-  -- the first number of the sum is taken away
-  pub taken_away : (rest less : ℕ) (x : A) (xs all : List A) → all ≡ x ∷ xs → rest ≡ less + f x
-      → (less == sum_by f xs) ≡ (rest == sum_by f all)
-  taken_away rest less x xs all split r =
-      let s = ap (sum_by f) split ∙ sum_by-cons f x xs in
-      same_test less (sum_by f xs) rest (sum_by f all) (λ e. omega arith) (λ e. omega arith)
-
-  -- it is too great
-  pub too_great : (rest : ℕ) (x : A) (xs all : List A) → all ≡ x ∷ xs → rest < f x → (rest == sum_by f all) ≡ false
-  too_great rest x xs all split r = let s = ap (sum_by f) split ∙ sum_by-cons f x xs in
-      ne_eqb rest (sum_by f all) (λ e. omega arith)
-
   -- nothing is left to take
   pub all_taken : (rest : ℕ) (all : List A) → all ≡ [] → (rest == 0) ≡ (rest == sum_by f all)
   all_taken rest all none = ap (λ xs. rest == sum_by f xs) (sym none)
-
-  -- as many as the first number are not there, or are taken
-  pub too_few : (n : ℕ) (x : A) (xs all : List A) → all ≡ x ∷ xs → (f x ≤ n → ⊥) → false ≡ (sum_by f all == n)
-  too_few n x xs all split few = let s = ap (sum_by f) split ∙ sum_by-cons f x xs in
-      sym (ne_eqb (sum_by f all) n (λ e. few (omega arith)))
 
   pub taken_off : (n m : ℕ) (x : A) (xs all : List A) → all ≡ x ∷ xs → m + f x ≡ n
       → (sum_by f xs == m) ≡ (sum_by f all == n)

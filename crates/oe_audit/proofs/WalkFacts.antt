@@ -2,7 +2,7 @@
 use Rattle.std.proofs.Common.{◌≡◌, ℕ, refl, ◌∙◌, List, [], ◌∷◌, Option, Some, None, max}
 use Rattle.std.specs.List.{fold}
 use Rattle.oe_model.specs.Audits.{greatest}
-use Rattle.oe_audit.specs.AsOf.{greater_of}
+use Rattle.oe_audit.specs.Walks.{greater_of}
 use Rattle.oe_audit.proofs.NumberFacts.{greatest_reduced}
 
 abbrev pub highest_from : Option ℕ → List ℕ → Option ℕ

@@ -1,6 +1,6 @@
 -- The sums of a district's customers, one for each C_ID: what was delivered to each, and what each has paid.
-use Rattle.std.specs.Prelude.{◌≡◌, ℕ, ◌+◌, ◌-◌, ◌≤◌, ◌&&◌, pos, ◌+ℤ◌, ◌≤ℤ◌, min, Bool, true, cond, List, get_or, Option}
-use Rattle.std.specs.Prelude.{None, Some}
+use Rattle.std.specs.Prelude.{◌≡◌, ℕ, ◌+◌, ◌-◌, ◌≤◌, ◌&&◌, pos, ◌+ℤ◌, ◌≤ℤ◌, min, Bool, true, cond, List, get_or}
+use Rattle.std.specs.Prelude.{Option, None, Some}
 use Rattle.std.specs.Ordering.{eq_by_cmp, int_eq}
 use Rattle.std.specs.FinMap.{FinMap, get}
 use Rattle.oe_rows.specs.Key.{customer_cmp, history_cmp}
@@ -16,8 +16,7 @@ use Rattle.oe_model.specs.Keys.{district_of_order, order_of_line, customer_in}
 use Rattle.oe_model.specs.Rows.{Rows}
 use Rattle.oe_model.specs.FurtherConditions.{amount_for, delivered_for, paid_by}
 use Rattle.oe_model.specs.Audits.{Condition, Tenth, Twelfth, passes_10, passes_12}
-use Rattle.oe_audit.specs.AsOf.{has_row_then}
-use Rattle.oe_audit.specs.declared.as_of.AsOf.{AsOf}
+use Rattle.oe_rows_of.specs.Then.{has_row_then}
 use Rattle.oe_audit.specs.declared.customers.CustomerCondition.{CustomerCondition}
 use Rattle.oe_audit.specs.declared.customers.CustomerCondition.TheVariants as of_customers
 use Rattle.oe_audit.specs.declared.ledgers.Ledger.{Ledger}
@@ -48,7 +47,7 @@ line_then_adds r l None c = 0
 line_then_adds r l (Some y) c = line_adds r l y c
 
 -- what a HISTORY row that stands adds for a customer, where it stood then
-abbrev pub payment_adds : AsOf → FinMap history_cmp History → DistrictKey → HistoryKey × History → ℕ → ℕ
+abbrev pub payment_adds : Bool → FinMap history_cmp History → DistrictKey → HistoryKey × History → ℕ → ℕ
 payment_adds w m h e c =
     cond (eq_by_cmp customer_cmp e.1.customer (customer_in h c) && has_row_then w m e.0) e.1.amount 0
 

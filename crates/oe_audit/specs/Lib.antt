@@ -1,6 +1,6 @@
 -- What the clauses of this crate cite.
 pub mod Verdict
 pub mod Tests
-pub mod AsOf
+pub mod Walks
 pub mod Payments
 pub mod Ledgers

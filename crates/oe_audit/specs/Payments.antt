@@ -9,8 +9,7 @@ use Rattle.oe_rows.specs.declared.histories.History.{History}
 use Rattle.oe_model.specs.Keys.{warehouse_of_district}
 use Rattle.oe_model.specs.Rows.{Rows}
 use Rattle.oe_model.specs.FurtherConditions.{paid_in_warehouse, paid_in_district}
-use Rattle.oe_audit.specs.AsOf.{has_row_then}
-use Rattle.oe_audit.specs.declared.as_of.AsOf.{AsOf}
+use Rattle.oe_rows_of.specs.Then.{has_row_then}
 use Rattle.oe_audit.specs.declared.payments.Place.{Place}
 use Rattle.oe_audit.specs.declared.payments.Place.TheVariants as place
 
@@ -25,5 +24,5 @@ paid_in r (place.Warehouse w) = paid_in_warehouse r w
 paid_in r (place.District g) = paid_in_district r g
 
 -- H_AMOUNT of a row that stands, where it stood then and is of a payment in the place
-abbrev pub amount_in : Place → AsOf → FinMap history_cmp History → HistoryKey × History → ℕ
+abbrev pub amount_in : Place → Bool → FinMap history_cmp History → HistoryKey × History → ℕ
 amount_in p w m e = cond (is_in p e.1.district && has_row_then w m e.0) e.1.amount 0

@@ -3,11 +3,10 @@
 ghost use Rattle.std.specs.Prelude.{◌≡◌};
 ghost use Rattle.oe_model.specs.Audits.{First};
 ghost use Rattle.oe_store.specs.Places.{rows};
-ghost use Rattle.oe_versions.specs.Versions.{rows_of};
-ghost use Rattle.oe_audit.specs.AsOf.{rows_then, model_condition, passes, ArePassed};
+ghost use Rattle.oe_rows_of.specs.Then.{ArePassed};
+ghost use Rattle.oe_audit.specs.Walks.{model_condition, passes};
 ghost use Rattle.oe_audit.specs.Verdict.{IsVerdict, IsAudited};
 
-use crate::as_of::AsOf;
 use crate::customers::{CustomerCondition, of_customers};
 use crate::districts::{passes_fourth, passes_second, passes_third};
 use crate::orders::{OrderCondition, of_orders, seventh};
@@ -15,9 +14,9 @@ use crate::payments::{eighth, ninth};
 use crate::warehouses::passes_first;
 use oe_requests::{Condition, Verdict};
 use oe_rows::{DistrictKey, Key};
+use oe_rows_of::RowsOf;
 use oe_store::Tables;
 use oe_values::OrderNumber;
-use oe_versions::Version;
 
 /// The conditions that are asked of each district.
 pub(crate) enum DistrictCondition {
@@ -27,14 +26,14 @@ pub(crate) enum DistrictCondition {
 }
 
 /// Gives the verdict of the first condition (clause 3.3.2.1).
-fn first<'a>(tables: &'a Tables, when: &AsOf<'a>) -> Verdict
-    requires { ArePassed (rows_then tables.now when.now) (rows tables.now) }
-    ensures { IsVerdict First (rows_then tables.now when.now) result }
+fn first<R: RowsOf>(then: &R) -> Verdict
+    requires { ArePassed (R.rows_of then.now) (rows (R.tables_of then.now)) }
+    ensures { IsVerdict First (R.rows_of then.now) result }
 {
-    for (key, row) in tables.warehouses() {
-        match when.warehouse_ytd(tables, key, row) {
+    for (key, row) in then.tables().warehouses() {
+        match then.warehouse_ytd(key, row) {
             Some(ytd) => {
-                if !passes_first(tables, when, key, ytd) {
+                if !passes_first(then, key, ytd) {
                     return Verdict::Fails(Key::Warehouse(*key));
                 }
             }
@@ -45,32 +44,31 @@ fn first<'a>(tables: &'a Tables, when: &AsOf<'a>) -> Verdict
 }
 
 /// Tells whether a district with this D_NEXT_O_ID passes a condition.
-fn passes<'a>(
+fn passes<R: RowsOf>(
     condition: &DistrictCondition,
-    tables: &'a Tables,
-    when: &AsOf<'a>,
+    then: &R,
     key: &DistrictKey,
     next_order: OrderNumber,
 ) -> bool
-    requires { ArePassed (rows_then tables.now when.now) (rows tables.now) }
-    ensures { result ≡ passes condition.now (rows_then tables.now when.now) key.now next_order }
+    requires { ArePassed (R.rows_of then.now) (rows (R.tables_of then.now)) }
+    ensures { result ≡ passes condition.now (R.rows_of then.now) key.now next_order }
 {
     match condition {
-        DistrictCondition::Second => passes_second(tables, when, key, next_order),
-        DistrictCondition::Third => passes_third(tables, when, key),
-        DistrictCondition::Fourth => passes_fourth(tables, when, key),
+        DistrictCondition::Second => passes_second(then, key, next_order),
+        DistrictCondition::Third => passes_third(then, key),
+        DistrictCondition::Fourth => passes_fourth(then, key),
     }
 }
 
 /// Gives the verdict of a condition of districts (clauses 3.3.2.2 to 3.3.2.4).
-fn of_districts<'a>(condition: &DistrictCondition, tables: &'a Tables, when: &AsOf<'a>) -> Verdict
-    requires { ArePassed (rows_then tables.now when.now) (rows tables.now) }
-    ensures { IsVerdict (model_condition condition.now) (rows_then tables.now when.now) result }
+fn of_districts<R: RowsOf>(condition: &DistrictCondition, then: &R) -> Verdict
+    requires { ArePassed (R.rows_of then.now) (rows (R.tables_of then.now)) }
+    ensures { IsVerdict (model_condition condition.now) (R.rows_of then.now) result }
 {
-    for (key, row) in tables.districts() {
-        match when.next_order(tables, key, row) {
+    for (key, row) in then.tables().districts() {
+        match then.next_order(key, row) {
             Some(next_order) => {
-                if !passes(condition, tables, when, key, next_order) {
+                if !passes(condition, then, key, next_order) {
                     return Verdict::Fails(Key::District(*key));
                 }
             }
@@ -81,22 +79,22 @@ fn of_districts<'a>(condition: &DistrictCondition, tables: &'a Tables, when: &As
 }
 
 /// Gives the verdict of a condition, found row by row.
-fn found<'a>(number: Condition, tables: &'a Tables, when: &AsOf<'a>) -> Verdict
-    requires { ArePassed (rows_then tables.now when.now) (rows tables.now) }
-    ensures { IsAudited number (rows_then tables.now when.now) result }
+fn found<R: RowsOf>(number: Condition, then: &R) -> Verdict
+    requires { ArePassed (R.rows_of then.now) (rows (R.tables_of then.now)) }
+    ensures { IsAudited number (R.rows_of then.now) result }
 {
     match number {
-        Condition::First => first(tables, when),
-        Condition::Second => of_districts(&DistrictCondition::Second, tables, when),
-        Condition::Third => of_districts(&DistrictCondition::Third, tables, when),
-        Condition::Fourth => of_districts(&DistrictCondition::Fourth, tables, when),
-        Condition::Fifth => of_orders(&OrderCondition::Fifth, tables, when),
-        Condition::Sixth => of_orders(&OrderCondition::Sixth, tables, when),
-        Condition::Seventh => seventh(tables, when),
-        Condition::Eighth => eighth(tables, when),
-        Condition::Ninth => ninth(tables, when),
-        Condition::Tenth => of_customers(&CustomerCondition::Tenth, tables, when),
-        Condition::Twelfth => of_customers(&CustomerCondition::Twelfth, tables, when),
+        Condition::First => first(then),
+        Condition::Second => of_districts(&DistrictCondition::Second, then),
+        Condition::Third => of_districts(&DistrictCondition::Third, then),
+        Condition::Fourth => of_districts(&DistrictCondition::Fourth, then),
+        Condition::Fifth => of_orders(&OrderCondition::Fifth, then),
+        Condition::Sixth => of_orders(&OrderCondition::Sixth, then),
+        Condition::Seventh => seventh(then),
+        Condition::Eighth => eighth(then),
+        Condition::Ninth => ninth(then),
+        Condition::Tenth => of_customers(&CustomerCondition::Tenth, then),
+        Condition::Twelfth => of_customers(&CustomerCondition::Twelfth, then),
     }
 }
 
@@ -111,24 +109,24 @@ pub fn condition(number: Condition, tables: &Tables) -> Verdict
     ensures { IsAudited number (rows tables.now) result }
 {
     tables.schema_holds();
-    found(number, tables, &AsOf::Now)
+    found(number, tables)
 }
 
-/// Gives the verdict of a consistency condition on a version, as `condition` would have given it
-/// when that moment was the newest, whatever has been open or committed since: that it held, or the
-/// first row, in key order, at which it failed. Nothing is asked of the rows but that a walk of
-/// today's passes each of the moment's, so that only a look at them tells the verdict.
+/// Gives the verdict of a consistency condition on the rows of now or of a moment. Of a moment it
+/// is what `condition` would have given when that was the newest, whatever has been open or
+/// committed since: that it held, or the first row, in key order, at which it failed. Nothing is
+/// asked of the rows but that a walk of today's passes each of them, so that only a look at them
+/// tells the verdict.
 ///
-/// It takes no memory. It walks the rows that it concerns once, and goes for each
-/// along its key's records that are open or of commits after the moment; where nothing is open and
-/// no commit is later, it is `condition`.
-pub fn condition_at(number: Condition, version: Version<'_>) -> Verdict
-    requires { ArePassed (rows_of version) (rows version.tables) }
-    ensures { IsAudited number (rows_of version.entry) result }
+/// It takes no memory. It walks the rows that it concerns once, and goes for each along its key's
+/// records that are open or of commits after the moment. If nothing is open and no commit is later,
+/// it is `condition`.
+pub fn condition_at<R: RowsOf>(number: Condition, then: &R) -> Verdict
+    requires { ArePassed (R.rows_of then.now) (rows (R.tables_of then.now)) }
+    ensures { IsAudited number (R.rows_of then.now) result }
 {
-    let tables = version.tables();
-    if version.is_settled() {
-        return condition(number, tables);
+    if then.is_settled() {
+        return condition(number, then.tables());
     }
-    found(number, tables, &AsOf::Moment(version))
+    found(number, then)
 }

@@ -2,15 +2,14 @@
 //! against the ledgers of what was delivered and paid.
 ghost use Rattle.std.specs.Prelude.{◌≡◌, ◌≤◌, IsTrue, Some};
 ghost use Rattle.oe_store.specs.Places.{rows};
-ghost use Rattle.oe_audit.specs.AsOf.{rows_then, row_then, ArePassed};
+ghost use Rattle.oe_rows_of.specs.Then.{row_then, ArePassed};
 ghost use Rattle.oe_audit.specs.Ledgers.{sum_for, customer_condition, passes_then, agrees, IsAccount, IsLedger};
 ghost use Rattle.oe_audit.specs.Verdict.{IsVerdict};
 
-use crate::as_of::AsOf;
 use crate::ledgers::Ledger;
 use oe_requests::Verdict;
 use oe_rows::{Account, Customer, CustomerKey, Key};
-use oe_store::Tables;
+use oe_rows_of::RowsOf;
 use oe_values::CustomerNumber;
 
 /// The conditions that are asked of each customer.
@@ -52,39 +51,34 @@ fn agrees_with(
 
 /// Tells whether the CUSTOMER row that a key has then, where it has this one now, passes a
 /// condition.
-pub(crate) fn passes<'a>(
+pub(crate) fn passes<R: RowsOf>(
     condition: &CustomerCondition,
-    tables: &'a Tables,
-    when: &AsOf<'a>,
+    then: &R,
     key: &CustomerKey,
     row: &Customer,
     ledger: &mut Ledger,
 ) -> bool
-    requires passed { ArePassed (rows_then tables.now when.now) (rows tables.now) }
-    requires ledger { IsLedger (rows_then tables.now when.now) ledger.old }
-    ensures ledger { IsLedger (rows_then tables.now when.now) ledger.new }
-    ensures value { result ≡ passes_then condition.now (rows_then tables.now when.now) key.now
-        (row_then when.now (rows_then tables.now when.now).customers key.now row.now) }
+    requires passed { ArePassed (R.rows_of then.now) (rows (R.tables_of then.now)) }
+    requires ledger { IsLedger (R.rows_of then.now) ledger.old }
+    ensures ledger { IsLedger (R.rows_of then.now) ledger.new }
+    ensures value { result ≡ passes_then condition.now (R.rows_of then.now) key.now
+        (row_then (R.are_now then.now) (R.rows_of then.now).customers key.now row.now) }
 {
-    ledger.turn_to(tables, when, &key.district_key());
-    match when.account(tables, key, row) {
+    ledger.turn_to(then, &key.district_key());
+    match then.account(key, row) {
         Some(account) => agrees_with(condition, ledger, key.customer, &account),
         None => true,
     }
 }
 
 /// Gives the verdict of a condition of customers (clauses 3.3.2.10 and 3.3.2.12).
-pub(crate) fn of_customers<'a>(
-    condition: &CustomerCondition,
-    tables: &'a Tables,
-    when: &AsOf<'a>,
-) -> Verdict
-    requires { ArePassed (rows_then tables.now when.now) (rows tables.now) }
-    ensures { IsVerdict (customer_condition condition.now) (rows_then tables.now when.now) result }
+pub(crate) fn of_customers<R: RowsOf>(condition: &CustomerCondition, then: &R) -> Verdict
+    requires { ArePassed (R.rows_of then.now) (rows (R.tables_of then.now)) }
+    ensures { IsVerdict (customer_condition condition.now) (R.rows_of then.now) result }
 {
-    let mut ledger = Ledger::new(tables, when);
-    for (key, row) in tables.customers() {
-        if !passes(condition, tables, when, key, row, &mut ledger) {
+    let mut ledger = Ledger::new(then);
+    for (key, row) in then.tables().customers() {
+        if !passes(condition, then, key, row, &mut ledger) {
             return Verdict::Fails(Key::Customer(*key));
         }
     }

@@ -3,12 +3,12 @@
 ghost use Rattle.std.specs.Prelude.{◌≡◌, ◌≤◌, ◌+◌, ◌↔◌, ◌==◌, IsTrue};
 ghost use Rattle.oe_model.specs.Audits.{greatest, some_and, none_or, order_numbers, new_order_numbers};
 ghost use Rattle.oe_store.specs.Places.{rows};
-ghost use Rattle.oe_audit.specs.AsOf.{rows_then, lines_stood, greater_of, ArePassed};
+ghost use Rattle.oe_rows_of.specs.Then.{ArePassed};
+ghost use Rattle.oe_audit.specs.Walks.{lines_stood, greater_of};
 ghost use Rattle.oe_audit.specs.Tests.{is_numbered, are_counted, follows, lines_agree};
 
-use crate::as_of::AsOf;
 use oe_rows::{DistrictKey, OrderLine, OrderLineKey};
-use oe_store::Tables;
+use oe_rows_of::RowsOf;
 use oe_table::shelf_walks::Rows;
 use oe_values::OrderNumber;
 
@@ -23,13 +23,13 @@ fn greater(before: Option<u32>, number: u32) -> u32
 }
 
 /// Gives the greatest O_ID of a district.
-pub(crate) fn last_order<'a>(tables: &'a Tables, when: &AsOf<'a>, key: &DistrictKey) -> Option<u32>
-    requires { ArePassed (rows_then tables.now when.now) (rows tables.now) }
-    ensures { result ≡ greatest (order_numbers key.now (rows_then tables.now when.now).orders) }
+pub(crate) fn last_order<R: RowsOf>(then: &R, key: &DistrictKey) -> Option<u32>
+    requires { ArePassed (R.rows_of then.now) (rows (R.tables_of then.now)) }
+    ensures { result ≡ greatest (order_numbers key.now (R.rows_of then.now).orders) }
 {
     let mut last = None;
-    for (order, row) in tables.orders_of(*key) {
-        let placed = when.order(tables, order, row);
+    for (order, row) in then.tables().orders_of(*key) {
+        let placed = then.order(order, row);
         if placed.is_some() {
             last = Some(greater(last, order.order.get()));
         }
@@ -38,18 +38,14 @@ pub(crate) fn last_order<'a>(tables: &'a Tables, when: &AsOf<'a>, key: &District
 }
 
 /// Gives the greatest NO_O_ID of a district.
-pub(crate) fn last_new_order<'a>(
-    tables: &'a Tables,
-    when: &AsOf<'a>,
-    key: &DistrictKey,
-) -> Option<u32>
-    requires { ArePassed (rows_then tables.now when.now) (rows tables.now) }
+pub(crate) fn last_new_order<R: RowsOf>(then: &R, key: &DistrictKey) -> Option<u32>
+    requires { ArePassed (R.rows_of then.now) (rows (R.tables_of then.now)) }
     ensures { result
-        ≡ greatest (new_order_numbers key.now (rows_then tables.now when.now).new_orders) }
+        ≡ greatest (new_order_numbers key.now (R.rows_of then.now).new_orders) }
 {
     let mut last = None;
-    for (order, _) in tables.orders_of(*key) {
-        let waits = when.has_new_order(tables, &order.new_order_key());
+    for (order, _) in then.tables().orders_of(*key) {
+        let waits = then.has_new_order(&order.new_order_key());
         if waits {
             last = Some(greater(last, order.order.get()));
         }
@@ -79,22 +75,17 @@ fn is_last_or_none(number: Option<u32>, last: u32) -> bool
 
 /// Tells whether D_NEXT_O_ID - 1 is the greatest O_ID, and the greatest NO_O_ID where there is one
 /// (clause 3.3.2.2).
-pub(crate) fn passes_second<'a>(
-    tables: &'a Tables,
-    when: &AsOf<'a>,
-    key: &DistrictKey,
-    next_order: OrderNumber,
-) -> bool
-    requires { ArePassed (rows_then tables.now when.now) (rows tables.now) }
-    ensures { result ≡ is_numbered (rows_then tables.now when.now) key.now next_order }
+pub(crate) fn passes_second<R: RowsOf>(then: &R, key: &DistrictKey, next_order: OrderNumber) -> bool
+    requires { ArePassed (R.rows_of then.now) (rows (R.tables_of then.now)) }
+    ensures { result ≡ is_numbered (R.rows_of then.now) key.now next_order }
 {
     let next = next_order.get();
     let last = next - 1;
-    let order = last_order(tables, when, key);
+    let order = last_order(then, key);
     if !is_last(order, last) {
         return false;
     }
-    let new_order = last_new_order(tables, when, key);
+    let new_order = last_new_order(then, key);
     is_last_or_none(new_order, last)
 }
 
@@ -111,13 +102,13 @@ fn follows_number(before: Option<u32>, number: u32) -> bool
 
 /// Tells whether the greatest NO_O_ID less the least, and 1, is the number of NEW-ORDER rows
 /// (clause 3.3.2.3): in their order each has the number after the one before.
-pub(crate) fn passes_third<'a>(tables: &'a Tables, when: &AsOf<'a>, key: &DistrictKey) -> bool
-    requires { ArePassed (rows_then tables.now when.now) (rows tables.now) }
-    ensures { result ≡ are_counted (rows_then tables.now when.now) key.now }
+pub(crate) fn passes_third<R: RowsOf>(then: &R, key: &DistrictKey) -> bool
+    requires { ArePassed (R.rows_of then.now) (rows (R.tables_of then.now)) }
+    ensures { result ≡ are_counted (R.rows_of then.now) key.now }
 {
     let mut before = None;
-    for (order, _) in tables.orders_of(*key) {
-        let is_new = when.has_new_order(tables, &order.new_order_key());
+    for (order, _) in then.tables().orders_of(*key) {
+        let is_new = then.has_new_order(&order.new_order_key());
         if is_new {
             let number = order.order.get();
             if !follows_number(before, number) {
@@ -131,23 +122,23 @@ pub(crate) fn passes_third<'a>(tables: &'a Tables, when: &AsOf<'a>, key: &Distri
 
 /// Takes rows off the front of a walk until `count` of them stood then, and answers whether there
 /// were `count`.
-pub(crate) fn takes<'a>(
-    lines: &mut Rows<'a, OrderLineKey, OrderLine>,
-    tables: &'a Tables,
-    when: &AsOf<'a>,
+pub(crate) fn takes<R: RowsOf>(
+    lines: &mut Rows<'_, OrderLineKey, OrderLine>,
+    then: &R,
     count: u32,
 ) -> bool
-    ensures enough { IsTrue result ↔ (count ≤ lines_stood tables.now when.now lines.old) }
+    ensures enough { IsTrue result
+        ↔ (count ≤ lines_stood (R.are_now then.now) (R.rows_of then.now) lines.old) }
     ensures taken { IsTrue result →
-        lines_stood tables.now when.now lines.new + count
-        ≡ lines_stood tables.now when.now lines.old }
+        lines_stood (R.are_now then.now) (R.rows_of then.now) lines.new + count
+        ≡ lines_stood (R.are_now then.now) (R.rows_of then.now) lines.old }
 {
     let mut wanted = count;
     while wanted > 0 {
         let Some((key, _)) = lines.next() else {
             return false;
         };
-        let stood = when.has_order_line(tables, key);
+        let stood = then.has_order_line(key);
         if stood {
             wanted -= 1;
         }
@@ -156,27 +147,24 @@ pub(crate) fn takes<'a>(
 }
 
 /// Tells whether a walk has a row yet that stood then.
-pub(crate) fn has_more<'a>(
-    lines: &mut Rows<'a, OrderLineKey, OrderLine>,
-    tables: &'a Tables,
-    when: &AsOf<'a>,
-) -> bool
-    ensures { IsTrue result ↔ (1 ≤ lines_stood tables.now when.now lines.old) }
+pub(crate) fn has_more<R: RowsOf>(lines: &mut Rows<'_, OrderLineKey, OrderLine>, then: &R) -> bool
+    ensures { IsTrue result
+        ↔ (1 ≤ lines_stood (R.are_now then.now) (R.rows_of then.now) lines.old) }
 {
-    takes(lines, tables, when, 1)
+    takes(lines, then, 1)
 }
 
 /// Tells whether the sum of O_OL_CNT is the number of ORDER-LINE rows (clause 3.3.2.4): the orders
 /// take their numbers of rows off the walk of the lines, and none is left.
-pub(crate) fn passes_fourth<'a>(tables: &'a Tables, when: &AsOf<'a>, key: &DistrictKey) -> bool
-    requires { ArePassed (rows_then tables.now when.now) (rows tables.now) }
-    ensures { result ≡ lines_agree (rows_then tables.now when.now) key.now }
+pub(crate) fn passes_fourth<R: RowsOf>(then: &R, key: &DistrictKey) -> bool
+    requires { ArePassed (R.rows_of then.now) (rows (R.tables_of then.now)) }
+    ensures { result ≡ lines_agree (R.rows_of then.now) key.now }
 {
-    let mut lines = tables.order_lines_of_district(*key);
-    for (order, row) in tables.orders_of(*key) {
-        match when.order(tables, order, row) {
+    let mut lines = then.tables().order_lines_of_district(*key);
+    for (order, row) in then.tables().orders_of(*key) {
+        match then.order(order, row) {
             Some(placed) => {
-                let enough = takes(&mut lines, tables, when, placed.line_count.get());
+                let enough = takes(&mut lines, then, placed.line_count.get());
                 if !enough {
                     return false;
                 }
@@ -184,6 +172,6 @@ pub(crate) fn passes_fourth<'a>(tables: &'a Tables, when: &AsOf<'a>, key: &Distr
             None => {}
         }
     }
-    let has_more = has_more(&mut lines, tables, when);
+    let has_more = has_more(&mut lines, then);
     !has_more
 }

@@ -3,7 +3,6 @@
 //! 5.11's.
 #![tactic(auto)]
 
-mod as_of;
 pub mod conditions;
 mod customers;
 mod districts;

@@ -3,14 +3,14 @@ ghost use Rattle.std.specs.Prelude.{◌≡◌, ◌==◌};
 ghost use Rattle.oe_model.specs.Audits.{Seventh, passes_5, passes_7};
 ghost use Rattle.oe_model.specs.FurtherConditions.{lines_of_order};
 ghost use Rattle.oe_store.specs.Places.{rows};
-ghost use Rattle.oe_audit.specs.AsOf.{rows_then, order_condition, passes_order, ArePassed};
+ghost use Rattle.oe_rows_of.specs.Then.{ArePassed};
+ghost use Rattle.oe_audit.specs.Walks.{order_condition, passes_order};
 ghost use Rattle.oe_audit.specs.Verdict.{IsVerdict};
 
-use crate::as_of::AsOf;
 use crate::districts::{has_more, takes};
 use oe_requests::Verdict;
 use oe_rows::{Key, Order, OrderKey, OrderLine, OrderLineKey};
-use oe_store::Tables;
+use oe_rows_of::RowsOf;
 
 /// The conditions that are asked of each order.
 pub(crate) enum OrderCondition {
@@ -19,15 +19,10 @@ pub(crate) enum OrderCondition {
 }
 
 /// Tells whether O_CARRIER_ID is null exactly where the order has a NEW-ORDER row (clause 3.3.2.5).
-pub(crate) fn passes_fifth<'a>(
-    tables: &'a Tables,
-    when: &AsOf<'a>,
-    key: &OrderKey,
-    order: &Order,
-) -> bool
-    ensures { result ≡ passes_5 (rows_then tables.now when.now) key.now order.now }
+pub(crate) fn passes_fifth<R: RowsOf>(then: &R, key: &OrderKey, order: &Order) -> bool
+    ensures { result ≡ passes_5 (R.rows_of then.now) key.now order.now }
 {
-    let waits = when.has_new_order(tables, &key.new_order_key());
+    let waits = then.has_new_order(&key.new_order_key());
     match order.carrier {
         None => waits,
         Some(_) => !waits,
@@ -35,56 +30,41 @@ pub(crate) fn passes_fifth<'a>(
 }
 
 /// Tells whether O_OL_CNT is the number of the order's ORDER-LINE rows (clause 3.3.2.6).
-pub(crate) fn passes_sixth<'a>(
-    tables: &'a Tables,
-    when: &AsOf<'a>,
-    key: &OrderKey,
-    line_count: u32,
-) -> bool
-    requires { ArePassed (rows_then tables.now when.now) (rows tables.now) }
+pub(crate) fn passes_sixth<R: RowsOf>(then: &R, key: &OrderKey, line_count: u32) -> bool
+    requires { ArePassed (R.rows_of then.now) (rows (R.tables_of then.now)) }
     ensures { result
-        ≡ (line_count == lines_of_order (rows_then tables.now when.now) key.now) }
+        ≡ (line_count == lines_of_order (R.rows_of then.now) key.now) }
 {
-    let mut lines = tables.order_lines_of(*key);
-    let enough = takes(&mut lines, tables, when, line_count);
+    let mut lines = then.tables().order_lines_of(*key);
+    let enough = takes(&mut lines, then, line_count);
     if !enough {
         return false;
     }
-    let has_more = has_more(&mut lines, tables, when);
+    let has_more = has_more(&mut lines, then);
     !has_more
 }
 
 /// Tells whether an order with this row passes a condition.
-fn passes<'a>(
-    condition: &OrderCondition,
-    tables: &'a Tables,
-    when: &AsOf<'a>,
-    key: &OrderKey,
-    order: &Order,
-) -> bool
-    requires { ArePassed (rows_then tables.now when.now) (rows tables.now) }
+fn passes<R: RowsOf>(condition: &OrderCondition, then: &R, key: &OrderKey, order: &Order) -> bool
+    requires { ArePassed (R.rows_of then.now) (rows (R.tables_of then.now)) }
     ensures { result
-        ≡ passes_order condition.now (rows_then tables.now when.now) key.now order.now }
+        ≡ passes_order condition.now (R.rows_of then.now) key.now order.now }
 {
     match condition {
-        OrderCondition::Fifth => passes_fifth(tables, when, key, order),
-        OrderCondition::Sixth => passes_sixth(tables, when, key, order.line_count.get()),
+        OrderCondition::Fifth => passes_fifth(then, key, order),
+        OrderCondition::Sixth => passes_sixth(then, key, order.line_count.get()),
     }
 }
 
 /// Gives the verdict of a condition of orders (clauses 3.3.2.5 and 3.3.2.6).
-pub(crate) fn of_orders<'a>(
-    condition: &OrderCondition,
-    tables: &'a Tables,
-    when: &AsOf<'a>,
-) -> Verdict
-    requires { ArePassed (rows_then tables.now when.now) (rows tables.now) }
-    ensures { IsVerdict (order_condition condition.now) (rows_then tables.now when.now) result }
+pub(crate) fn of_orders<R: RowsOf>(condition: &OrderCondition, then: &R) -> Verdict
+    requires { ArePassed (R.rows_of then.now) (rows (R.tables_of then.now)) }
+    ensures { IsVerdict (order_condition condition.now) (R.rows_of then.now) result }
 {
-    for (key, row) in tables.orders() {
-        match when.order(tables, key, row) {
+    for (key, row) in then.tables().orders() {
+        match then.order(key, row) {
             Some(order) => {
-                if !passes(condition, tables, when, key, &order) {
+                if !passes(condition, then, key, &order) {
                     return Verdict::Fails(Key::Order(*key));
                 }
             }
@@ -95,15 +75,10 @@ pub(crate) fn of_orders<'a>(
 }
 
 /// Tells whether OL_DELIVERY_D is null exactly where the order's O_CARRIER_ID is (clause 3.3.2.7).
-pub(crate) fn passes_seventh<'a>(
-    tables: &'a Tables,
-    when: &AsOf<'a>,
-    key: &OrderLineKey,
-    line: &OrderLine,
-) -> bool
-    ensures { result ≡ passes_7 (rows_then tables.now when.now) key.now line.now }
+pub(crate) fn passes_seventh<R: RowsOf>(then: &R, key: &OrderLineKey, line: &OrderLine) -> bool
+    ensures { result ≡ passes_7 (R.rows_of then.now) key.now line.now }
 {
-    match when.order_at(tables, &key.order_key()) {
+    match then.order_at(&key.order_key()) {
         Some(order) => match line.delivery {
             None => order.carrier.is_none(),
             Some(_) => order.carrier.is_some(),
@@ -113,14 +88,14 @@ pub(crate) fn passes_seventh<'a>(
 }
 
 /// Gives the verdict of the seventh condition (clause 3.3.2.7).
-pub(crate) fn seventh<'a>(tables: &'a Tables, when: &AsOf<'a>) -> Verdict
-    requires { ArePassed (rows_then tables.now when.now) (rows tables.now) }
-    ensures { IsVerdict Seventh (rows_then tables.now when.now) result }
+pub(crate) fn seventh<R: RowsOf>(then: &R) -> Verdict
+    requires { ArePassed (R.rows_of then.now) (rows (R.tables_of then.now)) }
+    ensures { IsVerdict Seventh (R.rows_of then.now) result }
 {
-    for (key, row) in tables.order_lines() {
-        match when.order_line(tables, key, row) {
+    for (key, row) in then.tables().order_lines() {
+        match then.order_line(key, row) {
             Some(line) => {
-                if !passes_seventh(tables, when, key, &line) {
+                if !passes_seventh(then, key, &line) {
                     return Verdict::Fails(Key::OrderLine(*key));
                 }
             }

@@ -5,14 +5,13 @@
 ghost use Rattle.std.specs.Prelude.{◌≡◌, ◌==◌, ◌&&◌};
 ghost use Rattle.oe_model.specs.Audits.{Eighth, Ninth};
 ghost use Rattle.oe_store.specs.Places.{rows};
-ghost use Rattle.oe_audit.specs.AsOf.{rows_then, has_row_then, ArePassed};
+ghost use Rattle.oe_rows_of.specs.Then.{has_row_then, ArePassed};
 ghost use Rattle.oe_audit.specs.Payments.{is_in, paid_in, amount_in};
 ghost use Rattle.oe_audit.specs.Verdict.{IsVerdict};
 
-use crate::as_of::AsOf;
 use oe_requests::Verdict;
 use oe_rows::{DistrictKey, History, HistoryKey, Key, WarehouseKey};
-use oe_store::Tables;
+use oe_rows_of::RowsOf;
 use oe_values::YearToDate;
 use std::cmp::Ordering;
 
@@ -34,31 +33,19 @@ fn is_in(place: &Place, district: &DistrictKey) -> bool
 }
 
 /// Tells whether a HISTORY row stood then, and is of a payment in the place.
-fn counts<'a>(
-    tables: &'a Tables,
-    when: &AsOf<'a>,
-    place: &Place,
-    key: &HistoryKey,
-    row: &History,
-) -> bool
+fn counts<R: RowsOf>(then: &R, place: &Place, key: &HistoryKey, row: &History) -> bool
     ensures { result ≡ (is_in place.now row.now.district
-        && has_row_then when.now (rows_then tables.now when.now).histories key.now) }
+        && has_row_then (R.are_now then.now) (R.rows_of then.now).histories key.now) }
 {
-    is_in(place, &row.district) && when.has_history(tables, key)
+    is_in(place, &row.district) && then.has_history(key)
 }
 
 /// Gives H_AMOUNT of a HISTORY row that counts, and 0 of another.
-fn amount_in<'a>(
-    tables: &'a Tables,
-    when: &AsOf<'a>,
-    place: &Place,
-    key: &HistoryKey,
-    row: &History,
-) -> u64
-    ensures { result ≡ amount_in place.now when.now (rows_then tables.now when.now).histories
+fn amount_in<R: RowsOf>(then: &R, place: &Place, key: &HistoryKey, row: &History) -> u64
+    ensures { result ≡ amount_in place.now (R.are_now then.now) (R.rows_of then.now).histories
         (key.now, row.now) }
 {
-    if !counts(tables, when, place, key, row) {
+    if !counts(then, place, key, row) {
         return 0;
     }
     row.amount.cents()
@@ -68,13 +55,13 @@ fn amount_in<'a>(
 /// 3.3.2.9).
 ///
 /// What was paid is taken away from the sum, so that no sum leaves its range.
-fn passes_paid<'a>(tables: &'a Tables, when: &AsOf<'a>, place: &Place, ytd: YearToDate) -> bool
-    requires { ArePassed (rows_then tables.now when.now) (rows tables.now) }
-    ensures { result ≡ (ytd == paid_in (rows_then tables.now when.now) place.now) }
+fn passes_paid<R: RowsOf>(then: &R, place: &Place, ytd: YearToDate) -> bool
+    requires { ArePassed (R.rows_of then.now) (rows (R.tables_of then.now)) }
+    ensures { result ≡ (ytd == paid_in (R.rows_of then.now) place.now) }
 {
     let mut rest = ytd.cents();
-    for (key, row) in tables.histories() {
-        let amount = amount_in(tables, when, place, key, row);
+    for (key, row) in then.tables().histories() {
+        let amount = amount_in(then, place, key, row);
         let Some(less) = rest.checked_sub(amount) else {
             return false;
         };
@@ -84,14 +71,14 @@ fn passes_paid<'a>(tables: &'a Tables, when: &AsOf<'a>, place: &Place, ytd: Year
 }
 
 /// Gives the verdict of the eighth condition (clause 3.3.2.8).
-pub(crate) fn eighth<'a>(tables: &'a Tables, when: &AsOf<'a>) -> Verdict
-    requires { ArePassed (rows_then tables.now when.now) (rows tables.now) }
-    ensures { IsVerdict Eighth (rows_then tables.now when.now) result }
+pub(crate) fn eighth<R: RowsOf>(then: &R) -> Verdict
+    requires { ArePassed (R.rows_of then.now) (rows (R.tables_of then.now)) }
+    ensures { IsVerdict Eighth (R.rows_of then.now) result }
 {
-    for (key, row) in tables.warehouses() {
-        match when.warehouse_ytd(tables, key, row) {
+    for (key, row) in then.tables().warehouses() {
+        match then.warehouse_ytd(key, row) {
             Some(ytd) => {
-                if !passes_paid(tables, when, &Place::Warehouse(*key), ytd) {
+                if !passes_paid(then, &Place::Warehouse(*key), ytd) {
                     return Verdict::Fails(Key::Warehouse(*key));
                 }
             }
@@ -102,14 +89,14 @@ pub(crate) fn eighth<'a>(tables: &'a Tables, when: &AsOf<'a>) -> Verdict
 }
 
 /// Gives the verdict of the ninth condition (clause 3.3.2.9).
-pub(crate) fn ninth<'a>(tables: &'a Tables, when: &AsOf<'a>) -> Verdict
-    requires { ArePassed (rows_then tables.now when.now) (rows tables.now) }
-    ensures { IsVerdict Ninth (rows_then tables.now when.now) result }
+pub(crate) fn ninth<R: RowsOf>(then: &R) -> Verdict
+    requires { ArePassed (R.rows_of then.now) (rows (R.tables_of then.now)) }
+    ensures { IsVerdict Ninth (R.rows_of then.now) result }
 {
-    for (key, row) in tables.districts() {
-        match when.district_ytd(tables, key, row) {
+    for (key, row) in then.tables().districts() {
+        match then.district_ytd(key, row) {
             Some(ytd) => {
-                if !passes_paid(tables, when, &Place::District(*key), ytd) {
+                if !passes_paid(then, &Place::District(*key), ytd) {
                     return Verdict::Fails(Key::District(*key));
                 }
             }

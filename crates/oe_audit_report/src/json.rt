@@ -11,11 +11,11 @@ use crate::figures::Label;
 use crate::labels::{check_name, label_of};
 use crate::lines::{LineOf, Lines, TextOf, put, put_joined, put_line};
 use crate::report::{Counts, counted, fails, shown};
-use crate::texts::{decimal, figure, listed, string};
+use crate::texts::{figure, listed, string};
 use oe_books::{CheckFound, Finding, PartFound, TableRows};
 use oe_io::ports::{Failed, Outlet};
 use oe_texts::columns::number;
-use oe_texts::{LONGEST, Pending, SIZE, text};
+use oe_texts::{LONGEST, Pending, SIZE, decimal, text};
 
 /// Writes items with a comma between two of them, and a text before and behind.
 fn put_listing<X, T: TextOf<X>, W: Outlet>(

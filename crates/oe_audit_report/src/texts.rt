@@ -5,19 +5,8 @@ ghost use Rattle.arrayvec.specs.ArrayVec.{array_vec_len};
 ghost use Rattle.oe_rows.specs.Credit.{money_text};
 ghost use Rattle.oe_audit_report.specs.Texts.{figure_text, size_text, number_text, comma_list, hex_digit, json_bytes, string_text};
 
-use itoa::Buffer;
 use oe_texts::columns::number;
-use oe_texts::{Pending, SIZE, text};
-
-/// Appends a number.
-pub(crate) fn decimal(out: &mut Pending, number: u128)
-    requires { array_vec_len out.old + 39 ≤ SIZE }
-    ensures items { out.new.items ≡ out.old.items ++ decimal number }
-    ensures len { array_vec_len out.new ≤ array_vec_len out.old + 39 }
-{
-    let mut buffer = Buffer::new();
-    text(out, buffer.format(number).as_bytes());
-}
+use oe_texts::{Pending, SIZE, decimal, text};
 
 /// Appends an amount of money with two decimals.
 fn money(out: &mut Pending, cents: u128)

@@ -84,12 +84,6 @@ known g t initial.Late n o h = h
 
 -- ---- behind the last row
 
-pub sized-counted : (g : Option ℕ) (t : Facts) (i : Initial) (n : ℕ) → i ≡ initial.Counted → IsKnown g t i n
-    → AreFew t.customers → IsSized g t n (Some n)
-sized-counted g t i n is h few =
-    let k = subst (λ i. IsKnown g t i n) is h in
-    (k.2 few, ap (λ g. unwrap_or g n) (sym k.0))
-
 other : (t : Facts) (n each : ℕ) (early : Option (List CustomerFact)) → AreFew t.customers → (n ≡ each → ⊥)
     → IsOfFirstDistrict t.customers each
     → MatchOption early ⊥ (λ e. AreLate e t.customers × (AreFew t.customers → IsOfFirstDistrict e n))
@@ -97,21 +91,8 @@ other : (t : Facts) (n each : ℕ) (early : Option (List CustomerFact)) → AreF
 other t n each None few apart all h = h
 other t n each (Some e) few apart all h = (h.0, (n, each, h.1 few, all, apart))
 
-pub sized-late : (g : Option ℕ) (t : Facts) (i : Initial) (n each : ℕ) → i ≡ initial.Late → IsKnown g t i n
-    → AreFew t.customers → IsOfFirstDistrict t.customers each → n ≡ each → IsSized g t n (Some each)
-sized-late g t i n each is h few all same =
-    let k = subst (λ i. IsKnown g t i n) is h in
-    (all, same ∙ ap (λ g. unwrap_or g each) (sym k.0))
-
 pub unsized-late : (g : Option ℕ) (t : Facts) (i : Initial) (n each : ℕ) → i ≡ initial.Late → IsKnown g t i n
     → AreFew t.customers → IsOfFirstDistrict t.customers each → (n ≡ each → ⊥) → IsSized g t n None
 unsized-late g t i n each is h few all apart =
     let k = subst (λ i. IsKnown g t i n) is h in
     (k.0, other t n each t.early few apart all k.1)
-
-pub sized-given : (g : Option ℕ) (t : Facts) (i : Initial) (n each : ℕ) → (i ≡ initial.Counted → ⊥)
-    → (i ≡ initial.Late → ⊥) → IsKnown g t i n → IsOfFirstDistrict t.customers each → IsSized g t n (Some each)
-sized-given g t initial.Given n each c l h all = (all, ap (λ g. unwrap_or g each) (sym h))
-sized-given g t initial.Open n each c l h all = absurd h
-sized-given g t initial.Counted n each c l h all = absurd (c refl)
-sized-given g t initial.Late n each c l h all = absurd (l refl)

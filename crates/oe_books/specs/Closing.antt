@@ -1,6 +1,6 @@
 -- Books that are closed: settled for the checks, or lacking what no check can do without.
-use Rattle.std.specs.Prelude.{◌≡◌, ◌≢◌, ℕ, ◌≤◌, ◌-◌, ◌^◌, nat_lt, List, [], ◌∷◌, Option, Some, None, unwrap_or}
-use Rattle.std.specs.Prelude.{MatchOption}
+use Rattle.std.specs.Prelude.{◌≡◌, ◌≢◌, ℕ, ◌<◌, ◌≤◌, ◌-◌, ◌^◌, nat_lt, true, List, [], ◌∷◌}
+use Rattle.std.specs.Prelude.{Option, Some, None, unwrap_or, MatchOption}
 use Rattle.std.specs.Prelude.{if◌then◌else◌}
 use Rattle.std.specs.List.{fold}
 use Rattle.std.specs.Option.{option_or}
@@ -21,7 +21,7 @@ use Rattle.oe_books.specs.declared.closing.Closed.{Closed}
 use Rattle.oe_books.specs.declared.closing.Closed.TheVariants as closed
 use Rattle.oe_books.specs.declared.closing.Lack.{Lack}
 use Rattle.oe_books.specs.declared.closing.Lack.TheVariants as lack
-use Rattle.oe_books.specs.Facts.{Facts, rows_of}
+use Rattle.oe_books.specs.Facts.{Facts, rows_of, stands_apart}
 use Rattle.oe_books.specs.Keeping.{KeepsRows, IsOfFirstDistrict, AreLate}
 
 abbrev pub count_of : Books → Table → ℕ
@@ -34,6 +34,10 @@ count_of b table.Order = b.orders.count
 count_of b table.OrderLine = b.lines.count
 count_of b table.Item = b.items.count
 count_of b table.Stock = b.stocks.count
+
+-- both have rows of a table that stands apart
+abbrev pub HaveBoth : Books → Books → Type 0
+HaveBoth a b = (t : Table) × (stands_apart t ≡ true) × (0 < count_of a t) × (0 < count_of b t)
 
 abbrev pub tables : List Table
 tables =

@@ -4,8 +4,9 @@
 //! ORDER-LINE row comes: it is given, or it is the number of CUSTOMER rows that a district has by
 //! then. Only memory can be refused; the books are lost then, and stay so: they take no fact, and
 //! are not closed.
-ghost use Rattle.std.specs.Prelude.{◌≡◌, ℕ, Option, OnOk, OnSome, IfNone, is_err, false, IsErr, IsNone};
+ghost use Rattle.std.specs.Prelude.{◌≡◌, ◌⊎◌, ℕ, Option, OnOk, OnSome, IfNone, is_err, false, IsErr, IsNone};
 ghost use Rattle.oe_books.specs.Facts.{Facts, no_facts, with_fact, with_apart};
+ghost use Rattle.oe_books.specs.Closing.{HaveBoth};
 ghost use Rattle.oe_books.specs.Keeping.{KeepsRows, Keeps, IsBegun, IsLost, behind_customer};
 
 use crate::rows::{
@@ -149,6 +150,8 @@ impl Books {
         ensures keeps { OnSome result ((given own : Option ℕ) (t u : Facts) → Keeps given t self.old
             → Keeps own u other → Keeps given (with_apart t u) self.new) }
         ensures lost { self.new.is_lost ≡ self.old.is_lost }
+        ensures cause { IfNone result (HaveBoth self.old other) }
+        ensures refused { HaveBoth self.old other → IsNone result }
     {
         let Books {
             alloc: _,
@@ -182,14 +185,15 @@ impl Books {
     }
 
     /// Takes in the rows of other books, but for those of CUSTOMER, ORDER and ORDER-LINE: where these
-    /// come tells how many orders the population had. None where both have rows of one table, or the
-    /// others are lost; the books are lost then.
+    /// come tells how many orders the population had. None exactly if both have rows of one of the
+    /// tables taken in, or the others are lost; the books are lost then.
     pub fn append_apart(&mut self, other: Books) -> Option<()>
         ensures keeps { OnSome result ((given own : Option ℕ) (t u : Facts) → Keeps given t self.old
             → Keeps own u other → Keeps given (with_apart t u) self.new) }
         ensures lost { IfNone result (IsLost self.new) }
         ensures stays { OnSome result (self.new.is_lost ≡ self.old.is_lost) }
-        ensures refused { IsLost other → IsNone result }
+        ensures cause { IfNone result (IsLost other ⊎ HaveBoth self.old other) }
+        ensures refused { IsLost other ⊎ HaveBoth self.old other → IsNone result }
     {
         if other.is_lost {
             drop(other);

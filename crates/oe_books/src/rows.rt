@@ -1,5 +1,5 @@
 //! A table's ledger, with the number of its rows.
-ghost use Rattle.std.specs.Prelude.{◌≡◌, ◌⊎◌, ◌<◌, ◌≤◌, ◌+◌, ◌^◌, [], OnOk, OnSome};
+ghost use Rattle.std.specs.Prelude.{◌≡◌, ◌⊎◌, ◌<◌, ◌≤◌, ◌+◌, ◌^◌, [], OnOk, OnSome, IfNone};
 ghost use Rattle.std.specs.Int.RustNames.{unsigned_abs};
 ghost use Rattle.oe_ledgers.specs.Keeping.{KeepsWarehouses, KeepsCustomers, KeepsNewOrders, KeepsItems, KeepsStocks, Takes};
 ghost use Rattle.oe_books.specs.Keeping.{in_64_bits, IsOf, BookDistricts, BookHistories, BookOrders, BookLines};
@@ -33,8 +33,9 @@ impl<L> Rows<L> {
     pub(crate) fn take_all(&mut self, other: Rows<L>) -> Option<()>
     where
         L: Drop,
-        ensures { OnSome result (((self.new ≡ self.old) × (other.count ≡ 0))
+        ensures taken { OnSome result (((self.new ≡ self.old) × (other.count ≡ 0))
             ⊎ ((self.new ≡ other) × (self.old.count ≡ 0))) }
+        ensures cause { IfNone result ((0 < self.old.count) × (0 < other.count)) }
     {
         if other.count == 0 {
             return Some(());

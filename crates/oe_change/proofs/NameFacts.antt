@@ -1,5 +1,5 @@
 -- The lists of last names where a change is undone.
-use Rattle.std.proofs.Common.{◌≡◌, ℕ, refl, sym, ap, ◌∙◌, List, Option, None, Some}
+use Rattle.std.proofs.Common.{◌≡◌, ℕ, sym, ap, ◌∙◌, List, Option, None, Some}
 use Rattle.std.specs.Prelude.{IfSome, option_map}
 use Rattle.oe_rows.specs.declared.keys.CustomerKey.{CustomerKey}
 use Rattle.oe_model.specs.Keys.{district_of_customer}

@@ -10,12 +10,11 @@ use Rattle.oe_model.specs.Rows.{Rows, is_key, row_at}
 use Rattle.oe_model.specs.Changes.{Change, InsertHistory, InsertNewOrder, InsertOrder, InsertOrderLine, UpdateWarehouse}
 use Rattle.oe_model.specs.Changes.{UpdateDistrict, UpdateCustomer, UpdateOrder, UpdateOrderLine, UpdateStock}
 use Rattle.oe_model.specs.Changes.{DeleteNewOrder, key_of, row_of, rows_after, Record, record_of, changed_of, record_in}
-use Rattle.oe_model.specs.Changes.{record_key, restore, put_back}
+use Rattle.oe_model.specs.Changes.{restore, put_back}
 use Rattle.oe_model.specs.Meets.{Meets}
 use Rattle.oe_model.proofs.RowFacts.{key_true, key_refl, at_changed, at_put_back, in_layout_key, in_layout_before}
 use Rattle.oe_model.proofs.RowFacts.{same_rows, undone}
 use Rattle.oe_model.proofs.PresenceFacts.{mapped_absent}
-use Rattle.oe_model.proofs.ChangeFacts.{accepted_meets}
 use Rattle.oe_store.specs.Places.{Places, rows, HasPlace}
 use Rattle.oe_change.specs.Applies.{Applies}
 use Rattle.oe_change.specs.Laws.{IsAsLeft}
@@ -122,20 +121,6 @@ can_at_once l c old new b schema a =
     ((a.places (key_of c)).1 (inr refl))
     (subst Meets (sym (ap (put_back (record_in l c (row_at (rows old) (key_of c)))) a.changes ∙ undone l c (rows old)))
     schema))
-
--- after a change the schema holds
-pub made_meets : (l : Layout) (c : Change) (old new : Places) (b : Record) → Meets (rows old)
-    → Applies l c old new b → Meets (rows new)
-made_meets l c old new b schema a = subst Meets (sym a.changes) (accepted_meets c (rows old) a.accepted schema)
-
--- a change that can be undone still can where the rows are the same and each place is kept
-pub still_can : (s t : Places) (b : Record) → CanPutBack s b → rows t ≡ rows s
-    → ((k : Key) → HasPlace s k → HasPlace t k) → CanPutBack t b
-still_can s t b can same kept = record {
-  stands = subst (Stands b) (sym same) can.stands;
-  place = kept (record_key b) can.place;
-  schema = subst (λ (r : Rows). Meets (put_back b r)) (sym same) can.schema;
-}
 
 -- the undo of a change brings the rows before it back
 pub gone_back : (l : Layout) (c : Change) (old new : Places) (b : Record) → Applies l c old new b

@@ -1,9 +1,9 @@
 -- The deliveries of orders, added up by customer, are the delivered lines of the customer's orders.
 use Rattle.std.proofs.Common.{◌≡◌, refl, sym, ◌∙◌, ap, subst, Bool, true, false, cond, ℕ, ◌+◌, ◌*◌, ◌-◌, ◌^◌, ◌<◌}
 use Rattle.std.proofs.Common.{◌≤◌, arith}
-use Rattle.std.proofs.Common.{List, [], ◌∷◌, map, length, Option, Some, None, eqb-true}
-use Rattle.std.specs.Prelude.{max, ℤ, pos, ◌+ℤ◌, All, nat_eq, ◌&&◌}
-use Rattle.std.specs.Int.{int_wrap, w128}
+use Rattle.std.proofs.Common.{List, [], ◌∷◌, map, Option, Some, None, eqb-true}
+use Rattle.std.specs.Prelude.{max, ℤ, ◌+ℤ◌, nat_eq, ◌&&◌}
+use Rattle.std.specs.Int.{w128}
 use Rattle.std.specs.Int.RustNames.{unsigned_abs}
 use Rattle.std.specs.Cmp.{IsTotalOrder, nat_cmp_total, first_so, second_so, tied_then, unsigned_ties}
 use Rattle.std.specs.List.{AllByRecursion}
@@ -14,7 +14,7 @@ use Rattle.std.specs.Ordering.{eq_by_cmp, is_eq, nat_cmp, ordering_then}
 use Rattle.std.proofs.lemmas.Cmp.{on_total, then_total}
 use Rattle.std.proofs.lemmas.List.Elements.{recursion_from_All}
 use Rattle.std.proofs.lemmas.Int.{int_wrap_fits, fits_signed_from_abs}
-use Rattle.oe_tally.specs.Tallies.{together, total, SameTotals, IsSettled}
+use Rattle.oe_tally.specs.Tallies.{together, total, IsSettled}
 use Rattle.oe_tally.specs.Walks.{AreAll, wrong_at}
 use Rattle.oe_facts.specs.declared.keys.CustomerId.{CustomerId}
 use Rattle.oe_facts.specs.declared.keys.OrderId.{OrderId}
@@ -33,7 +33,7 @@ use Rattle.oe_ledgers.specs.Keeping.{Keeps, KeepsOrders, KeepsOrderLines, order_
 use Rattle.oe_ledgers.specs.Figures.{AreFew, AreAmounts}
 use Rattle.oe_ledgers.proofs.SumFacts.{projected, summed, abs_at_most}
 use Rattle.oe_checks.specs.declared.deliveries.Delivery.{Delivery}
-use Rattle.oe_checks.specs.Deliveries.{customer_at, customer_of, same_known, delivered_amount, delivered_to, delivery}
+use Rattle.oe_checks.specs.Deliveries.{customer_at, customer_of, same_known, delivered_amount, delivery}
 use Rattle.oe_checks.specs.Deliveries.{delivery_entry, HasDeliveries}
 use Rattle.oe_checks.proofs.RegroupFacts.{total-found, regroup, all-found}
 

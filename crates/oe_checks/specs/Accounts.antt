@@ -1,6 +1,5 @@
 -- What a customer's account comes to (clauses 3.3.2.10 and 3.3.2.12).
-use Rattle.std.specs.Prelude.{ℤ, pos, ◌+ℤ◌, ◌-ℤ◌, List, Option, Some, None, unwrap_or}
-use Rattle.std.specs.Option.{option_map}
+use Rattle.std.specs.Prelude.{ℤ, pos, ◌+ℤ◌, ◌-ℤ◌, List, Option, Some, None}
 use Rattle.std.specs.Int.{int_wrap, w128}
 use Rattle.oe_facts.specs.declared.keys.CustomerId.{CustomerId}
 use Rattle.oe_facts.specs.declared.facts.CustomerFact.{CustomerFact}

@@ -1,5 +1,5 @@
 -- Numbers that are read with a row.
-use Rattle.std.specs.Prelude.{◌≡◌, ℕ, List, [], ◌∷◌, slice_get, Option, Some}
+use Rattle.std.specs.Prelude.{◌≡◌, ℕ, List, [], ◌∷◌, slice_get, Some}
 use Rattle.oe_fields.specs.Spelling.{number_in}
 
 -- these are the numbers of the first columns, which stand at these places

@@ -12,7 +12,7 @@ use Rattle.oe_command_line.specs.declared.options.Flag.{Flag}
 use Rattle.oe_command_line.specs.declared.options.Flag.TheVariants as flag
 use Rattle.oe_command_line.specs.declared.options.Mark.{Mark}
 use Rattle.oe_command_line.specs.declared.options.Mark.TheVariants as mark
-use Rattle.oe_command_line.specs.Words.{Says, Adds, AddsFlag, AddsWord, flag_word, has_flag, with_flag, mark_word}
+use Rattle.oe_command_line.specs.Words.{Says, Adds, AddsFlag, AddsWord, flag_word, with_flag, mark_word}
 
 -- NAMES OF OPTIONS
 
@@ -100,13 +100,6 @@ word_adds m n o name word None e i h =
     λ p a. h p (subst (λ (k : Mark). AddsWord k o word p) (mark_same a.0 m (sym a.1 ∙ e) ∙ i) a.2)
 word_adds m n o name word (Some p) e i h = (m, e, subst (λ (k : Mark). AddsWord k o word p) (sym i) h)
 
--- a name that is said twice
-pub flag_twice : (f : Flag) (o : Options) (word : List ℕ) → word ≡ flag_word f → has_flag f o ≡ true → (p : Options)
-    → AddsFlag o word p → ⊥
-flag_twice f o word e said p a =
-    let g : a.0 ≡ f = flag_same a.0 f (sym a.1 ∙ e) in
-    both_ways (has_flag a.0 o) a.2 (ap (λ (g : Flag). has_flag g o) g ∙ said)
-
 -- no option is `--before`
 pub no_before : (o p : Options) (word : List ℕ) (rest : List (List ℕ)) → Says o (codes "--before" ∷ word ∷ rest) p → ⊥
 no_before o p word rest (inl (q, a, s)) =
@@ -130,10 +123,6 @@ says_one o (mark ∷ word ∷ rest) p q (inr (x, a, s)) (inr (y, b, t)) = says_o
     (subst (λ z. Says z rest q) (adds_one o mark word y x b a) t)
 
 -- ---- words behind words
-
-pub nothing_said : {X : Type 0} (f : X → List ℕ) (ws : List X) (o : Options) → length ws ≡ 0 → Says o (map f ws) o
-nothing_said f [] o h = refl
-nothing_said f (x ∷ r) o h = absurd (omega (arith, h))
 
 module _ {X : Type 0} (f : X → List ℕ) (o next : Options) where
   flag_behind : (x : X) (r : List X) (answer : Option Options) → AddsFlag o (f x) next

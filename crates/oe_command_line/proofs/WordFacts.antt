@@ -1,5 +1,5 @@
 -- Words in their order.
-use Rattle.std.proofs.Common.{◌≡◌, ◌==◌, ℕ, ◌-◌, ◌<◌, ◌≤◌, true, false, List, [], ◌∷◌, length, take, drop, map, get_or}
+use Rattle.std.proofs.Common.{◌≡◌, ◌==◌, ℕ, ◌-◌, ◌<◌, ◌≤◌, false, List, [], ◌∷◌, length, take, drop, map, get_or}
 use Rattle.std.proofs.Common.{slice_index, codes, Bor, refl, sym, ap, subst, ◌∙◌, inl, inr, ◌⊎◌, arith}
 use Rattle.std.proofs.Common.{Bool, Option, None, Some}
 use Rattle.std.proofs.lemmas.Bool.{eq-eqb, both_ways}
@@ -11,7 +11,7 @@ use Rattle.std.specs.Fmt.{decimal}
 use Rattle.std.specs.Int.{IsInRange}
 use Rattle.std.specs.Prelude.{MatchOption}
 use Rattle.oe_rows.specs.declared.layouts.Layout.{Layout}
-use Rattle.oe_rows.specs.declared.layouts.Layout.TheVariants.{WholeRows, ChangedColumns}
+use Rattle.oe_rows.specs.declared.layouts.Layout.TheVariants.{WholeRows}
 use Rattle.oe_command_line.specs.Words.{AsksScript, AsksExplain, AsksSerial, AsksDrive, AsksAudit, Names, NamesFile}
 use Rattle.oe_command_line.specs.Words.{IsPlain, Says, no_options, AsksLoad, AsksFollowing, AreForAudit, AreForLoad}
 use Rattle.oe_command_line.specs.Words.{csv_words}
@@ -19,8 +19,7 @@ use Rattle.oe_command_line.specs.Words.{AreAudited, AreBehindSource, AreLoaded, 
 use Rattle.oe_command_line.specs.declared.BehindSource.{BehindSource}
 use Rattle.oe_command_line.specs.declared.Numbered.{Numbered}
 use Rattle.oe_command_line.specs.declared.options.LoadOptions.{LoadOptions}
-use Rattle.oe_command_line.specs.Words.{directory_words}
-use Rattle.oe_command_line.specs.Words.{IsDirectory, AreTablesOptions, AreSerialOptions, layout_word, AsksFile}
+use Rattle.oe_command_line.specs.Words.{AreTablesOptions, AreSerialOptions, AsksFile}
 use Rattle.oe_command_line.specs.Words.{AsksLayout}
 use Rattle.oe_command_line.specs.Words.{AsksExtents, AsksOpened, AreDriveOptions}
 use Rattle.oe_command_line.specs.declared.SerialOptions.{SerialOptions}
@@ -473,11 +472,6 @@ pub one_name : {X : Type 0} (f : X → List ℕ) (ws : List X) (b : X) (name : B
     → b ≡ get_or ws 0 b → name.now ≡ f b → IsPlain name.now → Names (map f ws) name.now
 one_name f ws b name h i n p = inl (single f ws b h i ∙ ap (λ t. t ∷ []) (sym n), p)
 
-pub marked_name : {X : Type 0} (f : X → List ℕ) (ws : List X) (b d : X) (name : Bor (List ℕ)) → length ws ≡ 2
-    → b ≡ get_or ws 0 b → f b ≡ codes "--" → d ≡ get_or ws 1 d → name.now ≡ f d → Names (map f ws) name.now
-marked_name f ws b d name h i l j n =
-    inr (pair f ws b d h i j ∙ ap (λ t. t ∷ f d ∷ []) l ∙ ap (λ t. codes "--" ∷ t ∷ []) (sym n))
-
 -- OPTIONS
 
 -- two words, and what stands behind them
@@ -547,55 +541,6 @@ module _ (d : List ℕ) (n : ℕ) where
       (subst (λ (ts : List (List ℕ)). AsksFile d n WholeRows ts t) (sym e) a)
   not_layout w ws t (Some l, rest, e, a) = let first : codes "--extents" ≡ codes "--layout" = cc in cc
 
-  layout_same : (l m : Layout) → layout_word l ≡ layout_word m → l ≡ m
-  layout_same WholeRows WholeRows e = refl
-  layout_same WholeRows ChangedColumns e = absurd (omega (arith, ap (λ w. slice_index w 0) e))
-  layout_same ChangedColumns WholeRows e = absurd (omega (arith, ap (λ w. slice_index w 0) e))
-  layout_same ChangedColumns ChangedColumns e = refl
-
-  -- the words behind the extents, where none says the layout
-  pub without_layout : (ws : List (List ℕ)) (r : Option Task)
-      → ((word : List ℕ) (rest : List (List ℕ)) → ws ≡ codes "--layout" ∷ word ∷ rest → ⊥)
-      → MatchOption r ((t : Task) → AsksFile d n WholeRows ws t → ⊥) (AsksFile d n WholeRows ws)
-      → MatchOption r ((t : Task) → AsksLayout d n ws t → ⊥) (AsksLayout d n ws)
-  without_layout ws None none m = λ t a. by t a
-    where
-      by : (t : Task) → AsksLayout d n ws t → ⊥
-      by t (None, rest, e, a) = m t (subst (λ (ts : List (List ℕ)). AsksFile d n WholeRows ts t) (sym e) a)
-      by t (Some l, rest, e, a) = none (layout_word l) rest e
-  without_layout ws (Some t) none m = (None, ws, refl, m)
-
-  -- where a word says it
-  pub with_layout : (ws : List (List ℕ)) (word : List ℕ) (rest : List (List ℕ)) (l : Layout) (r : Option Task)
-      → ws ≡ codes "--layout" ∷ word ∷ rest → word ≡ layout_word l
-      → MatchOption r ((t : Task) → AsksFile d n l rest t → ⊥) (AsksFile d n l rest)
-      → MatchOption r ((t : Task) → AsksLayout d n ws t → ⊥) (AsksLayout d n ws)
-  with_layout ws word rest l None is named m = λ t a. by t a
-    where
-      by : (t : Task) → AsksLayout d n ws t → ⊥
-      by t (None, more, e, a) =
-          not_file WholeRows (codes "--layout") word rest (λ same. cc) t
-          (subst (λ (ts : List (List ℕ)). AsksFile d n WholeRows ts t) (sym e ∙ is) a)
-      by t (Some k, more, e, a) =
-          let both : codes "--layout" ∷ layout_word k ∷ more ≡ codes "--layout" ∷ word ∷ rest = sym e ∙ is in
-          let same : layout_word k ≡ layout_word l = second _ _ _ _ both ∙ named in
-          let behind : more ≡ rest = third _ _ _ _ both in
-          m t (subst (λ (ts : List (List ℕ)). AsksFile d n l ts t) behind
-          (subst (λ (l : Layout). AsksFile d n l more t) (layout_same k l same) a))
-  with_layout ws word rest l (Some t) is named m =
-      (Some l, rest, is ∙ ap (λ z. codes "--layout" ∷ z ∷ rest) named, m)
-
-  -- where the word is of no layout
-  pub bad_layout : (ws : List (List ℕ)) (word : List ℕ) (rest : List (List ℕ))
-      → ws ≡ codes "--layout" ∷ word ∷ rest → ((l : Layout) → word ≡ layout_word l → ⊥) → (t : Task)
-      → AsksLayout d n ws t → ⊥
-  bad_layout ws word rest is none t (None, more, e, a) =
-      not_file WholeRows (codes "--layout") word rest (λ same. cc) t
-      (subst (λ (ts : List (List ℕ)). AsksFile d n WholeRows ts t) (sym e ∙ is) a)
-  bad_layout ws word rest is none t (Some k, more, e, a) =
-      let both : codes "--layout" ∷ layout_word k ∷ more ≡ codes "--layout" ∷ word ∷ rest = sym e ∙ is in
-      none k (sym (second _ _ _ _ both))
-
 module _ (d : List ℕ) where
   -- the words behind the directory, where none says how many extents there are
   pub without_extents : (ws : List (List ℕ)) (n : ℕ) (r : Option Task) → n ≡ 4_096
@@ -632,16 +577,6 @@ module _ (d : List ℕ) where
   with_extents ws word rest n (Some t) is range named m =
       (Some n, rest, range, is ∙ ap (λ z. codes "--extents" ∷ z ∷ rest) named, m)
 
-  -- where the word is no such number
-  pub bad_extents : (ws : List (List ℕ)) (word : List ℕ) (rest : List (List ℕ))
-      → ws ≡ codes "--extents" ∷ word ∷ rest → ((n : ℕ) → 2 ≤ n → n ≤ 4_096 → word ≡ decimal n → ⊥) → (t : Task)
-      → AsksExtents d ws t → ⊥
-  bad_extents ws word rest is none t (None, more, own, e, a) =
-      not_layout d 4_096 word rest t (subst (λ (ts : List (List ℕ)). AsksLayout d 4_096 ts t) (sym e ∙ is) a)
-  bad_extents ws word rest is none t (Some k, more, own, e, a) =
-      let both : codes "--extents" ∷ decimal k ∷ more ≡ codes "--extents" ∷ word ∷ rest = sym e ∙ is in
-      none k own.0 own.1 (sym (second _ _ _ _ both))
-
 -- the words behind the verb
 pub opens : {X : Type 0} (f : X → List ℕ) (ws : List X) (b : X) (directory : List ℕ) (options : List (List ℕ))
     (r : Option Task) → 2 ≤ length ws → b ≡ get_or ws 1 b → f b ≡ codes "script" → IsPlain directory
@@ -663,26 +598,7 @@ opens {X = X} f (x ∷ y ∷ ws) b directory options None h i e plain is m = λ 
 opens {X = X} f (x ∷ y ∷ ws) b directory options (Some t) h i e plain is m =
     (ap f (sym i) ∙ e, (directory, options, plain, ap (map f) (sym (behind_verb (x ∷ y ∷ ws) h)) ∙ is, m))
 
-pub opens_none : {X : Type 0} (f : X → List ℕ) (ws : List X)
-    → ((directory : List ℕ) (rest : List (List ℕ)) → IsPlain directory
-    → map f (take (length ws - 2) (drop 2 ws)) ≡ codes "--from" ∷ directory ∷ rest → ⊥)
-    → (t : Task) → AsksOpened (map f ws) t → ⊥
-opens_none f [] none t a = a
-opens_none f (x ∷ []) none t a = a
-opens_none f (x ∷ y ∷ ws) none t (verb, (d, more, plain, g, a)) =
-    none d more plain (ap (map f) (behind_verb (x ∷ y ∷ ws) (omega arith)) ∙ g)
-
 -- FILES OF REPLIES
-
--- the options of the tables behind a directory, and without one
-pub tables_named : (ws : List (List ℕ)) (d : Bor (List ℕ)) (rest : List (List ℕ)) (between : Separator)
-    → ws ≡ codes "--tables" ∷ d.now ∷ rest → rest ≡ csv_words between
-    → ws ≡ directory_words (codes "--tables") (Some d) ++ csv_words between
-tables_named ws d rest between is e = is ∙ ap (λ z. codes "--tables" ∷ d.now ∷ z) e
-
-csv_short : (between : Separator) (mark w : List ℕ) (ws : List (List ℕ)) → csv_words between ≡ mark ∷ w ∷ ws → ⊥
-csv_short separator.Commas mark w ws e = cc
-csv_short separator.Tabs mark w ws e = cc
 
 pub no_tables : (ws : List (List ℕ)) → ((d : List ℕ) (rest : List (List ℕ)) → IsPlain d
     → ws ≡ codes "--tables" ∷ d ∷ rest → ⊥)
@@ -690,76 +606,6 @@ pub no_tables : (ws : List (List ℕ)) → ((d : List ℕ) (rest : List (List �
     → AreTablesOptions ws tables between → ⊥
 no_tables ws none bad None between a = bad between a.1
 no_tables ws none bad (Some d) between a = none d.now (csv_words between) a.0 a.1
-
-pub bad_tables : (ws : List (List ℕ)) (d : List ℕ) (rest : List (List ℕ)) → ws ≡ codes "--tables" ∷ d ∷ rest
-    → ((between : Separator) → rest ≡ csv_words between → ⊥) → (tables : Option (Bor (List ℕ))) (between : Separator)
-    → AreTablesOptions ws tables between → ⊥
-bad_tables ws d rest is bad None between a = csv_short between (codes "--tables") d rest (sym a.1 ∙ is)
-bad_tables ws d rest is bad (Some e) between a = bad between (sym (third _ _ _ _ (sym a.1 ∙ is)))
-
-module _ (ws : List (List ℕ)) where
-  pub from_named : (d : Bor (List ℕ)) (rest : List (List ℕ)) (r : Option SerialOptions) → IsPlain d.now
-      → ws ≡ codes "--from" ∷ d.now ∷ rest
-      → MatchOption r ((o : SerialOptions) → AreTablesOptions rest o.tables o.separator → ⊥)
-      (λ o. (o.from ≡ Some d) × AreTablesOptions rest o.tables o.separator)
-      → MatchOption r ((o : SerialOptions) → AreSerialOptions ws o.from o.tables o.separator → ⊥)
-      (λ o. AreSerialOptions ws o.from o.tables o.separator)
-  from_named d rest None own is m = λ o a. by o o.from refl a
-    where
-      not_from : (tables : Option (Bor (List ℕ))) (between : Separator)
-          → directory_words (codes "--tables") tables ++ csv_words between ≡ codes "--from" ∷ d.now ∷ rest → ⊥
-      not_from None between e = csv_short between (codes "--from") d.now rest e
-      not_from (Some t) between e = let first : codes "--tables" ≡ codes "--from" = cc in cc
-
-      by : (o : SerialOptions) (from : Option (Bor (List ℕ))) → o.from ≡ from
-          → AreSerialOptions ws o.from o.tables o.separator → ⊥
-      by o None e a =
-          let words : directory_words (codes "--tables") o.tables ++ csv_words o.separator
-          ≡ codes "--from" ∷ d.now ∷ rest =
-          sym (a.2 ∙ ap (λ z. directory_words (codes "--from") z
-          ++ directory_words (codes "--tables") o.tables ++ csv_words o.separator) e) ∙ is in
-          not_from o.tables o.separator words
-      by o (Some b) e a =
-          let words : codes "--from" ∷ b.now ∷ directory_words (codes "--tables") o.tables ++ csv_words o.separator
-          ≡ codes "--from" ∷ d.now ∷ rest =
-          sym (a.2 ∙ ap (λ z. directory_words (codes "--from") z
-          ++ directory_words (codes "--tables") o.tables ++ csv_words o.separator) e) ∙ is in
-          m o (a.1, sym (third _ _ _ _ words))
-  from_named d rest (Some o) own is m = (
-    subst IsDirectory (sym m.0) own,
-    m.1.0,
-    is ∙ ap (λ z. codes "--from" ∷ d.now ∷ z) m.1.1
-        ∙ ap (λ z. directory_words (codes "--from") z ++ directory_words (codes "--tables") o.tables
-        ++ csv_words o.separator) (sym m.0),
-  )
-
-  pub from_none : (r : Option SerialOptions)
-      → ((d : List ℕ) (rest : List (List ℕ)) → IsPlain d → ws ≡ codes "--from" ∷ d ∷ rest → ⊥)
-      → MatchOption r ((o : SerialOptions) → AreTablesOptions ws o.tables o.separator → ⊥)
-      (λ o. (o.from ≡ None) × AreTablesOptions ws o.tables o.separator)
-      → MatchOption r ((o : SerialOptions) → AreSerialOptions ws o.from o.tables o.separator → ⊥)
-      (λ o. AreSerialOptions ws o.from o.tables o.separator)
-  from_none None none m = λ o a. by o o.from refl a
-    where
-      by : (o : SerialOptions) (from : Option (Bor (List ℕ))) → o.from ≡ from
-          → AreSerialOptions ws o.from o.tables o.separator → ⊥
-      by o None e a =
-          m o (
-            a.1,
-            a.2 ∙ ap (λ z. directory_words (codes "--from") z
-                ++ directory_words (codes "--tables") o.tables ++ csv_words o.separator) e,
-          )
-      by o (Some b) e a =
-          none b.now (directory_words (codes "--tables") o.tables ++ csv_words o.separator)
-          (subst IsDirectory e a.0)
-          (a.2 ∙ ap (λ z. directory_words (codes "--from") z
-          ++ directory_words (codes "--tables") o.tables ++ csv_words o.separator) e)
-  from_none (Some o) none m = (
-    subst IsDirectory (sym m.0) tt,
-    m.1.0,
-    m.1.1 ∙ ap (λ z. directory_words (codes "--from") z ++ directory_words (codes "--tables") o.tables
-        ++ csv_words o.separator) (sym m.0),
-  )
 
 -- the verb, a file, and no options
 pub serial_file : {X : Type 0} (f : X → List ℕ) (ws : List X) (b : X) (file : Bor (List ℕ)) → 3 ≤ length ws

@@ -1,22 +1,16 @@
 -- The first column at which two lines differ, one column after another.
-use Rattle.std.proofs.Common.{◌≡◌, ℕ, ◌+◌, true, false, List, [], ◌∷◌, Option, None, Some, refl}
+use Rattle.std.proofs.Common.{◌≡◌, ℕ, ◌+◌, true, List, [], ◌∷◌, Option, None, Some, refl}
 use Rattle.std.proofs.Common.{Bor}
 use Rattle.std.specs.Prelude.{nat_eq}
 use Rattle.std.specs.Option.{option_copied}
 use Rattle.std.proofs.lemmas.Bool.{eq-eqb}
 use Rattle.oe_file_rows.specs.Line.{left_of}
-use Rattle.oe_comparison.specs.Columns.{Other, is_same, first_other}
+use Rattle.oe_comparison.specs.Columns.{is_same, first_other}
 
 -- a column that is the same
 pub same_column : (n : ℕ) (ts os ts' os' : List (List ℕ)) (t o : List ℕ) → ts ≡ t ∷ ts' → os ≡ o ∷ os'
     → is_same t o ≡ true → first_other (n + 1) ts' os' ≡ first_other n ts os
 same_column n ts os ts' os' t o e f same = rw (e, f, same) refl
-
--- a column that differs
-pub other_column : (n : ℕ) (ts os ts' os' : List (List ℕ)) (t o : List ℕ) → ts ≡ t ∷ ts' → os ≡ o ∷ os'
-    → is_same t o ≡ false
-    → ◌≡◌ {A = Option Other} (Some (record { place = n; theirs = t; ours = o })) (first_other n ts os)
-other_column n ts os ts' os' t o e f other = rw (e, f, other) refl
 
 -- no column is left on our side
 none_there : (n : ℕ) (ts : List (List ℕ)) → first_other n ts [] ≡ None

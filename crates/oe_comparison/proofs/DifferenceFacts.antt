@@ -1,11 +1,9 @@
 -- The rows that differ, one row after another.
 use Rattle.std.proofs.Common.{◌≡◌, ℕ, zero, suc, ◌+◌, ◌<◌, ◌==◌, false, List, [], ◌∷◌, length, map}
-use Rattle.std.proofs.Common.{if◌then◌else◌, Bor, Iter, Option, None, Some, Ok, refl, sym, ap, subst, ◌∙◌, arith}
+use Rattle.std.proofs.Common.{if◌then◌else◌, Bor, Option, None, Some, Ok, refl, sym, ap, subst, ◌∙◌, arith}
 use Rattle.std.proofs.lemmas.Bool.{ne_eqb}
 use Rattle.std.specs.Iterator.{YieldsFirstBy}
-use Rattle.std.specs.Option.{option_map}
 use Rattle.std.specs.Ordering.{is_le, is_ge}
-use Rattle.std.specs.Slice.Iter.{iter_rest, iter_steps}
 use Rattle.std.specs.declared.cmp.Ordering.{Ordering}
 use Rattle.std.specs.declared.cmp.Ordering.TheVariants.{Less, Equal, Greater}
 use Rattle.oe_rows.specs.declared.keys.Table.{Table}
@@ -215,12 +213,3 @@ numbered_shown columns (n ∷ ns) =
 pub keyless_shown : {X : Type 0} (xs : List X) → with_columns {K = X} {X = X} (λ k x. []) (map own_key xs) ≡ keyless xs
 keyless_shown [] = refl
 keyless_shown (x ∷ xs) = ap (λ z. (x, []) ∷ z) (keyless_shown xs)
-
-pub slice_left : {X : Type 0} (s t : Iter X) (r : Option (Bor X)) (q : Option (Bor X × Bor X)) → iter_steps s r t
-    → q ≡ option_map (λ b. (b, b)) r
-    → YieldsFirstBy (λ p. (p.0.now, p.1.now)) (λ it. map own_key (iter_rest it)) s q t
-slice_left s t None q h is = rw is (
-  ap (map own_key) (sym (none_of (iter_rest s) h.0)),
-  ap (λ it. map own_key (iter_rest it)) h.1 ∙ ap (map own_key) (sym (none_of (iter_rest s) h.0)),
-)
-slice_left s t (Some b) q h is = rw is (ap (map own_key) h)

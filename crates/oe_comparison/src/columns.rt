@@ -7,7 +7,7 @@ ghost use Rattle.oe_file_rows.specs.Line.{fields_of, left_of};
 ghost use Rattle.oe_comparison.specs.Columns.{shown_line, first_other, texts_of};
 
 use memchr::memchr;
-use oe_io::dumps::DumpedRow;
+use oe_dumps::DumpedRow;
 use oe_texts::Pending;
 
 /// A column at which two rows differ: its place, counted from 0, its text in the file, and its text

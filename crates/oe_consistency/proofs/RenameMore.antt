@@ -1,10 +1,9 @@
 -- A rename keeps conditions 5 to 10 and 12.
-use Rattle.std.proofs.Common.{◌≡◌, subst, ap, ◌∙◌, false, List, Some, inl, inr}
+use Rattle.std.proofs.Common.{◌≡◌, subst, ap, ◌∙◌, false, Some, inl, inr}
 use Rattle.std.specs.Prelude.{◌⊎◌}
 use Rattle.std.specs.Ordering.{eq_by_cmp}
 use Rattle.std.specs.FinMap.{get, insert}
 use Rattle.oe_rows.specs.Key.{customer_cmp}
-use Rattle.oe_rows.specs.declared.keys.CustomerKey.{CustomerKey}
 use Rattle.oe_rows.specs.declared.customers.Customer.{Customer}
 use Rattle.oe_requests.specs.declared.requests.RenameRequest.{RenameRequest}
 use Rattle.oe_requests.specs.declared.replies.Reply.{Reply}

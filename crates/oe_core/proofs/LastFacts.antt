@@ -1,15 +1,15 @@
 -- The last replies of all terminals.
 use Rattle.std.proofs.Common.{◌≡◌, ◌≢◌, ℕ, ◌<◌, inl, inr, List, Option, Some, None, length, slice_set, get_or, sym, ap}
-use Rattle.std.proofs.Common.{◌∙◌, refl}
+use Rattle.std.proofs.Common.{◌∙◌}
 use Rattle.std.specs.Prelude.{◌⊎◌}
 use Rattle.std.proofs.lemmas.Bool.{cases_eq}
 use mathlib.Core.Path.{fun_ext}
 use Rattle.oe_theory.specs.World.{set}
-use Rattle.oe_theory.proofs.Sets.{set_same, set_other, set_idle}
+use Rattle.oe_theory.proofs.Sets.{set_same, set_other}
 use Rattle.oe_requests.specs.declared.replies.Reply.{Reply}
 use Rattle.oe_engine.specs.View.{Handle}
 use Rattle.oe_engine.specs.View as engine
-use Rattle.oe_core.specs.Core.{CoreState, in_slot, reply_left, last_reply}
+use Rattle.oe_core.specs.Core.{in_slot, reply_left, last_reply}
 use Rattle.oe_core.specs.Works.{WorkState}
 use Rattle.oe_core.proofs.SlotFacts.{slot_set}
 

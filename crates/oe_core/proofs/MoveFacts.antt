@@ -213,17 +213,6 @@ own_work {s} {t} {x} h =
     subst (λ (z : Option WorkState). Works s.engine t (Some x) z) h.work
     (subst (λ (y : Option Handle). Works s.engine t y (in_slot s.works t)) h.tx (h.orderly.works t))
 
--- where there is a transaction there is work for it
-work_there : (e : engine.EngineState) (t : ℕ) (x : Handle) (y : Option WorkState) → Works e t (Some x) y → y ≡ None → ⊥
-work_there e t x None h none = h
-work_there e t x (Some w) h none = let no : ⊥ = cc in no
-
-pub has_work_there : (s : CoreState) (t : ℕ) (x : Handle) → IsOrderly s → in_slot s.txs t ≡ Some x
-    → in_slot s.works t ≡ None → ⊥
-has_work_there s t x o e none =
-    work_there s.engine t x (in_slot s.works t)
-    (subst (λ (y : Option Handle). Works s.engine t y (in_slot s.works t)) e (o.works t)) none
-
 -- what a slot lends is what stands there
 pub lent_tx : {s : CoreState} {i t : ℕ} {x y : Option Handle} → IsOrderly s → i ≡ t → i ≤ 64 → x ≡ get_or s.txs i x
     → x ≡ y → in_slot s.txs t ≡ y

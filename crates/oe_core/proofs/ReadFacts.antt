@@ -1,12 +1,11 @@
 -- A query of a moment is answered as by a step of the world, which stays as it is.
-use Rattle.std.proofs.Common.{◌≡◌, ℕ, ◌≤◌, ◌<◌, cond, Bool, true, false, List, [], ◌∷◌, Option, Some, None, inl, inr}
+use Rattle.std.proofs.Common.{◌≡◌, ℕ, ◌≤◌, ◌<◌, cond, Bool, true, false, List, [], ◌∷◌, Option, Some, None}
 use Rattle.std.proofs.Common.{refl, sym, ap, subst, ◌∙◌}
-use Rattle.std.specs.Prelude.{IsTrue, is_some, count_by}
+use Rattle.std.specs.Prelude.{is_some, count_by}
 use Rattle.std.specs.FinMap.{get, entries}
 use Rattle.oe_theory.specs.Machine.{Outcome, Here, Missing}
 use Rattle.oe_theory.specs.Next.{Read, Answer, Replied, Rejected, Too_old, Future}
 use Rattle.oe_theory.specs.Store.{version_of, horizon_of, newest_of}
-use Rattle.oe_theory.specs.StoreTheorems.{IsStanding}
 use Rattle.oe_rows.specs.declared.keys.Key.TheVariants as key
 use Rattle.oe_rows.specs.declared.customers.Customer.{Customer}
 use Rattle.oe_rows.specs.declared.districts.District.{District}

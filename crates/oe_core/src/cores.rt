@@ -220,7 +220,7 @@ impl Core {
             (world_of self.now) }
     {
         match self.engine.version(moment) {
-            Ok(version) => Answer::Audited(oe_audit::condition_at(condition, version)),
+            Ok(version) => Answer::Audited(oe_audit::condition_at(condition, &version)),
             Err(cause) => Answer::Refused(cause),
         }
     }

@@ -74,9 +74,21 @@ fn are_answered(engine: &mut Engine, tx: &Tx) -> Option<bool> {
     )
 }
 
-/// Opens an engine of that name, with records of that layout, on a population.
+/// Opens an engine of that name with two extents, and records of that layout, on a population.
 pub(crate) fn engine_on(rt: &impl Abort, alloc: Global, name: u32, layout: Layout) -> Engine {
-    let extents = ExtentCount::new(2).expect(rt, "extents");
+    engine_with(rt, alloc, 2, name, layout)
+}
+
+/// Opens an engine of that name with that number of extents, and records of that layout, on a
+/// population.
+pub(crate) fn engine_with(
+    rt: &impl Abort,
+    alloc: Global,
+    extents: u32,
+    name: u32,
+    layout: Layout,
+) -> Engine {
+    let extents = ExtentCount::new(extents).expect(rt, "extents");
     let Some(tables) = populated(alloc, 10, 20) else {
         panic!(rt; "no population")
     };

@@ -6,6 +6,8 @@
 #[cfg(test)]
 mod audits;
 #[cfg(test)]
+mod counts;
+#[cfg(test)]
 mod ends;
 #[cfg(test)]
 mod engines;
@@ -23,5 +25,7 @@ mod open_audits;
 mod order_records;
 #[cfg(test)]
 mod planted;
+#[cfg(test)]
+mod reads;
 #[cfg(test)]
 mod sessions;

@@ -27,7 +27,7 @@ const SECOND_SALE: &[u8] =
 const FIRST_SALE: &[u8] =
     b"\x00\x22\x04\x09\xff\xff\xff\xff\x00\x00\x00\x00\x00\x00\x00\x00\x00\x01\x00\x00\x00\x01\x80\x18\x00\x18\x00\x00\x00\x00\x00\x00\x00\x22";
 
-fn stock_key() -> Option<StockKey> {
+pub(crate) fn stock_key() -> Option<StockKey> {
     Some(StockKey {
         warehouse: Number::new(1)?,
         item: Number::new(1)?,
@@ -35,7 +35,7 @@ fn stock_key() -> Option<StockKey> {
 }
 
 /// Sets S_QUANTITY, S_YTD and S_ORDER_CNT of that stock.
-fn sell(engine: &mut Engine, tx: &Tx, counts: [u32; 3]) -> Option<()> {
+pub(crate) fn sell(engine: &mut Engine, tx: &Tx, counts: [u32; 3]) -> Option<()> {
     let counters = StockCounters {
         quantity: Number::new(counts[0])?,
         ytd: Number::new(counts[1])?,
@@ -50,7 +50,7 @@ fn sell(engine: &mut Engine, tx: &Tx, counts: [u32; 3]) -> Option<()> {
 }
 
 /// Takes the order's number, and inserts its row, of five lines, and its NEW-ORDER row.
-fn enter(engine: &mut Engine, tx: &Tx, order: OrderKey) -> Option<()> {
+pub(crate) fn enter(engine: &mut Engine, tx: &Tx, order: OrderKey) -> Option<()> {
     let next = NextOrder {
         district: order.district_key(),
         order: Number::new(12)?,

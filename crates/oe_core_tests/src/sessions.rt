@@ -9,10 +9,10 @@ use crate::planted::{Planted, plant_all};
 use arrayvec::ArrayVec;
 use oe_audit::is_population;
 use oe_core::Core;
-use oe_io::dumps::dump;
+use oe_dumps::dump;
 use oe_io::output::flush;
 use oe_io::ports::{Failed, Outlet};
-use oe_rows::{Layout, Table};
+use oe_rows::{Layout, TABLES};
 use oe_script::listeners::Quiet;
 use oe_script::session::Session;
 use oe_store::Tables;
@@ -49,23 +49,11 @@ impl Outlet for Sum {
     }
 }
 
-const EACH_TABLE: [Table; 9] = [
-    Table::Warehouse,
-    Table::District,
-    Table::Customer,
-    Table::History,
-    Table::NewOrder,
-    Table::Order,
-    Table::OrderLine,
-    Table::Item,
-    Table::Stock,
-];
-
 /// Sums all dumps.
 pub(crate) fn sum_of(tables: &Tables) -> u64 {
     let mut sum = Sum { sum: 1 };
     let mut out = ArrayVec::new();
-    for table in EACH_TABLE {
+    for table in TABLES {
         if dump(tables, table, &mut out, &mut sum).is_err() {
             return 0;
         }

@@ -5,7 +5,6 @@ use Rattle.std.specs.Prelude.{IsSome, option_map}
 use Rattle.std.specs.FinMap.{get}
 use Rattle.oe_theory.specs.Machine.{Plain, Take, Go, Exclusive}
 use Rattle.oe_theory.specs.Machine as theory
-use Rattle.oe_theory.specs.World.{IsEnough}
 use Rattle.oe_rows.specs.declared.keys.OrderKey.{OrderKey}
 use Rattle.oe_rows.specs.declared.keys.OrderLineKey.{OrderLineKey}
 use Rattle.oe_rows.specs.declared.keys.CustomerKey.{CustomerKey}

@@ -2,6 +2,8 @@
 use Rattle.std.proofs.Common.{◌≡◌, ◌⊎◌, ℕ, zero, suc, ◌-◌, ◌≤◌, true, false, List, [], ◌∷◌, ◌++◌, sym, ap, subst}
 use Rattle.std.proofs.Common.{◌∙◌, refl, arith, inl, inr, true≢false, Option, Some, None, IsSome, Result}
 use Rattle.std.proofs.lemmas.List.{append_assoc, append-nil}
+use Rattle.oe_theory.specs.World.{World}
+use Rattle.oe_model.specs.System.{system}
 use Rattle.oe_moments.specs.Pins.{ThePin}
 use Rattle.oe_requests.specs.declared.requests.Query.{Query}
 use Rattle.oe_requests.specs.declared.replies.QueryReply.{QueryReply}
@@ -101,16 +103,17 @@ has_given_up t n e old mid kept new why h more last =
     (last ∙ (ap (λ (x : List Entry). x ++ rollback t ∷ []) more ∙ snoc mid it (rollback t ∷ []))) (gives_up n e why)
 
 -- a read is one call, or none
-pub has_read : (d d' : TheDesk) (p : ThePin) (q : Query) (r : Result QueryReply Refusal) (t : ℕ) (old new : List Entry)
-    → d.seat.terminal ≡ t → d.calls.mine ≡ old → new ≡ d'.calls.mine → ARead d p q r d' → HasCalled old new (IsRead t q)
-has_read d d' p q r t old new same before after (inl (holds, inl call)) =
+pub has_read : {C : Type 0} (world : C → World system) (d d' : TheDesk) (p : ThePin) (q : Query)
+    (r : Result QueryReply Refusal) (t : ℕ) (old new : List Entry) → d.seat.terminal ≡ t → d.calls.mine ≡ old
+    → new ≡ d'.calls.mine → ARead world d p q r d' → HasCalled old new (IsRead t q)
+has_read world d d' p q r t old new same before after (inl (holds, inl call)) =
     let it : ℕ → List Entry = λ k. entry k (step.Read p.moment q) (read_answer r) ∷ [] in
     let more = call.mine ∙ ap (λ (x : List Entry). x ++ it d.seat.terminal) before in (
       it t,
       subst (λ (k : ℕ). new ≡ old ++ it k) same (after ∙ more),
       inl (p.moment, read_answer r, refl),
     )
-has_read d d' p q r t old new same before after (inl (holds, inr (found, is))) =
+has_read world d d' p q r t old new same before after (inl (holds, inr (found, is))) =
     ([], after ∙ (ap (λ (k : TheCaller). k.mine) is ∙ (before ∙ sym (append-nil old))), inr refl)
-has_read d d' p q r t old new same before after (inr (e, other, is)) =
+has_read world d d' p q r t old new same before after (inr (e, other, is)) =
     ([], after ∙ (ap (λ (k : TheCaller). k.mine) is ∙ (before ∙ sym (append-nil old))), inr refl)

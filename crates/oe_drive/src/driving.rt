@@ -2,7 +2,6 @@
 ghost use Rattle.std.specs.Prelude.{◌≡◌, ◌≢◌, ◌+◌, ◌-◌, ◌≤◌, ℕ, List, length, map, vec_len, vec_capacity, slice_set, [], IfOk, OnOk, IsTrue, Some, None, false};
 ghost use Rattle.oe_theory.specs.World.{newest};
 ghost use Rattle.oe_model.specs.System.{system};
-ghost use Rattle.oe_core.specs.Core.{world_of};
 ghost use Rattle.oe_history.specs.Views.{calls_by};
 ghost use Rattle.oe_history.specs.declared.views.Entry.{Entry};
 ghost use Rattle.oe_hall.specs.Histories.{IsHistory};
@@ -19,10 +18,10 @@ use crate::deeds::Deeds;
 use crate::gates::Gate;
 use crate::posts::{Post, join, start_all};
 use crate::stations::{Bench, Plan, Station};
-use oe_core::Core;
 use oe_hall::crossing::front_crosses;
 use oe_hall::{Closed, Counted, Desk, Front, Naming, Purger, Shop};
 use oe_history::History;
+use oe_machine::Machine;
 use oe_queue::{Sender, Taker};
 use oe_values::{NoMemory, Number, Terminal};
 use std::alloc::Global;
@@ -33,8 +32,8 @@ use std::thread::Threads;
 
 /// What a drive leaves: the core of the closed shop with its history, how much its desks were told,
 /// and what its terminals did.
-pub struct Driven {
-    pub core: Core,
+pub struct Driven<M: Machine> {
+    pub core: M,
     pub history: History,
     pub counted: Counted,
     pub deeds: Deeds,
@@ -47,24 +46,24 @@ pub struct Driven {
 /// The worker's thread is made first, and without it no other; where a terminal's can't be made, it
 /// submits its end mark alone. Both, and any want of memory, are `NoMemory` once all threads have
 /// ended and the shop is closed.
-pub fn drive<J: Naming + Send + Sync, H: Threads + Wait + Sync, G: Gate + Sync>(
+pub fn drive<J: Naming + Send + Sync, M: Machine + Send, H: Threads + Wait + Sync, G: Gate + Sync>(
     rt: &H,
     alloc: Global,
     gate: &G,
-    shop: Shop<J>,
+    shop: Shop<J, M>,
     purger: Purger<J>,
     plans: Vec<Plan>,
-) -> Result<Driven, NoMemory>
+) -> Result<Driven<M>, NoMemory>
     requires plans { (1 ≤ vec_len plans) × (vec_len plans ≤ 63) }
     requires new { shop.given ≡ 0 }
     requires free { (t : ℕ) → seat_for shop t ≢ Some None }
     requires silent { purger.mine ≡ [] }
     ensures ended { IfOk result (λ d.
         d.counted.begun ≡ d.counted.committed + d.counted.rolled_back) }
-    ensures quiet { IfOk result (λ d. open_count (world_of d.core) ≡ 0) }
-    ensures newest { IfOk result (λ d. newest system (world_of d.core) ≡ d.counted.committed) }
-    ensures layout { IfOk result (λ d. (world_of d.core).layout ≡ J.names.layout) }
-    ensures run { IfOk result (λ d. IsHistory J.names.opened d.history.log (world_of d.core)) }
+    ensures quiet { IfOk result (λ d. open_count (M.world d.core) ≡ 0) }
+    ensures newest { IfOk result (λ d. newest system (M.world d.core) ≡ d.counted.committed) }
+    ensures layout { IfOk result (λ d. (M.world d.core).layout ≡ J.names.layout) }
+    ensures run { IfOk result (λ d. IsHistory J.names.opened d.history.log (M.world d.core)) }
     ensures unpurged { IfOk result (λ d. calls_by 0 d.history.log ≡ []) }
     ensures carried { IfOk result (λ d.
         ArePlansCarriedOut d.history.log (map errands_in plans.items)) }
@@ -97,7 +96,11 @@ pub fn drive<J: Naming + Send + Sync, H: Threads + Wait + Sync, G: Gate + Sync>(
 }
 
 // Closes a shop that gave no desk.
-fn give_up<J: Naming>(alloc: Global, shop: Shop<J>, purger: Purger<J>) -> Result<Driven, NoMemory>
+fn give_up<J: Naming, M: Machine>(
+    alloc: Global,
+    shop: Shop<J, M>,
+    purger: Purger<J>,
+) -> Result<Driven<M>, NoMemory>
     requires new { shop.given ≡ 0 }
     ensures { OnOk result ⊥ }
 {
@@ -109,7 +112,7 @@ fn give_up<J: Naming>(alloc: Global, shop: Shop<J>, purger: Purger<J>) -> Result
 }
 
 // Lets go of what a shop left.
-fn let_go(closed: Closed) {
+fn let_go<M: Machine>(closed: Closed<M>) {
     let Closed {
         core,
         counted: _,
@@ -119,16 +122,16 @@ fn let_go(closed: Closed) {
 }
 
 // Drives, once all memory is there.
-fn drive_all<J: Naming + Send + Sync, H: Threads + Wait + Sync, G: Gate + Sync>(
+fn drive_all<J: Naming + Send + Sync, M: Machine + Send, H: Threads + Wait + Sync, G: Gate + Sync>(
     rt: &H,
     alloc: Global,
     gate: &G,
-    shop: (Shop<J>, Purger<J>),
+    shop: (Shop<J, M>, Purger<J>),
     plans: Vec<Plan>,
     ends: (Vec<Sender>, Taker),
     desks: Vec<Desk<J>>,
     rooms: (Vec<Station<J>>, Vec<Post<J>>),
-) -> Result<Driven, NoMemory>
+) -> Result<Driven<M>, NoMemory>
     requires plans { (1 ≤ vec_len plans) × (vec_len plans ≤ 63) }
     requires senders { vec_len ends.0 ≡ vec_len plans }
     requires new { shop.0.given ≡ 0 }
@@ -139,10 +142,10 @@ fn drive_all<J: Naming + Send + Sync, H: Threads + Wait + Sync, G: Gate + Sync>(
     requires desks { (desks.items ≡ []) × (vec_len plans + 1 ≤ vec_capacity desks) }
     ensures ended { IfOk result (λ d.
         d.counted.begun ≡ d.counted.committed + d.counted.rolled_back) }
-    ensures quiet { IfOk result (λ d. open_count (world_of d.core) ≡ 0) }
-    ensures newest { IfOk result (λ d. newest system (world_of d.core) ≡ d.counted.committed) }
-    ensures layout { IfOk result (λ d. (world_of d.core).layout ≡ J.names.layout) }
-    ensures run { IfOk result (λ d. IsHistory J.names.opened d.history.log (world_of d.core)) }
+    ensures quiet { IfOk result (λ d. open_count (M.world d.core) ≡ 0) }
+    ensures newest { IfOk result (λ d. newest system (M.world d.core) ≡ d.counted.committed) }
+    ensures layout { IfOk result (λ d. (M.world d.core).layout ≡ J.names.layout) }
+    ensures run { IfOk result (λ d. IsHistory J.names.opened d.history.log (M.world d.core)) }
     ensures unpurged { IfOk result (λ d. calls_by 0 d.history.log ≡ []) }
     ensures carried { IfOk result (λ d.
         ArePlansCarriedOut d.history.log (map errands_in plans.items)) }
@@ -174,7 +177,7 @@ fn drive_all<J: Naming + Send + Sync, H: Threads + Wait + Sync, G: Gate + Sync>(
 
 // Gives what a drive left, where each terminal had a thread and carried out its plan and its
 // commits had memory, and lets it go otherwise.
-fn left(closed: Closed, deeds: Deeds, is_whole: bool) -> Result<Driven, NoMemory>
+fn left<M: Machine>(closed: Closed<M>, deeds: Deeds, is_whole: bool) -> Result<Driven<M>, NoMemory>
     ensures same { IfOk result (λ d. (d.core ≡ closed.core) × (d.counted ≡ closed.counted)
         × (d.history ≡ closed.history)) }
     ensures kept { IfOk result (λ d. (d.deeds ≡ deeds) × (d.deeds.commits.is_short ≡ false)) }
@@ -198,7 +201,7 @@ fn left(closed: Closed, deeds: Deeds, is_whole: bool) -> Result<Driven, NoMemory
 }
 
 // Takes the desk of a terminal that has none.
-fn take_desk<J: Naming>(shop: &mut Shop<J>, terminal: Terminal) -> Desk<J>
+fn take_desk<J: Naming, M: Machine>(shop: &mut Shop<J, M>, terminal: Terminal) -> Desk<J>
     requires { seat_for shop.old terminal ≢ Some None }
     ensures told { result.told ≡ tally_of 1 }
     ensures free { is_pinned result.seat.notes.pin ≡ false }
@@ -215,10 +218,10 @@ fn take_desk<J: Naming>(shop: &mut Shop<J>, terminal: Terminal) -> Desk<J>
 
 // Gives each sender's terminal its desk, the last terminal first.
 #[tactic(auto, using(crate::proofs::SlotFacts::still_free))]
-fn sit_down<J: Naming>(
+fn sit_down<J: Naming, M: Machine>(
     alloc: Global,
     keeps_commits: bool,
-    shop: &mut Shop<J>,
+    shop: &mut Shop<J, M>,
     senders: Vec<Sender>,
     stations: &mut Vec<Station<J>>,
     plans: Vec<Plan>,
@@ -246,9 +249,9 @@ fn sit_down<J: Naming>(
 }
 
 // Runs the worker and all terminals to their ends, and tells whether each had a thread.
-fn run_all<J: Naming + Send + Sync, H: Threads + Wait + Sync, G: Gate + Sync>(
+fn run_all<J: Naming + Send + Sync, M: Machine + Send, H: Threads + Wait + Sync, G: Gate + Sync>(
     rt: &H,
-    front: &Front<J>,
+    front: &Front<J, M>,
     gate: &G,
     bench: &mut Bench<J>,
     stations: Vec<Station<J>>,
@@ -271,7 +274,7 @@ fn run_all<J: Naming + Send + Sync, H: Threads + Wait + Sync, G: Gate + Sync>(
                 → HaveCarriedOut log (map station_of result.0.items)
                 → HaveCarriedOut log stations.items }
         {
-            front_crosses::<J>();
+            front_crosses::<J, M>();
             let work = move || bench.run(rt, front, gate);
             let has_worker = scope.spawn(work).is_ok();
             let posts = start_all(scope, rt, front, gate, stop, has_worker, stations, posts);

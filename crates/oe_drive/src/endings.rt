@@ -4,11 +4,10 @@ ghost use Rattle.oe_theory.specs.World.{tables};
 ghost use Rattle.oe_model.specs.System.{system};
 ghost use Rattle.oe_hall.specs.Turns.{open_count};
 ghost use Rattle.oe_report.specs.Verdicts.{IsFirstFailing};
-ghost use Rattle.oe_core.specs.Core.{world_of};
 ghost use Rattle.oe_store.specs.Places.{rows};
 ghost use Rattle.oe_drive.specs.Runs.{IsDriven, IsRewoundToBase, IsEndOfDrive};
 
-use oe_core::Core;
+use oe_machine::Machine;
 use oe_model::conditions_hold;
 use oe_numbers::DriveNumbers;
 use oe_population::populate;
@@ -26,8 +25,8 @@ pub struct Ending {
 }
 
 // Rewinds a core to moment 0, and gives its tables. They stay where the rewind is refused.
-fn rewound(core: Core) -> Tables
-    ensures { IsRewoundToBase (world_of core) (rows result) }
+fn rewound<M: Machine>(core: M) -> Tables
+    ensures { IsRewoundToBase (M.world core) (rows result) }
 {
     let mut core = core;
     let start = Moment::new(0).unwrap();
@@ -36,9 +35,9 @@ fn rewound(core: Core) -> Tables
 }
 
 // Finds the first of conditions 1 to 4 that fails in a core in which nothing is open: none does.
-fn failing_in(core: &Core) -> Option<Condition>
-    requires { open_count (world_of core.now) ≡ 0 }
-    ensures first { IsFirstFailing (tables system (world_of core.now)) result }
+fn failing_in<M: Machine>(core: &M) -> Option<Condition>
+    requires { open_count (M.world core.now) ≡ 0 }
+    ensures first { IsFirstFailing (tables system (M.world core.now)) result }
     ensures none { result ≡ None }
 {
     core.is_reached();
@@ -49,10 +48,14 @@ fn failing_in(core: &Core) -> Option<Condition>
 
 /// Audits the core, rewinds it to moment 0, and compares it with a new population of the scale.
 /// Memory for that is the only refusal. What it finds is known before, and looked for all the same.
-pub(crate) fn ended(alloc: Global, numbers: &DriveNumbers, core: Core) -> Result<Ending, NoMemory>
-    requires quiet { open_count (world_of core) ≡ 0 }
-    requires driven { IsDriven numbers.now (world_of core) }
-    ensures { IfOk result (λ e. IsEndOfDrive numbers.now.scale (world_of core) e) }
+pub(crate) fn ended<M: Machine>(
+    alloc: Global,
+    numbers: &DriveNumbers,
+    core: M,
+) -> Result<Ending, NoMemory>
+    requires quiet { open_count (M.world core) ≡ 0 }
+    requires driven { IsDriven numbers.now (M.world core) }
+    ensures { IfOk result (λ e. IsEndOfDrive numbers.now.scale (M.world core) e) }
 {
     let failing = failing_in(&core);
     let Ok(fresh) = populate(alloc, numbers.scale) else {

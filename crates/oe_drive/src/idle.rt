@@ -13,6 +13,7 @@ ghost use Rattle.oe_drive.specs.Errands.{HasCalled, IsTransaction, IsRead, IsEnd
 use crate::deeds::{Cause, Deeds};
 use crate::gates::{Calls, Gate};
 use oe_hall::{Desk, Front, Naming, Open, Turn};
+use oe_machine::Machine;
 use oe_requests::{Query, Refusal, Request};
 use oe_values::Moment;
 use std::marker::Model;
@@ -66,10 +67,10 @@ impl<J: Naming> Idle<J> {
 
     /// Carries a transaction out, and tells its commit. It is given up after 100 answers `Busy`, or
     /// one refusal of another cause.
-    pub fn carry_out<W: Wait, G: Gate>(
+    pub fn carry_out<M: Machine, W: Wait, G: Gate>(
         &mut self,
         rt: &W,
-        front: &Front<J>,
+        front: &Front<J, M>,
         request: &Request,
         calls: &mut Calls<'_, G>,
         deeds: &mut Deeds,
@@ -87,10 +88,10 @@ impl<J: Naming> Idle<J> {
     }
 
     /// Reads a query at the newest moment that the desk can pin.
-    pub fn read<W: Wait, G: Gate>(
+    pub fn read<M: Machine, W: Wait, G: Gate>(
         &mut self,
         rt: &W,
-        front: &Front<J>,
+        front: &Front<J, M>,
         query: &Query,
         calls: &mut Calls<'_, G>,
         deeds: &mut Deeds,
@@ -152,9 +153,9 @@ fn cause_of(refusal: &Refusal) -> Cause {
 }
 
 // Carries a transaction out, and gives the moment that it made, if it committed.
-fn carry_one_out<J: Naming, W: Wait, G: Gate>(
+fn carry_one_out<J: Naming, M: Machine, W: Wait, G: Gate>(
     rt: &W,
-    front: &Front<J>,
+    front: &Front<J, M>,
     desk: &mut Desk<J>,
     request: &Request,
     calls: &mut Calls<'_, G>,
@@ -181,9 +182,9 @@ fn carry_one_out<J: Naming, W: Wait, G: Gate>(
 }
 
 // Advances a transaction to its end, or gives it up.
-fn advance_to_end<J: Naming, W: Wait, G: Gate>(
+fn advance_to_end<J: Naming, M: Machine, W: Wait, G: Gate>(
     rt: &W,
-    front: &Front<J>,
+    front: &Front<J, M>,
     desk: &mut Desk<J>,
     work: Open,
     calls: &mut Calls<'_, G>,
@@ -236,9 +237,9 @@ fn advance_to_end<J: Naming, W: Wait, G: Gate>(
 }
 
 // Ends a transaction of this desk's, which is open by what the desk called.
-fn give_up<J: Naming, W: Wait, G: Gate>(
+fn give_up<J: Naming, M: Machine, W: Wait, G: Gate>(
     rt: &W,
-    front: &Front<J>,
+    front: &Front<J, M>,
     desk: &mut Desk<J>,
     work: Open,
     calls: &mut Calls<'_, G>,

@@ -1,6 +1,5 @@
 //! A new shop, and a drive in it.
 ghost use Rattle.std.specs.Prelude.{◌≡◌, ◌+◌, ◌≤◌, [], IfOk, map, vec_len};
-ghost use Rattle.oe_core.specs.Core.{world_of};
 ghost use Rattle.oe_theory.specs.World.{newest};
 ghost use Rattle.oe_theory.specs.Theorems.{world_at_opening};
 ghost use Rattle.oe_model.specs.Conditions.{IsPopulation};
@@ -17,6 +16,7 @@ use crate::driving::{Driven, drive};
 use crate::gates::Gate;
 use crate::stations::Plan;
 use oe_hall::{Naming, Seats, Shop};
+use oe_machine::Machine;
 use oe_model::populations::population_is_one;
 use oe_numbers::DriveNumbers;
 use oe_population::populate;
@@ -41,7 +41,12 @@ pub(crate) fn populated(alloc: Global, numbers: &DriveNumbers) -> Result<Tables,
 }
 
 /// Runs the plans in a shop on a population. `NoMemory` where memory or a thread is refused.
-pub(crate) fn driven<J: Naming + Send + Sync, H: Threads + Wait + Sync, G: Gate + Sync>(
+pub(crate) fn driven<
+    J: Naming + Send + Sync,
+    M: Machine + Send,
+    H: Threads + Wait + Sync,
+    G: Gate + Sync,
+>(
     rt: &H,
     alloc: Global,
     gate: &G,
@@ -49,23 +54,23 @@ pub(crate) fn driven<J: Naming + Send + Sync, H: Threads + Wait + Sync, G: Gate 
     plans: Vec<Plan>,
     tables: Tables,
     seats: Seats,
-) -> Result<Driven, NoMemory>
+) -> Result<Driven<M>, NoMemory>
     requires plans { (1 ≤ vec_len plans) × (vec_len plans ≤ 63) }
     requires population { IsPopulation (rows tables) }
     requires names { names_at_opening seats.names
         (world_at_opening system (rows tables) numbers.now.extents seats.names.layout) ≡ J.names }
     ensures ended { IfOk result (λ d.
         d.counted.begun ≡ d.counted.committed + d.counted.rolled_back) }
-    ensures quiet { IfOk result (λ d. open_count (world_of d.core) ≡ 0) }
-    ensures newest { IfOk result (λ d. newest system (world_of d.core) ≡ d.counted.committed) }
-    ensures layout { IfOk result (λ d. (world_of d.core).layout ≡ seats.names.layout) }
+    ensures quiet { IfOk result (λ d. open_count (M.world d.core) ≡ 0) }
+    ensures newest { IfOk result (λ d. newest system (M.world d.core) ≡ d.counted.committed) }
+    ensures layout { IfOk result (λ d. (M.world d.core).layout ≡ seats.names.layout) }
     ensures run { IfOk result (λ d. IsHistory
         (world_at_opening system (rows tables) numbers.now.extents seats.names.layout)
-        d.history.log (world_of d.core)) }
+        d.history.log (M.world d.core)) }
     ensures unpurged { IfOk result (λ d. calls_by 0 d.history.log ≡ []) }
     ensures carried { IfOk result (λ d.
         ArePlansCarriedOut d.history.log (map errands_in plans.items)) }
 {
     let (shop, purger) = Shop::open(alloc, tables, numbers.extents, seats)?;
-    drive::<J, H, G>(rt, alloc, gate, shop, purger, plans)
+    drive::<J, M, H, G>(rt, alloc, gate, shop, purger, plans)
 }

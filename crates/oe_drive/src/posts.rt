@@ -11,6 +11,7 @@ use crate::gates::Gate;
 use crate::stations::Station;
 use oe_hall::crossing::front_crosses;
 use oe_hall::{Front, Naming};
+use oe_machine::Machine;
 use std::snapshot::Snapshot;
 use std::sync::Wait;
 use std::sync::atomic::{AtomicBool, Ordering};
@@ -35,10 +36,17 @@ pub(crate) enum Post<J: Naming> {
 
 // Gives a station to a thread of its own, where the worker has one. Where none can be made, all
 // others stop, and the station submits its end mark here.
-fn start_one<'s, 'e, J: Naming + Send + Sync + 's, H: Threads + Wait + Sync, G: Gate + Sync>(
+fn start_one<
+    's,
+    'e,
+    J: Naming + Send + Sync + 's,
+    M: Machine + Send,
+    H: Threads + Wait + Sync,
+    G: Gate + Sync,
+>(
     scope: &'s Scope<'s, &'e ()>,
     rt: &'e H,
-    front: &'e Front<J>,
+    front: &'e Front<J, M>,
     gate: &'e G,
     stop: &'e AtomicBool,
     has_worker: bool,
@@ -49,7 +57,7 @@ fn start_one<'s, 'e, J: Naming + Send + Sync + 's, H: Threads + Wait + Sync, G: 
     if !has_worker {
         return Post::Here(station);
     }
-    front_crosses::<J>();
+    front_crosses::<J, M>();
     let promise = SamePlan(Snapshot::of(&station));
     let job = move || station.run(rt, front, gate, stop);
     match scope.spawn_with(promise, job) {
@@ -67,12 +75,13 @@ pub(crate) fn start_all<
     's,
     'e,
     J: Naming + Send + Sync + 's,
+    M: Machine + Send,
     H: Threads + Wait + Sync,
     G: Gate + Sync,
 >(
     scope: &'s Scope<'s, &'e ()>,
     rt: &'e H,
-    front: &'e Front<J>,
+    front: &'e Front<J, M>,
     gate: &'e G,
     stop: &'e AtomicBool,
     has_worker: bool,

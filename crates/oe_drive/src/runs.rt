@@ -1,6 +1,5 @@
 //! The whole run.
 ghost use Rattle.std.specs.Prelude.{◌≡◌, ◌+◌, ◌≤◌, IfOk, map, vec_len};
-ghost use Rattle.oe_core.specs.Core.{world_of};
 ghost use Rattle.oe_drive.specs.Plans.{errands_in, plans_of};
 ghost use Rattle.oe_drive.specs.Runs.{DriveRan, IsLeft};
 
@@ -14,6 +13,7 @@ use crate::stations::Plan;
 use oe_hall::{Counted, Seats};
 use oe_io::output::flush;
 use oe_io::ports::Outlet;
+use oe_machine::Machine;
 use oe_numbers::DriveNumbers;
 use oe_report::{report, status};
 use oe_rows::Layout;
@@ -49,19 +49,19 @@ const SHOP: u32 = 0;
 
 // Runs the plans in a shop of its own on a new population, which is named here. Its undo records
 // keep changed columns: so more transactions have room.
-fn driven_here<H: Threads + Wait + Sync, G: Gate + Sync>(
+fn driven_here<M: Machine + Send, H: Threads + Wait + Sync, G: Gate + Sync>(
     rt: &H,
     alloc: Global,
     gate: &G,
     numbers: &DriveNumbers,
     plans: Vec<Plan>,
-) -> Result<Driven, NoMemory>
+) -> Result<Driven<M>, NoMemory>
     requires plans { (1 ≤ vec_len plans) × (vec_len plans ≤ 63) }
     requires drawn { map errands_in plans.items ≡ plans_of numbers.now }
     ensures ended { IfOk result (λ d.
         d.counted.begun ≡ d.counted.committed + d.counted.rolled_back) }
     ensures left { IfOk result (λ d.
-        IsLeft numbers.now (world_of d.core) d.counted.committed) }
+        IsLeft numbers.now (M.world d.core) d.counted.committed) }
 {
     let Ok(seats) = Seats::new(alloc, SHOP, Layout::ChangedColumns) else {
         return Err(NoMemory);
@@ -69,15 +69,16 @@ fn driven_here<H: Threads + Wait + Sync, G: Gate + Sync>(
     let Ok(tables) = populated(alloc, numbers) else {
         return Err(NoMemory);
     };
-    driven::<Brand, H, G>(rt, alloc, gate, numbers, plans, tables, seats)
+    driven::<Brand, M, H, G>(rt, alloc, gate, numbers, plans, tables, seats)
 }
 
 /// Opens a shop on a new population, runs all terminals and the worker, audits conditions 1 to 4,
-/// rewinds to moment 0, compares with a new population, and writes the two lines.
+/// rewinds to moment 0, compares with a new population, and writes the two lines. The type of the
+/// machine is the first parameter.
 ///
 /// The status is 0 where the conditions hold and the population is restored, else 1. `NoMemory`
 /// where memory or a thread is refused, and nothing is written then; `Write` where a write fails.
-pub fn run_drive<H: Threads + Wait + Sync, G: Gate + Sync, W: Outlet>(
+pub fn run_drive<M: Machine + Send, H: Threads + Wait + Sync, G: Gate + Sync, W: Outlet>(
     rt: &H,
     alloc: Global,
     gate: &G,
@@ -92,7 +93,7 @@ pub fn run_drive<H: Threads + Wait + Sync, G: Gate + Sync, W: Outlet>(
     let Ok(plans) = plans(alloc, numbers) else {
         return Err(DriveFault::NoMemory);
     };
-    let driven = match driven_here(rt, alloc, gate, numbers, plans) {
+    let driven = match driven_here::<M, H, G>(rt, alloc, gate, numbers, plans) {
         Ok(driven) => driven,
         Err(_) => return Err(DriveFault::NoMemory),
     };

@@ -13,6 +13,7 @@ use crate::deeds::Deeds;
 use crate::gates::{Calls, Gate};
 use crate::idle::Idle;
 use oe_hall::{Desk, Front, Naming};
+use oe_machine::Machine;
 use oe_queue::{Message, Sender, Taker};
 use oe_requests::{DeliveriesRequest, Errand, Request};
 use oe_values::Terminal;
@@ -85,9 +86,9 @@ fn of_warehouse(deliveries: &DeliveriesRequest) -> Request
 }
 
 // Carries out an errand.
-fn carry_out<J: Naming, W: Wait, G: Gate>(
+fn carry_out<J: Naming, M: Machine, W: Wait, G: Gate>(
     rt: &W,
-    front: &Front<J>,
+    front: &Front<J, M>,
     idle: &mut Idle<J>,
     sender: &mut Option<Sender>,
     errand: &Errand,
@@ -145,7 +146,12 @@ impl<J: Naming> Station<J> {
 
     // Carries out the next errand of the plan, and counts it.
     #[tactic(auto, using(crate::proofs::StationFacts::stays_on_plan))]
-    fn carry_next<W: Wait, G: Gate>(&mut self, rt: &W, front: &Front<J>, calls: &mut Calls<'_, G>)
+    fn carry_next<M: Machine, W: Wait, G: Gate>(
+        &mut self,
+        rt: &W,
+        front: &Front<J, M>,
+        calls: &mut Calls<'_, G>,
+    )
         requires { self.old.carried < length self.old.errands }
         ensures plan { KeepsPlan self.old self.new }
         ensures carried { self.new.carried ≡ self.old.carried + 1 }
@@ -165,10 +171,10 @@ impl<J: Naming> Station<J> {
 
     /// Carries out the plan, unless a stop is asked for, submits the end mark, and gives the station
     /// back.
-    pub(crate) fn run<W: Wait, G: Gate>(
+    pub(crate) fn run<M: Machine, W: Wait, G: Gate>(
         self,
         rt: &W,
-        front: &Front<J>,
+        front: &Front<J, M>,
         gate: &G,
         stop: &AtomicBool,
     ) -> Station<J>
@@ -235,7 +241,12 @@ impl<J: Naming> Bench<J> {
     }
 
     /// Carries out what is taken, until the end mark of each terminal was.
-    pub(crate) fn run<W: Wait, G: Gate>(&mut self, rt: &W, front: &Front<J>, gate: &G) {
+    pub(crate) fn run<M: Machine, W: Wait, G: Gate>(
+        &mut self,
+        rt: &W,
+        front: &Front<J, M>,
+        gate: &G,
+    ) {
         let mut calls = Calls::new(gate, self.terminal);
         let mut left = self.terminals;
         for _ in rt.forever() {
@@ -256,10 +267,10 @@ impl<J: Naming> Bench<J> {
 
     // Delivers the oldest order of each of a warehouse's ten districts, as one transaction (clause
     // 2.7.4).
-    fn deliver<W: Wait, G: Gate>(
+    fn deliver<M: Machine, W: Wait, G: Gate>(
         &mut self,
         rt: &W,
-        front: &Front<J>,
+        front: &Front<J, M>,
         deliveries: &DeliveriesRequest,
         calls: &mut Calls<'_, G>,
     ) {

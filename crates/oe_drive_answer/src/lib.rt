@@ -1,4 +1,5 @@
-//! What a drive answers, what a person is told of it on standard error, and the exit status.
+//! What a drive answers, what a person is told of it on standard error, and the exit status. The
+//! caller chooses the machine, the first type parameter.
 #![tactic(auto)]
 
 ghost use Rattle.oe_answers.specs.Endings.{EndsWith};
@@ -12,6 +13,7 @@ use crate::progress::{Progress, Shown, tell_room};
 use oe_answers::{Aim, Output, fail};
 use oe_deeds::write_commits;
 use oe_drive::{DriveFault, Ran, run_drive};
+use oe_machine::Machine;
 use oe_numbers::DriveNumbers;
 use std::io;
 use std::sync::Wait;
@@ -48,12 +50,11 @@ fn tell<R: Clock + Eprint, W: Output>(
 }
 
 /// Runs a drive, and tells a person how it went; how it goes too, where the person is there.
-pub fn answer_drive<R: Threads + Wait + Clock + Eprint + AllocGlobal + Sync, W: Output>(
-    rt: &R,
-    numbers: &DriveNumbers,
-    shown: Shown,
-    writer: &mut W,
-) -> io::Result<u8>
+pub fn answer_drive<
+    M: Machine + Send,
+    R: Threads + Wait + Clock + Eprint + AllocGlobal + Sync,
+    W: Output,
+>(rt: &R, numbers: &DriveNumbers, shown: Shown, writer: &mut W) -> io::Result<u8>
     ensures { DriveAnswered numbers.now (W.sink writer.old) (W.sink writer.new) result }
 {
     let progress = match Progress::begin(rt, numbers, shown, false) {
@@ -61,7 +62,7 @@ pub fn answer_drive<R: Threads + Wait + Clock + Eprint + AllocGlobal + Sync, W: 
         Err(error) => return Err(error),
     };
     let _warned = tell_room(rt, numbers);
-    let answer = run_drive(rt, rt.alloc(), &progress, numbers, writer);
+    let answer = run_drive::<M, _, _, _>(rt, rt.alloc(), &progress, numbers, writer);
     tell(rt, &progress, numbers, &answer, writer)
 }
 
@@ -93,6 +94,7 @@ fn write_ran<R: Clock + Eprint, F: Output>(
 ///
 /// Where the file takes no more the status is 1, and a beginning of the commits was written.
 pub fn answer_drive_to<
+    M: Machine + Send,
     R: Threads + Wait + Clock + Eprint + AllocGlobal + Sync,
     W: Output,
     F: Output,
@@ -105,7 +107,7 @@ pub fn answer_drive_to<
         Err(error) => return Err(error),
     };
     let _warned = tell_room(rt, numbers);
-    match run_drive(rt, rt.alloc(), &progress, numbers, writer) {
+    match run_drive::<M, _, _, _>(rt, rt.alloc(), &progress, numbers, writer) {
         Ok(ran) => write_ran(rt, &progress, numbers, ran, file),
         Err(fault) => tell_fault(rt, fault, writer),
     }

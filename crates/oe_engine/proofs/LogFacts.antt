@@ -1,5 +1,5 @@
 -- What the calls of the undo log make of what an engine stands for.
-use Rattle.std.proofs.Common.{◌≡◌, ℕ, suc, ◌<◌, ◌==◌, Bool, true, false, refl, sym, ap, ◌∙◌, inl, inr, [], length}
+use Rattle.std.proofs.Common.{◌≡◌, ℕ, suc, ◌<◌, ◌==◌, true, false, refl, sym, ap, ◌∙◌, inl, inr, [], length}
 use Rattle.std.proofs.Common.{get_or, set}
 use Rattle.std.specs.Prelude.{Option, None, Some, is_some, option_map}
 use Rattle.std.proofs.lemmas.Bool.{cases_eq, cond-true, cond-false, eq-eqb, ne_eqb}
@@ -33,9 +33,6 @@ active_set u t s within x =
       | inr ne ↦ ap (λ (z : TerminalState). is_some z.active) (get_or-set_other u.terminals t x s idle ne)
           ∙ sym (cond-false (x == t) (is_some s.active) (is_some (active_at u x)) (ne_eqb x t ne))
     ]
-
-pub see_open : TerminalState → Bool
-see_open z = is_some z.active
 
 pub is_none : (a : Option Open) → is_some a ≡ false → a ≡ None
 is_none None e = refl

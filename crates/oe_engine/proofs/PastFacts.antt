@@ -284,11 +284,6 @@ pub is_quiet : (ts : tables.Places) (u : SegmentLog) (ls : Holdings) → open_to
 unfolding view_from
 is_quiet ts u ls none t = ap is_some (none_open u none t)
 
-pub rewind_quiet : {T E : Type 0} (r : Result T E) (ts : tables.Places) (u : SegmentLog) (ls : Holdings)
-    → OnOk r (open_total u ≡ 0) → OnOk r (IsQuiet (view_from ts u ls))
-rewind_quiet (Ok x) ts u ls none = is_quiet ts u ls none
-rewind_quiet (Err e) ts u ls none = tt
-
 -- then the records of the commits can be put back
 pub commits_go_back : (ts : tables.Places) (u : SegmentLog) (ls : Holdings) → IsSafe (view_from ts u ls)
     → open_total u ≡ 0 → CanUnwindAll (undo_of u).history (rows ts)

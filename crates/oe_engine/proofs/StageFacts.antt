@@ -2,7 +2,7 @@
 use Rattle.std.proofs.Common.{◌≡◌, Option, None, Some, refl, sym, ap, ◌∙◌, subst, inl}
 use Rattle.std.proofs.Common.{inr, ◌⊎◌}
 use Rattle.std.specs.Prelude.{Result, Ok, Err}
-use Rattle.oe_theory.specs.Machine.{Ask, Stop, Plain, Take, Go, Guard, Free, Under, Own}
+use Rattle.oe_theory.specs.Machine.{Ask, Stop, Plain, Take, Go}
 use Rattle.oe_theory.specs.Machine as theory
 use Rattle.oe_theory.specs.Next.{IsNew, GivesWay}
 use Rattle.oe_rows.specs.declared.locks.Name.{Name}

@@ -1,19 +1,16 @@
 -- Since when customers have had the names that they have.
-use Rattle.std.specs.Prelude.{◌≡◌, ◌≢◌, ◌-◌, ◌≤◌, ℕ, true, false, List, [], ◌∷◌, Option, None, take}
+use Rattle.std.specs.Prelude.{◌≡◌, ◌≢◌, ◌-◌, ◌≤◌, ℕ, true, false, List, [], ◌∷◌, Option, take}
 use Rattle.oe_rows.specs.declared.keys.CustomerKey.{CustomerKey}
 use Rattle.oe_rows.specs.declared.keys.Key.TheVariants as key
 use Rattle.oe_rows.specs.declared.customers.CustomerName.{CustomerName}
 use Rattle.oe_rows.specs.declared.rows.Row.{Row}
-use Rattle.oe_theory.specs.Store.{version_of}
-use Rattle.oe_model.specs.Choice.{name_in, name_at, HaveSameNames}
+use Rattle.oe_model.specs.Choice.{name_in, name_at}
 use Rattle.oe_model.specs.Changes.{Record, record_key, restore}
-use Rattle.oe_model.specs.System.{system}
 use Rattle.oe_change.specs.declared.writes.Write.{Write}
 use Rattle.oe_store.specs.Places.{rows}
-use Rattle.oe_log.specs.Moments.{store_with}
 use Rattle.oe_locks.specs.Terminals.{has}
 use Rattle.oe_writes.specs.Kinds.{is_rename}
-use Rattle.oe_engine.specs.View.{EngineState, View}
+use Rattle.oe_engine.specs.View.{View}
 use Rattle.oe_engine.specs.Calls.{newest}
 use Rattle.oe_engine.specs.declared.renames.Renames.{Renames}
 
@@ -56,7 +53,3 @@ pub record Forgets (t m : ℕ) (old new : Renames) : Type 0 where
 pub record HasStood (n : Renames) (m : ℕ) : Type 0 where
   pub none : (t : ℕ) → has n.open t ≡ false
   pub since : n.since ≤ m
-
--- each customer had the names then that it has now
-abbrev pub NamesStand : EngineState → ℕ → Type 0
-NamesStand s m = HaveSameNames (version_of system (store_with (rows s.tables) s.undo (λ t. None)) m) (rows s.tables)

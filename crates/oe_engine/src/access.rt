@@ -15,25 +15,8 @@ use crate::engine::{Engine, Tx};
 use oe_locks::Lock;
 use oe_requests::Refusal;
 use oe_rows::{Key, Mode, Name, Row};
-use oe_store::Tables;
+use oe_store::copies::row_of;
 use oe_values::Terminal;
-
-// A copy of the row of a key, if it has one.
-fn row_at(tables: &Tables, key: Key) -> Option<Row>
-    ensures { result ≡ row_at (rows tables.now) key }
-{
-    match key {
-        Key::Warehouse(key) => Some(Row::Warehouse(tables.warehouse(key)?.copied())),
-        Key::District(key) => Some(Row::District(tables.district(key)?.copied())),
-        Key::Customer(key) => Some(Row::Customer(tables.customer(key)?.copied())),
-        Key::History(key) => Some(Row::History(tables.history(key)?.copied())),
-        Key::NewOrder(key) => Some(Row::NewOrder(*tables.new_order(key)?)),
-        Key::Order(key) => Some(Row::Order(*tables.order(key)?)),
-        Key::OrderLine(key) => Some(Row::OrderLine(tables.order_line(key)?.copied())),
-        Key::Item(key) => Some(Row::Item(tables.item(key)?.copied())),
-        Key::Stock(key) => Some(Row::Stock(tables.stock(key)?.copied())),
-    }
-}
 
 impl Engine {
     /// Takes a name for a transaction, or raises the mode in which it holds it. A mode is never
@@ -97,7 +80,7 @@ impl Engine {
         requires held { MayRead (view_of self.now) tx.now.terminal (governs key) }
         ensures { result ≡ row_at (view_of self.now).rows key }
     {
-        row_at(&self.tables, key)
+        row_of(&self.tables, &key)
     }
 
     /// Lowers the mode in which an open transaction holds a name, or with `None` lets go of the

@@ -1,7 +1,7 @@
 -- Lines whose numbers are in their ranges are few.
-use Rattle.std.proofs.Common.{◌≡◌, ℕ, suc, ◌+◌, ◌*◌, ◌-◌, ◌≤◌, ◌<◌, refl, sym, ap, ◌∙◌, subst, Bool, true, false, cond}
-use Rattle.std.proofs.Common.{Option, None, Some, List, [], ◌∷◌, map, length, inl, inr, arith}
-use Rattle.std.specs.Prelude.{T, ◌⊎◌, ◌&&◌, IsSome, nat_le, filter, option_map}
+use Rattle.std.proofs.Common.{◌≡◌, ℕ, suc, ◌+◌, ◌*◌, ◌-◌, ◌≤◌, ◌<◌, refl, sym, ap, ◌∙◌, subst, Bool, true, false}
+use Rattle.std.proofs.Common.{cond, Option, None, Some, List, [], ◌∷◌, map, length, inl, inr, arith}
+use Rattle.std.specs.Prelude.{T, ◌⊎◌, ◌&&◌, IsSome, nat_le, filter}
 use Rattle.std.specs.Ordering.{eq_by_cmp, nat_cmp, ordering_then, is_lt}
 use Rattle.std.specs.declared.cmp.Ordering.{Ordering}
 use Rattle.std.specs.declared.cmp.Ordering.TheVariants.{Less, Equal, Greater}
@@ -36,15 +36,10 @@ use Rattle.oe_model.proofs.ListFacts.{kept_among}
 use Rattle.oe_model.proofs.LevelFacts.{level_is_exact}
 use Rattle.oe_model.proofs.PresenceFacts.{some-map, some_present}
 use Rattle.oe_store.specs.Numbered.{AreNumbered}
-use Rattle.oe_store.specs.Places.{rows}
-use Rattle.oe_store.specs.Places as tables
-use Rattle.oe_log.specs.Log.{SegmentLog}
-use Rattle.oe_log.specs.Moments.{store_with}
-use Rattle.oe_versions.specs.Versions.{version, Stand}
-use Rattle.oe_versions.proofs.LastingFacts.{rows_last}
-use Rattle.oe_versions.proofs.ClimbFacts.{left, right, lower, same_number}
+use Rattle.oe_rows_of.proofs.ClimbFacts.{left, right, lower, same_number}
 use Rattle.oe_enquiry.specs.Few.{Orders_are_short, Recent_are_few, Levels_are_small}
 use Rattle.oe_enquiry.proofs.ListedFacts.{no_more, is_mapped}
+use Rattle.oe_rows_of.specs.Then.{ArePassed}
 
 -- entries in their keys' order, each of which has a number below a bound that rises with the keys, are no more than the
 -- bound
@@ -257,12 +252,8 @@ module _ (r : Rows) (range : InRange r.order_lines) where
           lines_are_recent q.district x.next_order in
           omega (arith, same, more, all, few)
 
--- the lines of a moment stand now, so that their numbers are in range
-pub in_range_past : (ts : tables.Places) (u : SegmentLog) (m : ℕ) → Stand ts u → AreNumbered (rows ts)
-    → InRange (version ts u m).order_lines
-in_range_past ts u m stand numbered k h =
-    let now : IsSome (option_map row.OrderLine (get (rows ts).order_lines k)) =
-    rows_last (store_with (rows ts) u stand.0) m (key.OrderLine k) stand.1
-    (some-map row.OrderLine (get (version ts u m).order_lines k) ∙ h)
-    in
-    let n = (numbered (key.OrderLine k) now).1 in (n.0, n.1)
+-- lines that a walk passes stand now, so that their numbers are in range
+pub in_range_past : (now past : Rows) → ArePassed past now → AreNumbered now → InRange past.order_lines
+in_range_past now past passed numbered k h =
+    let n = (numbered (key.OrderLine k) (some-map row.OrderLine (get now.order_lines k) ∙ passed.order_lines k h)).1 in
+    (n.0, n.1)

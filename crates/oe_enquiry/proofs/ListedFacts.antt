@@ -103,10 +103,6 @@ module _ (p : ℕ → Bool) where
   abbrev next_list : List ℕ → ℕ → List ℕ
   next_list items i = cond (not (is_listed items i) && p i) (items ++ i ∷ []) items
 
-  pub listed_append : (items xs ys : List ℕ) → list_with p items (xs ++ ys) ≡ list_with p (list_with p items xs) ys
-  listed_append items [] ys = refl
-  listed_append items (x ∷ xs) ys = listed_append (next_list items x) xs ys
-
   -- what is listed next, of what is there and of whether it passes
   data Step (items : List ℕ) (i : ℕ) : List ℕ → Type 0 where
     was_there : IsAmong i items → Step items i items

@@ -1,18 +1,18 @@
 -- What lines sold, taken off a walk in parts.
 use Rattle.std.proofs.Common.{◌≡◌, ℕ, zero, suc, ◌+◌, ◌≤◌, ◌<◌, refl, sym, ap, ◌∙◌, subst, Bool, cond, Option, None}
-use Rattle.std.proofs.Common.{Some, List, [], ◌∷◌, ◌++◌, map, length, length-append, get_or, arith}
+use Rattle.std.proofs.Common.{Some, List, [], ◌∷◌, ◌++◌, map, length, get_or, arith}
 use Rattle.std.specs.Prelude.{◌-◌, ◌*◌, not, ◌&&◌, option_map, take}
 use Rattle.std.specs.List.{cons_option}
 use Rattle.std.specs.FinMap.{get}
-use Rattle.std.proofs.lemmas.List.{append_assoc, map-append}
+use Rattle.std.proofs.lemmas.List.{map-append}
 use Rattle.std.proofs.Math.Seq.{take-suc}
 use Rattle.oe_rows.specs.declared.keys.OrderLineKey.{OrderLineKey}
 use Rattle.oe_rows.specs.declared.orders.OrderLine.{OrderLine}
-use Rattle.oe_versions.specs.Columns.{item_of}
-use Rattle.oe_versions.specs.Versions.{VersionState, rows_of}
-use Rattle.oe_versions.proofs.ChosenFacts.{rows_at}
+use Rattle.oe_rows_of.specs.Columns.{item_of}
+use Rattle.oe_rows_of.proofs.ChosenFacts.{rows_at}
 use Rattle.oe_enquiry.specs.declared.items.Sold.{Sold}
 use Rattle.oe_enquiry.specs.Level.{list_with, is_listed, sold_in, sold_of, AreStanding, HasQuantity, HaveQuantities}
+use Rattle.oe_model.specs.Rows.{Rows}
 
 -- a line with its key, as a walk gives it
 abbrev pub Entry : Type 0
@@ -21,80 +21,49 @@ Entry = OrderLineKey × OrderLine
 abbrev item : Sold → ℕ
 item s = s.item
 
-module _ (v : VersionState) (w : ℕ) where
+module _ (now past : Rows) (w : ℕ) where
   abbrev sold_at : Option OrderLine → List Sold → List Sold
-  sold_at x ss = cons_option (option_map (sold_in v.tables w) (item_of x)) ss
+  sold_at x ss = cons_option (option_map (sold_in now w) (item_of x)) ss
 
   -- their items are those of the lines that stood
   pub items_are : (es : List Entry)
-      → map item (sold_of v w es) ≡ map (λ (e : Entry). e.1.item) (rows_at (rows_of v).order_lines es)
+      → map item (sold_of now past w es) ≡ map (λ (e : Entry). e.1.item) (rows_at past.order_lines es)
   items_are [] = refl
-  items_are (e ∷ es) = by (get (rows_of v).order_lines e.0) (items_are es)
+  items_are (e ∷ es) = by (get past.order_lines e.0) (items_are es)
     where
       by : (x : Option OrderLine)
-          → map item (sold_of v w es) ≡ map (λ (f : Entry). f.1.item) (rows_at (rows_of v).order_lines es)
-          → map item (sold_at x (sold_of v w es)) ≡ map (λ (f : Entry). f.1.item)
-          (cons_option (option_map (λ y. (e.0, y)) x) (rows_at (rows_of v).order_lines es))
+          → map item (sold_of now past w es) ≡ map (λ (f : Entry). f.1.item) (rows_at past.order_lines es)
+          → map item (sold_at x (sold_of now past w es)) ≡ map (λ (f : Entry). f.1.item)
+          (cons_option (option_map (λ y. (e.0, y)) x) (rows_at past.order_lines es))
       by None rest = rest
       by (Some y) rest = ap (λ is. y.item ∷ is) rest
 
   -- and they have the quantities of their stocks
-  pub have_all : (es : List Entry) → HaveQuantities v.tables w (sold_of v w es)
+  pub have_all : (es : List Entry) → HaveQuantities now w (sold_of now past w es)
   have_all [] = tt
-  have_all (e ∷ es) = by (get (rows_of v).order_lines e.0) (have_all es)
+  have_all (e ∷ es) = by (get past.order_lines e.0) (have_all es)
     where
-      by : (x : Option OrderLine) → HaveQuantities v.tables w (sold_of v w es)
-          → HaveQuantities v.tables w (sold_at x (sold_of v w es))
+      by : (x : Option OrderLine) → HaveQuantities now w (sold_of now past w es)
+          → HaveQuantities now w (sold_at x (sold_of now past w es))
       by None rest = rest
       by (Some y) rest = (refl, rest)
 
-  have_first : (xs ys : List Sold) → HaveQuantities v.tables w (xs ++ ys) → HaveQuantities v.tables w xs
+  have_first : (xs ys : List Sold) → HaveQuantities now w (xs ++ ys) → HaveQuantities now w xs
   have_first [] ys h = tt
   have_first (x ∷ xs) ys h = (h.0, have_first xs ys h.1)
 
   -- what is taken off the front of a walk
-  pub taken_have : (xs : List Sold) (es es' : List Entry) → xs ++ sold_of v w es' ≡ sold_of v w es
-      → HaveQuantities v.tables w xs
-  taken_have xs es es' is = have_first xs (sold_of v w es') (subst (HaveQuantities v.tables w) (sym is) (have_all es))
+  pub taken_have : (xs : List Sold) (es es' : List Entry) → xs ++ sold_of now past w es' ≡ sold_of now past w es
+      → HaveQuantities now w xs
+  taken_have xs es es' is = have_first xs (sold_of now past w es') (subst (HaveQuantities now w) (sym is) (have_all es))
 
   -- A walk from whose front so many lines were taken: what they sold, and the lines that are left.
   pub record Takes (all : List Entry) (taken : ℕ) (sold : List Sold) (es : List Entry) : Type 0 where
-    pub rest : sold ++ sold_of v w es ≡ sold_of v w all
-    pub standing : AreStanding v.tables es
+    pub rest : sold ++ sold_of now past w es ≡ sold_of now past w all
+    pub standing : AreStanding now es
     pub few : length sold + length es ≤ length all
     pub left : length es + taken ≤ length all
     pub room : length sold ≤ taken
-
-  pub takes_none : (all : List Entry) → AreStanding v.tables all → Takes all 0 [] all
-  takes_none all h = record { rest = refl; standing = h; few = omega arith; left = omega arith; room = omega arith }
-
-  -- a line that did not stand
-  pub takes_line : (all : List Entry) (n : ℕ) (sold : List Sold) (e : Entry) (es : List Entry)
-      → Takes all n sold (e ∷ es) → item_of (get (rows_of v).order_lines e.0) ≡ None → Takes all (suc n) sold es
-  takes_line all n sold e es t absent = record {
-    rest = sym (ap (λ x. sold ++ cons_option (option_map (sold_in v.tables w) x) (sold_of v w es)) absent) ∙ t.rest;
-    standing = t.standing.1;
-    few = (let few : length sold + suc (length es) ≤ length all = t.few in omega (arith, few));
-    left = (let left : suc (length es) + n ≤ length all = t.left in omega (arith, left));
-    room = (let room : length sold ≤ n = t.room in omega (arith, room));
-  }
-
-  -- a line that stood, and its item
-  pub takes_item : (all : List Entry) (n : ℕ) (sold sold' : List Sold) (e : Entry) (es : List Entry) (i : ℕ) (s : Sold)
-      → Takes all n sold (e ∷ es) → item_of (get (rows_of v).order_lines e.0) ≡ Some i → s ≡ sold_in v.tables w i
-      → sold' ≡ sold ++ s ∷ [] → Takes all (suc n) sold' es
-  takes_item all n sold sold' e es i s t there is more = record {
-    rest = ap (λ ss. ss ++ sold_of v w es) more ∙ append_assoc sold (s ∷ []) (sold_of v w es)
-        ∙ ap (λ x. sold ++ x ∷ sold_of v w es) is
-        ∙ sym (ap (λ x. sold ++ cons_option (option_map (sold_in v.tables w) x) (sold_of v w es)) there) ∙ t.rest;
-    standing = t.standing.1;
-    few = (let few : length sold + suc (length es) ≤ length all = t.few in omega (arith, few, one));
-    left = (let left : suc (length es) + n ≤ length all = t.left in omega (arith, left));
-    room = (let room : length sold ≤ n = t.room in omega (arith, room, one));
-  }
-    where
-      one : length sold' ≡ length sold + 1
-      one = ap length more ∙ length-append sold (s ∷ [])
 
 -- items that are listed behind others
 listed_behind : (p : ℕ → Bool) (is items js : List ℕ)
@@ -106,16 +75,16 @@ listed_behind p (i ∷ is) items js =
 suc_is : (n : ℕ) → suc n ≡ n + 1
 suc_is n = omega arith
 
-module _ (v : VersionState) (w : ℕ) (p : ℕ → Bool) where
+module _ (now past : Rows) (w : ℕ) (p : ℕ → Bool) where
   -- so many of some items are listed, behind those that were
   pub record Picks (old items : List ℕ) (ss : List Sold) (n : ℕ) : Type 0 where
     pub is : items ≡ list_with p old (map item (take n ss))
     pub few : length items ≤ length old + n
 
   pub nth_has : (n : ℕ) (ss : List Sold) (s : Sold) → n < length ss → s ≡ get_or ss n s
-      → HaveQuantities v.tables w ss → HasQuantity v.tables w s
+      → HaveQuantities now w ss → HasQuantity now w s
   nth_has n [] s lt at h = absurd (omega (arith, lt))
-  nth_has zero (x ∷ ss) s lt at h = subst (HasQuantity v.tables w) (sym at) h.0
+  nth_has zero (x ∷ ss) s lt at h = subst (HasQuantity now w) (sym at) h.0
   nth_has (suc n) (x ∷ ss) s lt at h = nth_has n ss s (omega (arith, lt)) at h.1
 
   pub picks_one : (old items items' : List ℕ) (ss : List Sold) (n : ℕ) (s : Sold) → Picks old items ss n
@@ -132,20 +101,20 @@ module _ (v : VersionState) (w : ℕ) (p : ℕ → Bool) where
 
   -- What is left of a walk over the lines leads to all items, and there is room for them; so many parts were taken.
   pub record Lists (all items : List ℕ) (es : List Entry) (parts : ℕ) : Type 0 where
-    pub rest : list_with p items (map item (sold_of v w es)) ≡ all
-    pub standing : AreStanding v.tables es
+    pub rest : list_with p items (map item (sold_of now past w es)) ≡ all
+    pub standing : AreStanding now es
     pub few : length items + length es ≤ 300
     pub left : length es ≤ 304 - 16 * parts
 
   pub lists_part : (all items items' : List ℕ) (es es' : List Entry) (ss : List Sold) (n : ℕ) → Lists all items es n
-      → ss ++ sold_of v w es' ≡ sold_of v w es → AreStanding v.tables es' → length ss + length es' ≤ length es
+      → ss ++ sold_of now past w es' ≡ sold_of now past w es → AreStanding now es' → length ss + length es' ≤ length es
       → length es' ≤ length es - 16 → items' ≡ list_with p items (map item ss) → length items' ≤ length items
       + length ss
       → Lists all items' es' (n + 1)
   lists_part all items items' es es' ss n l is standing taken most listed' more = record {
-    rest = ap (λ is. list_with p is (map item (sold_of v w es'))) listed'
-        ∙ sym (listed_behind p (map item ss) items (map item (sold_of v w es')))
-        ∙ ap (list_with p items) (sym (map-append item ss (sold_of v w es')) ∙ ap (map item) is) ∙ l.rest;
+    rest = ap (λ is. list_with p is (map item (sold_of now past w es'))) listed'
+        ∙ sym (listed_behind p (map item ss) items (map item (sold_of now past w es')))
+        ∙ ap (list_with p items) (sym (map-append item ss (sold_of now past w es')) ∙ ap (map item) is) ∙ l.rest;
     standing = standing;
     few = (let few : length items + length es ≤ 300 = l.few in omega (arith, few, taken, more));
     left = (let left : length es ≤ 304 - 16 * n = l.left in omega (arith, left, most));
@@ -158,4 +127,5 @@ module _ (v : VersionState) (w : ℕ) (p : ℕ → Bool) where
   pub all_listed : (all items : List ℕ) (es : List Entry) (n : ℕ) → Lists all items es n → 19 ≤ n → items ≡ all
   all_listed all items es n l done =
       let left : length es ≤ 304 - 16 * n = l.left in
-      sym (ap (λ es. list_with p items (map item (sold_of v w es))) (none es (omega (arith, left, done)))) ∙ l.rest
+      sym (ap (λ es. list_with p items (map item (sold_of now past w es))) (none es (omega (arith, left, done))))
+      ∙ l.rest

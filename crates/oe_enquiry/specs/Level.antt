@@ -1,6 +1,6 @@
 -- The items that Stock-Level counts, as they are gathered (clause 2.8.2.2).
-use Rattle.std.specs.Prelude.{ℕ, suc, ◌≡◌, ◌%◌, ◌==◌, Bool, true, false, cond, not, ◌&&◌, List, [], ◌∷◌}
-use Rattle.std.specs.Prelude.{◌++◌, map, get_or, nat_le, None, Some, option_map}
+use Rattle.std.specs.Prelude.{ℕ, suc, ◌≡◌, ◌%◌, ◌==◌, Bool, true, false, cond, not, ◌&&◌, List, [], ◌∷◌, ◌++◌, map}
+use Rattle.std.specs.Prelude.{get_or, nat_le, None, Some, option_map}
 use Rattle.std.specs.List.{list_any, cons_option}
 use Rattle.std.specs.FinMap.{FinMap, get}
 use Rattle.oe_rows.specs.Key.{order_line_cmp}
@@ -11,10 +11,7 @@ use Rattle.oe_rows.specs.declared.orders.OrderLine.{OrderLine}
 use Rattle.oe_requests.specs.declared.requests.LevelQuery.{LevelQuery}
 use Rattle.oe_model.specs.Rows.{Rows}
 use Rattle.oe_model.specs.Queries.{recent_lines}
-use Rattle.oe_store.specs.Places.{rows}
-use Rattle.oe_store.specs.Places as tables
-use Rattle.oe_versions.specs.Columns.{item_of, quantity_of}
-use Rattle.oe_versions.specs.Versions.{VersionState, rows_of}
+use Rattle.oe_rows_of.specs.Columns.{item_of, quantity_of}
 use Rattle.oe_enquiry.specs.declared.items.Sold.{Sold}
 
 abbrev pub stock_in : ℕ → ℕ → StockKey
@@ -42,24 +39,24 @@ abbrev pub items_sold : DistrictKey → ℕ → FinMap order_line_cmp OrderLine 
 items_sold h next lines = map (λ e. e.1.item) (recent_lines h next lines)
 
 -- the rows stand at their keys
-abbrev pub AreStanding : tables.Places → List (OrderLineKey × OrderLine) → Type 0
-AreStanding ts [] = Unit {0}
-AreStanding ts (e ∷ es) = (get (rows ts).order_lines e.0 ≡ Some e.1) × AreStanding ts es
+abbrev pub AreStanding : Rows → List (OrderLineKey × OrderLine) → Type 0
+AreStanding r [] = Unit {0}
+AreStanding r (e ∷ es) = (get r.order_lines e.0 ≡ Some e.1) × AreStanding r es
 
 -- an item, with the quantity that its stock in a warehouse has now
-abbrev pub sold_in : tables.Places → ℕ → ℕ → Sold
-sold_in ts w i = record { item = i; quantity = quantity_of (get (rows ts).stocks (stock_in w i)) }
+abbrev pub sold_in : Rows → ℕ → ℕ → Sold
+sold_in r w i = record { item = i; quantity = quantity_of (get r.stocks (stock_in w i)) }
 
 -- the items of those of some lines that stood at a moment
-abbrev pub sold_of : VersionState → ℕ → List (OrderLineKey × OrderLine) → List Sold
-sold_of v w [] = []
-sold_of v w (e ∷ es) =
-    cons_option (option_map (sold_in v.tables w) (item_of (get (rows_of v).order_lines e.0))) (sold_of v w es)
+abbrev pub sold_of : Rows → Rows → ℕ → List (OrderLineKey × OrderLine) → List Sold
+sold_of now past w [] = []
+sold_of now past w (e ∷ es) =
+    cons_option (option_map (sold_in now w) (item_of (get past.order_lines e.0))) (sold_of now past w es)
 
 -- it has the quantity that its stock in a warehouse has now
-abbrev pub HasQuantity : tables.Places → ℕ → Sold → Type 0
-HasQuantity ts w s = s ≡ sold_in ts w s.item
+abbrev pub HasQuantity : Rows → ℕ → Sold → Type 0
+HasQuantity r w s = s ≡ sold_in r w s.item
 
-abbrev pub HaveQuantities : tables.Places → ℕ → List Sold → Type 0
-HaveQuantities ts w [] = Unit {0}
-HaveQuantities ts w (s ∷ ss) = HasQuantity ts w s × HaveQuantities ts w ss
+abbrev pub HaveQuantities : Rows → ℕ → List Sold → Type 0
+HaveQuantities r w [] = Unit {0}
+HaveQuantities r w (s ∷ ss) = HasQuantity r w s × HaveQuantities r w ss

@@ -1,20 +1,18 @@
 //! How many lines the replies have to hold. The function does nothing: it carries the laws.
-ghost use Rattle.std.specs.Prelude.{ℕ};
-ghost use Rattle.oe_versions.specs.Versions.{version, Stand};
+ghost use Rattle.oe_model.specs.Rows.{Rows};
+ghost use Rattle.oe_store.specs.Places.{rows};
+ghost use Rattle.oe_rows_of.specs.Then.{ArePassed};
 ghost use Rattle.oe_enquiry.specs.Few.{Orders_are_short, Recent_are_few, Levels_are_small};
 
 use oe_store::Tables;
-use oe_undo::Undo;
 
-/// States that at each moment an order has at most 15 lines, and a district's last 20 orders have
-/// at most 300, since the numbers in the keys of rows are in their ranges (clause 1.3.1); so
-/// Stock-Level counts at most 300 items.
-pub fn lines_are_few(tables: &Tables, undo: &Undo)
-    requires { Stand tables.now undo.now.log }
-    ensures orders { (m : ℕ) → Orders_are_short (version tables.now undo.now.log m) }
-    ensures recent { (m : ℕ) → Recent_are_few (version tables.now undo.now.log m) }
-    ensures levels { (m : ℕ) → Levels_are_small (version tables.now undo.now.log m) }
+/// States that in any rows which a walk of the tables passes, as those of each moment, an order has
+/// at most 15 lines, and a district's last 20 orders have at most 300, since the numbers in the
+/// keys of rows are in their ranges (clause 1.3.1); so Stock-Level counts at most 300 items.
+pub fn lines_are_few(tables: &Tables)
+    ensures orders { (past : Rows) → ArePassed past (rows tables.now) → Orders_are_short past }
+    ensures recent { (past : Rows) → ArePassed past (rows tables.now) → Recent_are_few past }
+    ensures levels { (past : Rows) → ArePassed past (rows tables.now) → Levels_are_small past }
 {
     tables.numbers_hold();
-    let _known = undo;
 }

@@ -1,6 +1,6 @@
-//! Order-Status (clause 2.6) and Stock-Level (clause 2.8) at any moment that is kept, answered from
-//! the tables and the undo log alone. Nothing is changed, no lock is asked for, and nothing takes
-//! memory. Clause numbers are TPC Benchmark C 5.11's.
+//! Order-Status (clause 2.6) and Stock-Level (clause 2.8), of the rows of now or of any moment that
+//! is kept. Nothing is changed, no lock is asked for, and nothing takes memory. Clause numbers are
+//! TPC Benchmark C 5.11's.
 #![tactic(auto)]
 
 mod items;

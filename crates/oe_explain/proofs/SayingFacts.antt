@@ -9,10 +9,10 @@ use Rattle.oe_model.specs.System.{system}
 use Rattle.oe_theory.specs.World.{World}
 use Rattle.oe_io.specs.Ports.{Sink, Sent, Cut, Streams}
 use Rattle.oe_io.proofs.Streaming.{sent_none, sent_then, sent_cut, cut_more}
-use Rattle.oe_reasons.specs.Reasons.{is_opening, IsTaken}
-use Rattle.oe_script.specs.Script.{State, Asks, IsAllowed}
+use Rattle.oe_reasons.specs.Reasons.{is_opening}
+use Rattle.oe_script.specs.Script.{Asks, IsAllowed}
 use Rattle.oe_script.specs.Hearing.{Heard, HearsEach}
-use Rattle.oe_explain.specs.Explaining.{Explains, ExplainsEach, IsUntaken, Said, SaysOne}
+use Rattle.oe_explain.specs.Explaining.{Explains, IsUntaken, Said, SaysOne}
 
 -- `open` is asked for while nothing is open
 opens : (c : Command) → is_opening c ≡ true → IsAllowed None c
@@ -43,16 +43,6 @@ goes_on w (command.Audit c m) h = tt
 goes_on w (command.Read m q) h = tt
 goes_on w (command.Purge m) h = tt
 goes_on w (command.Rewind m) h = tt
-
--- so a line that is untaken has a reason
-pub has_reason : {R : Type 0} (is_open : Bool) (line : List ℕ) (r : Option R) → IsUntaken is_open line
-    → (r ≡ None) ↔ ((c : Command) × IsTaken is_open line c) → r ≡ None → ⊥
-has_reason is_open line r h taken e = let t = taken.0 e in h.1 t.0 t.1
-
-pub untaken_closed : (line : List ℕ) → (length line ≤ 1_024) × ((c : Command) → Asks None line c → ⊥)
-    → IsUntaken false line
-untaken_closed line h =
-    (h.0, λ c t. h.1 c (record { short = t.short; says = t.says; allowed = opens c t.placed }))
 
 pub untaken_open : (line : List ℕ)
     → (length line ≤ 1_024) × ((c : Command) → ((w : World system) → Asks (Some w) line c) → ⊥)

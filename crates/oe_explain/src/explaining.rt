@@ -1,5 +1,5 @@
 //! Who hears of lines that are answered `BadLine`, and says why they are.
-ghost use Rattle.std.specs.Prelude.{◌≡◌, ◌≤◌, ◌+◌, ◌++◌, ℕ, List, [], length, decimal, false, None};
+ghost use Rattle.std.specs.Prelude.{◌≡◌, ◌≤◌, ◌+◌, ◌++◌, ℕ, List, [], length, false, None};
 ghost use Rattle.arrayvec.specs.ArrayVec.{array_vec_len};
 ghost use Rattle.oe_io.specs.Ports.{Streams};
 ghost use Rattle.oe_script.specs.Hearing.{IsBad};
@@ -7,7 +7,6 @@ ghost use Rattle.oe_script.specs.Session.{ScriptHeard};
 ghost use Rattle.oe_explain.specs.Explaining.{Explains, IsLineWhy, IsUntaken, IsWhy, Said, SaysOne};
 
 use arrayvec::ArrayVec;
-use itoa::Buffer;
 use oe_io::output::flush;
 use oe_io::ports::{Failed, Intake, Outlet};
 use oe_machine::Machine;
@@ -15,7 +14,7 @@ use oe_reasons::{tell, why};
 use oe_script::listeners::{Listener, Place};
 use oe_script::script::hear_script;
 use oe_script::session::ScriptFault;
-use oe_texts::{Pending, SIZE, text};
+use oe_texts::{Pending, SIZE, decimal, text};
 use std::alloc::Global;
 
 /// A listener that says on an output why each line is answered `BadLine`. Where the output failed
@@ -50,16 +49,6 @@ impl<E: Outlet> Listener for Explainer<E> {
         }
         self.has_failed = explain(&mut self.to, number, line, place).is_err();
     }
-}
-
-/// Appends a number in decimal.
-fn decimal(out: &mut Pending, number: u128)
-    requires { array_vec_len out.old + 39 ≤ SIZE }
-    ensures items { out.new.items ≡ out.old.items ++ decimal number }
-    ensures len { array_vec_len out.new ≤ array_vec_len out.old + 39 }
-{
-    let mut buffer = Buffer::new();
-    text(out, buffer.format(number).as_bytes());
 }
 
 /// Appends why a whole line is no command, while something is open, or nothing.

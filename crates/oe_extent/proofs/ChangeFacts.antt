@@ -150,10 +150,6 @@ none_used : (n : ℕ) (f : List Contents → ℕ) → f [] ≡ 0 → sum_by f (r
 none_used zero f e = refl
 none_used (suc n) f e = omega (arith, none_used n f e, e, sum_by-cons f [] (replicate n []))
 
-all_free : (n : ℕ) → count_of_free (replicate n true) ≡ n
-all_free zero = refl
-all_free (suc n) = omega (arith, all_free n, sum_by-cons (λ b. cond b 1 0) true (replicate n true))
-
 abbrev none : List Contents
 none = []
 

@@ -18,7 +18,7 @@ use Rattle.oe_rows.proofs.KeyFacts.{order_line_total}
 use Rattle.oe_model.specs.Keys.{order_of_line, customer_of_order}
 use Rattle.oe_model.specs.Rows.{Rows}
 use Rattle.oe_model.specs.FurtherConditions as further
-use Rattle.oe_model.specs.FurtherConditions.{if_of_customer, is_order_of, amount_for, delivered_for, paid_by}
+use Rattle.oe_model.specs.FurtherConditions.{if_of_customer, amount_for, delivered_for, paid_by}
 use Rattle.oe_ledgers.specs.ColumnLaws.{int_max_associative, int_max_commutative, max_associative, max_commutative}
 use Rattle.oe_ledgers.specs.Keys.{same_customer, same_order}
 use Rattle.oe_ledgers.specs.Figures.{c_balance, c_ytd_payment, paid_by_customer}

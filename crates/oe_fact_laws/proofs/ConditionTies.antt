@@ -20,7 +20,7 @@ use Rattle.oe_model.specs.Keys.{order_of_line, order_of_new_order, new_order_in}
 use Rattle.oe_model.specs.Rows.{Rows}
 use Rattle.oe_model.specs.Meets.{Meets}
 use Rattle.oe_model.specs.Conditions as model
-use Rattle.oe_model.specs.Conditions.{HasNewOrder, if_of_warehouse, if_of, ytd_of}
+use Rattle.oe_model.specs.Conditions.{if_of_warehouse, if_of, ytd_of}
 use Rattle.oe_model.specs.FurtherConditions as further
 use Rattle.oe_model.specs.FurtherConditions.{if_of_order, paid_in_warehouse}
 use Rattle.oe_model.proofs.SumFacts.{sum-none}

@@ -1,12 +1,11 @@
 -- Conditions 2, 3 and 7 are checked: the greatest and the least number of a district's rows, and the lines of an order.
 use Rattle.std.proofs.Common.{◌≡◌, ℕ, ◌+◌, ◌-◌, ◌≤◌, refl, sym, ◌∙◌, ap, subst, Bool, true, false}
 use Rattle.std.proofs.Common.{min, max, Option, Some, None, List, inl, inr, arith, ℤ, pos, ◌+ℤ◌, ◌-ℤ◌}
-use Rattle.std.specs.Prelude.{◌⊎◌, ◌↔◌, ◌&&◌, IsSome, is_some, unwrap_or, option_map, sum_by}
+use Rattle.std.specs.Prelude.{◌⊎◌, ◌↔◌, ◌&&◌, IsSome, unwrap_or, option_map}
 use Rattle.std.specs.Int.{int_max, int_min}
 use Rattle.std.specs.Cmp.{IsTotalOrder}
-use Rattle.std.specs.Ordering.{eq_by_cmp}
 use Rattle.std.specs.declared.cmp.Ordering.{Ordering}
-use Rattle.std.specs.FinMap.{FinMap, IsAntisymmetric, get, entries}
+use Rattle.std.specs.FinMap.{FinMap, IsAntisymmetric, get}
 use Rattle.std.proofs.lemmas.Int.{ints, clamps}
 use lib.IntN.{+ℤ_assoc, +ℤ_comm}
 use Rattle.oe_rows.specs.declared.keys.DistrictKey.{DistrictKey}
@@ -18,14 +17,14 @@ use Rattle.oe_model.specs.Keys.{order_in, new_order_in}
 use Rattle.oe_model.specs.Rows.{Rows}
 use Rattle.oe_model.specs.Meets.{Meets}
 use Rattle.oe_model.specs.Conditions as model
-use Rattle.oe_model.specs.Conditions.{IsGreatest, IsLeast, IsAfterGreatest, HasOrder, HasNewOrder, if_of, new_orders_of}
+use Rattle.oe_model.specs.Conditions.{IsAfterGreatest, HasOrder, HasNewOrder, if_of, new_orders_of}
 use Rattle.oe_model.proofs.MapFacts.{is_same, is_self}
 use Rattle.oe_model.proofs.PresenceFacts.{present_some, some_present}
 use Rattle.oe_facts.specs.declared.keys.DistrictId.{DistrictId}
 use Rattle.oe_ledgers.specs.ColumnLaws.{int_max_associative, int_max_commutative}
 use Rattle.oe_ledgers.specs.Columns.{of_key}
 use Rattle.oe_ledgers.specs.Keys as ids
-use Rattle.oe_ledgers.specs.Keys.{same_district, same_order}
+use Rattle.oe_ledgers.specs.Keys.{same_district}
 use Rattle.oe_ledgers.specs.Figures.{d_next_order, greatest_order, greatest_new_order, least_new_order}
 use Rattle.oe_ledgers.specs.Figures.{new_orders_of_district}
 use Rattle.oe_checks.specs.Comparing.{next, next_if_any, span, unless_equal}
@@ -34,7 +33,7 @@ use Rattle.oe_fact_laws.specs.Facts.{Facts, AreFactsOf, AreOf, district_fact, or
 use Rattle.oe_fact_laws.specs.Facts.{district_id}
 use Rattle.oe_fact_laws.specs.FactLaws.{FindsNothing, AreNumbersToGive}
 use Rattle.oe_fact_laws.proofs.FigureFacts.{of_row, sum_of_group, IsFigure, extreme, none_there}
-use Rattle.oe_fact_laws.proofs.TiedFacts.{district_tie, both_ways, by_rows, equal_tied, numbers_tied}
+use Rattle.oe_fact_laws.proofs.TiedFacts.{district_tie, both_ways, by_rows, equal_tied}
 use Rattle.oe_fact_laws.proofs.TiedFacts.{int_min_associative, int_min_commutative}
 
 -- the greatest, or the least, number of a district's rows

@@ -22,7 +22,7 @@ use Rattle.oe_model.specs.FurtherConditions.{if_of_order, if_of_customer}
 use Rattle.oe_movements.specs.Movements as movements
 use Rattle.oe_movements.specs.Movements.{delivered_of, order_sum, is_ordered, quantity_of, one_line, one_remote}
 use Rattle.oe_movements.specs.Movements.{payments_of, deliveries_to, is_delivered_to, All_local_at}
-use Rattle.oe_movements.specs.Movements.{Stock_quantity_at, Stock_ytd_at, Stock_orders_at, Stock_remote_at}
+use Rattle.oe_movements.specs.Movements.{Stock_quantity_at}
 use Rattle.oe_movements.specs.Movements.{Payment_count_at, Delivery_count_at}
 use Rattle.oe_movements.proofs.LocalFacts.{remotes_of, home_tied}
 use Rattle.oe_facts.specs.declared.facts.StockFact.{StockFact}
@@ -35,7 +35,7 @@ use Rattle.oe_ledgers.specs.Figures.{greatest_of, sum_of, s_quantity}
 use Rattle.oe_ledgers.specs.Figures.{c_payments, payments_of_customer, c_deliveries}
 use Rattle.oe_ledgers.specs.Figures.{deliveries_to_customer, is_remote, remote_lines}
 use Rattle.oe_checks.specs.declared.figures.Apart.{Apart}
-use Rattle.oe_checks.specs.Comparing.{any_against, outside, unless_equal}
+use Rattle.oe_checks.specs.Comparing.{any_against, outside}
 use Rattle.oe_checks.specs.Movements as moved
 use Rattle.oe_fact_laws.specs.Facts.{Facts, AreFactsOf, customer_fact, history_fact, order_fact, line_fact, stock_fact}
 use Rattle.oe_fact_laws.specs.Facts.{customer_id, order_id, stock_id}

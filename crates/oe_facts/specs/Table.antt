@@ -16,6 +16,18 @@ name_of table.OrderLine = codes "orderline"
 name_of table.Item = codes "item"
 name_of table.Stock = codes "stock"
 
+-- the place of a table among the nine
+abbrev pub place_of : Table → ℕ
+place_of table.Warehouse = 0
+place_of table.District = 1
+place_of table.Customer = 2
+place_of table.History = 3
+place_of table.NewOrder = 4
+place_of table.Order = 5
+place_of table.OrderLine = 6
+place_of table.Item = 7
+place_of table.Stock = 8
+
 abbrev pub table_of : Fact → Table
 table_of (fact.Warehouse f) = table.Warehouse
 table_of (fact.District f) = table.District

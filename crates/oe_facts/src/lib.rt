@@ -11,4 +11,4 @@ pub use facts::{
     StockFact, WarehouseFact,
 };
 pub use keys::{CustomerId, DistrictId, OrderId, StockId};
-pub use tables::{Fact, Table};
+pub use tables::{Fact, TABLES, Table};

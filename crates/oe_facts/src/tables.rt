@@ -1,6 +1,6 @@
 //! The nine tables (clause 1.2), and a fact of any of them.
-ghost use Rattle.std.specs.Prelude.{◌≡◌};
-ghost use Rattle.oe_facts.specs.Table.{name_of, table_of};
+ghost use Rattle.std.specs.Prelude.{◌≡◌, ◌<◌};
+ghost use Rattle.oe_facts.specs.Table.{name_of, place_of, table_of};
 
 use crate::facts::{
     CustomerFact, DistrictFact, HistoryFact, ItemFact, NewOrderFact, OrderFact, OrderLineFact,
@@ -21,7 +21,38 @@ pub enum Table {
     Stock,
 }
 
+/// The nine tables, in the order of clause 1.3.1.
+pub const TABLES: [Table; 9] = [
+    Table::Warehouse,
+    Table::District,
+    Table::Customer,
+    Table::History,
+    Table::NewOrder,
+    Table::Order,
+    Table::OrderLine,
+    Table::Item,
+    Table::Stock,
+];
+
 impl Table {
+    /// Gives the table's place among the nine, from 0 on.
+    pub fn place(self) -> usize
+        ensures value { result ≡ place_of self }
+        ensures below { result < 9 }
+    {
+        match self {
+            Table::Warehouse => 0,
+            Table::District => 1,
+            Table::Customer => 2,
+            Table::History => 3,
+            Table::NewOrder => 4,
+            Table::Order => 5,
+            Table::OrderLine => 6,
+            Table::Item => 7,
+            Table::Stock => 8,
+        }
+    }
+
     /// Gives the table's name, as dumps and reports have it.
     pub fn name(self) -> &'static str
         ensures { result.now ≡ name_of self }

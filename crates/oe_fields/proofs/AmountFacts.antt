@@ -1,7 +1,7 @@
 -- An amount of digits, a point and two decimals, read without a search for its field's end.
 use Rattle.std.proofs.Common.{◌≡◌, ◌≢◌, ℕ, ◌+◌, ◌-◌, ◌*◌, ◌^◌, ◌<◌, ◌≤◌, List, [], ◌∷◌, ◌++◌, length}
 use Rattle.std.proofs.Common.{Bool, true, false, cond}
-use Rattle.std.proofs.Common.{nat_lt, Option, Some, None, eqb, ◌&&◌, sym, ap, ◌∙◌, refl, arith}
+use Rattle.std.proofs.Common.{Option, Some, None, eqb, ◌&&◌, sym, ap, ◌∙◌, refl, arith}
 use Rattle.std.specs.Prelude.{ℤ, pos, codes, ◌==◌, ◌||◌}
 use Rattle.std.specs.Option.{IfSome}
 use Rattle.std.specs.Char.{is_ascii_digit}
@@ -9,13 +9,13 @@ use Rattle.std.proofs.lemmas.Bool.Decides.{nat_tests}
 use Rattle.std.proofs.lemmas.Bool.{lt-ltb, le-leb, eqb-true}
 use Rattle.oe_fields.specs.declared.fields.Format.{Format}
 use Rattle.oe_fields.specs.declared.fields.Format.TheVariants.{Tabs, Commas}
-use Rattle.oe_fields.specs.Front.{BeginsWith, BeginsWithAmount}
-use Rattle.oe_fields.specs.Parting.{held_behind, parts, before_first, parted_from, left_of, text_of}
-use Rattle.oe_fields.specs.Spelling.{digits_of, behind_digits, begins_with_digit, sum_of_digits, whole_of, decimals_of}
-use Rattle.oe_fields.specs.Spelling.{hundredths_of, within_most, is_word, cents_of, sign_of, amount_of, two_decimals_of}
+use Rattle.oe_fields.specs.Front.{BeginsWithAmount}
+use Rattle.oe_fields.specs.Parting.{held_behind, parts, before_first, parted_from, left_of}
+use Rattle.oe_fields.specs.Spelling.{digits_of, behind_digits, begins_with_digit, sum_of_digits, whole_of}
+use Rattle.oe_fields.specs.Spelling.{within_most, is_word, cents_of, sign_of, amount_of, two_decimals_of}
 use Rattle.oe_fields.specs.Spelling.{number_of, quantity_of}
 use Rattle.oe_fields.specs.Spelling.{◌>>=◌}
-use Rattle.oe_fields.proofs.FrontFacts.{digits_whole, digit_plain, ended_by, parted_end, behind_short, Read, was_read}
+use Rattle.oe_fields.proofs.FrontFacts.{digits_whole, digit_plain, ended_by, parted_end, behind_short, was_read}
 use Rattle.oe_fields.proofs.FrontFacts.{begins, digits_text}
 
 -- ---- bytes that part no fields

@@ -1,7 +1,7 @@
 -- Where a line is parted.
 use Rattle.std.proofs.Common.{◌≡◌, ℕ, zero, suc, ◌+◌, ◌-◌, ◌<◌, ◌≤◌, List, [], ◌∷◌, length, take, drop, get_or, Bool}
 use Rattle.std.proofs.Common.{true, false, cond, Option, Some, None, sym, ap, ◌∙◌, refl, arith, take_all, map}
-use Rattle.std.proofs.Common.{length-take, get_or-take, drop-drop, min, subst, ◌||◌, ◌==◌}
+use Rattle.std.proofs.Common.{length-take, get_or-take, drop-drop, subst, ◌||◌, ◌==◌}
 use Rattle.std.proofs.lemmas.Bool.Decides.{nat_tests}
 use Rattle.std.specs.Prelude.{slice_get}
 use Rattle.std.specs.Option.{option_map}

@@ -14,7 +14,8 @@ use Rattle.oe_columns.specs.declared.headings.LayoutFault.TheVariants as layout
 use Rattle.oe_sources.specs.declared.faults.SourceFault.{SourceFault}
 use Rattle.oe_sources.specs.declared.faults.Wrong.{Wrong}
 use Rattle.oe_sources.specs.declared.faults.Wrong.TheVariants as wrong
-use Rattle.oe_sources.specs.Fault.{Told, place_of}
+use Rattle.oe_facts.specs.Table.{place_of}
+use Rattle.oe_sources.specs.Fault.{Told}
 use Rattle.oe_books.specs.declared.closing.Lack.{Lack}
 use Rattle.oe_books.specs.declared.closing.Lack.TheVariants as lack
 use Rattle.oe_books.specs.Closing.{tables}

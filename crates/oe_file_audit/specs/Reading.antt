@@ -10,7 +10,8 @@ use Rattle.oe_earlier.specs.Traces.{Traced, no_rows, with_row, traced_together}
 use Rattle.oe_earlier.specs.Keeping.{KeepsTraces}
 use Rattle.oe_filelines.specs.Lines.{AreLines, AreAll}
 use Rattle.oe_sources.specs.Dump.{dump_says, dump_faults}
-use Rattle.oe_sources.specs.Fault.{Told, place_of, no_faults, with_each_fault}
+use Rattle.oe_facts.specs.Table.{place_of}
+use Rattle.oe_sources.specs.Fault.{Told, no_faults, with_each_fault}
 use Rattle.oe_sources.specs.Tables.{table_says}
 use Rattle.oe_sources.specs.Taken.{spelling}
 use Rattle.oe_sources.specs.declared.ledgers.Taken as taken

@@ -3,7 +3,7 @@
 //! sources stands `before/`. No memory is taken.
 ghost use Rattle.std.specs.Prelude.{◌≡◌, ◌≤◌, ◌+◌, ◌++◌, [], length, slice_index};
 ghost use Rattle.oe_columns.specs.Constants.{constant_names};
-ghost use Rattle.oe_sources.specs.Fault.{place_of};
+ghost use Rattle.oe_facts.specs.Table.{place_of};
 ghost use Rattle.std.specs.List.{flat_map};
 ghost use Rattle.arrayvec.specs.ArrayVec.{array_vec_len};
 ghost use Rattle.oe_io.specs.Ports.{Streams};
@@ -13,26 +13,13 @@ use crate::causes::{cause_name, cause_of};
 use oe_audit_report::lines::{LineOf, Lines, TextOf, put_each, put_line};
 use oe_books::Lack;
 use oe_columns::{Kind, LayoutFault, constant_columns, fact_columns};
-use oe_facts::Table;
+use oe_facts::{TABLES, Table};
 use oe_fields::Format;
 use oe_io::output::flush;
 use oe_io::ports::{Failed, Outlet};
 use oe_sources::{Faults, SourceFault, Wrong};
 use oe_texts::columns::number;
 use oe_texts::{LONGEST, Pending, SIZE, text};
-
-// The tables, in the order of a report.
-const TABLES: [Table; 9] = [
-    Table::Warehouse,
-    Table::District,
-    Table::Customer,
-    Table::History,
-    Table::NewOrder,
-    Table::Order,
-    Table::OrderLine,
-    Table::Item,
-    Table::Stock,
-];
 
 /// Whether a line names today's sources or the earlier ones.
 #[derive(Clone, Copy)]

@@ -10,7 +10,6 @@ ghost use Rattle.oe_file_audit.specs.declared.reading.TableSource.{TableSource};
 ghost use Rattle.oe_earlier.specs.Traces.{Traced};
 ghost use Rattle.oe_earlier.specs.Keeping.{KeepsTraces};
 ghost use Rattle.oe_books.specs.Facts.{stands_apart};
-ghost use Rattle.oe_sources.specs.Fault.{place_of};
 ghost use Rattle.oe_file_audit.specs.Reading.{Holds, HoldsBoth, with_print, TablesRead, ReadAlone, PutBehind, IsBehind, has_source, StopsAt, DumpRead};
 
 use oe_books::Books;
@@ -264,30 +263,13 @@ fn stands_apart(table: Table) -> bool
     }
 }
 
-// Gives the place of a table among the nine.
-fn place_of(table: Table) -> u8
-    ensures { result ≡ place_of table }
-{
-    match table {
-        Table::Warehouse => 0,
-        Table::District => 1,
-        Table::Customer => 2,
-        Table::History => 3,
-        Table::NewOrder => 4,
-        Table::Order => 5,
-        Table::OrderLine => 6,
-        Table::Item => 7,
-        Table::Stock => 8,
-    }
-}
-
 // Tells whether a source is of that table.
 fn has_source<S>(sources: &[TableSource<S>], table: Table) -> bool
     ensures { result ≡ has_source sources.now table }
 {
     sources
         .iter()
-        .any(|source| place_of(source.table) == place_of(table))
+        .any(|source| source.table.place() == table.place())
 }
 
 // Tells whether the source of a table may be read by itself beside those before it.

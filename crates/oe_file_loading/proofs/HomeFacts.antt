@@ -31,10 +31,6 @@ use Rattle.oe_file_loading.proofs.PlaceFacts.{put_kept, put_met, only_put}
 
 -- ---- one district more
 
-pub put_no_district : (m : FinMap district_cmp District) (key : DistrictKey) (x : District) → IsSome (get m key)
-    → PutsDistrict m m key x
-put_no_district m key x h = record { grows = λ k g. g; put = h; only = λ k g. inl g; rows = λ k y e. inl e }
-
 pub put_one_district : (old new : FinMap district_cmp District) (key : DistrictKey) (x : District)
     → IsInRange 1 10 key.district → new ≡ insert old key x → PutsDistrict old new key x
 put_one_district old new key x range e = record {

@@ -8,25 +8,12 @@ ghost use Rattle.oe_file_loading.specs.Files.{AreTheirs, IsOneOpen, AreOpen};
 use crate::files::{TableFile, reader_of};
 use crate::loading::Sources;
 use crate::pace::Pace;
-use oe_rows::Table;
+use oe_rows::{TABLES, Table};
 use std::alloc::{AllocError, Global};
 use std::io::ErrorKind;
 use std::path::{Path, PathBuf};
 use std::rt::Files;
 use std::{fs, io};
-
-// The tables, in the order in which their files are opened.
-const TABLES: [Table; 9] = [
-    Table::Warehouse,
-    Table::District,
-    Table::Customer,
-    Table::History,
-    Table::NewOrder,
-    Table::Order,
-    Table::OrderLine,
-    Table::Item,
-    Table::Stock,
-];
 
 /// Gives the path of a table's file in a folder.
 pub fn path_in(alloc: Global, folder: &str, table: Table) -> Result<PathBuf, AllocError>

@@ -73,15 +73,6 @@ last_is : (front : List ℕ) → get_or (front ++ 32 ∷ []) (length front) 0 �
 last_is [] = refl
 last_is (b ∷ front) = last_is front
 
-pub blank_last : (bytes front : List ℕ) (n : ℕ) → n + 1 ≡ length bytes → bytes ≡ front ++ codes " "
-    → get_or bytes n 0 ≡ 32
-blank_last bytes front n long is =
-    let same : n ≡ length front = omega (arith, long, ap length is, length-append front (codes " ")) in
-    ap (λ (xs : List ℕ). get_or xs n 0) is ∙ (ap (λ (k : ℕ). get_or (front ++ 32 ∷ []) k 0) same ∙ last_is front)
-
-pub no_blank : (bytes front : List ℕ) → length bytes ≡ 0 → bytes ≡ front ++ codes " " → ⊥
-no_blank bytes front none is = absurd (omega (arith, none, ap length is, length-append front (codes " ")))
-
 pub before_last : (bytes : List ℕ) (n : ℕ) → n + 1 ≡ length bytes → get_or bytes n 0 ≡ 32
     → bytes ≡ take n bytes ++ codes " "
 before_last bytes n long is =

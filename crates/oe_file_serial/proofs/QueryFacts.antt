@@ -8,15 +8,12 @@ use Rattle.std.proofs.lemmas.List.{append_cancel_left}
 use Rattle.std.proofs.lemmas.List.Elements.{All-append, All-cons, All-nil}
 use Rattle.oe_requests.specs.declared.requests.Query.{Query}
 use Rattle.oe_requests.specs.declared.requests.Query.TheVariants as query
-use Rattle.oe_requests.specs.declared.requests.Request.{Request}
 use Rattle.oe_lines.specs.Grammar.{Says, IsQuery, query_words}
 use Rattle.oe_lines.specs.declared.commands.Command.TheVariants as command
 use Rattle.oe_lines.specs.declared.commands.MomentChoice.TheVariants as moment
 use Rattle.oe_values.specs.declared.numbers.TheConstants.{TERMINALS}
 use Rattle.oe_reply_words.specs.Parts.{IsWithout, IsParted}
-use Rattle.oe_file_serial.specs.Files.{AsksFor, Asks}
-use Rattle.oe_file_serial.specs.declared.lines.Asked.{Asked}
-use Rattle.oe_file_serial.specs.declared.lines.Asked.TheVariants as asked
+use Rattle.oe_file_serial.specs.Files.{AsksFor}
 use Rattle.oe_reply_words.proofs.PartFacts.{parted_once}
 
 -- digits have no blank among them
@@ -103,9 +100,3 @@ pub is_asked : (words front behind : List ℕ) (t : ℕ) → IsParted 32 words f
     → MatchOption r ((q : Query) → AsksFor words q → ⊥) (AsksFor words)
 is_asked words front behind t p n None none = λ q a. none q (query_said words front behind q p a)
 is_asked words front behind t p n (Some q) said = asked_for words front behind t q p n said
-
--- neither a query nor a transaction
-pub asks_nothing : (words : List ℕ) → ((q : Query) → AsksFor words q → ⊥)
-    → ((t : ℕ) (q : Request) → Says (codes "begin " ++ words) (command.Begin t q) → ⊥) → (a : Asked) → Asks words a → ⊥
-asks_nothing words none never (asked.Transaction t q) s = never t q s
-asks_nothing words none never (asked.Query q) s = none q s

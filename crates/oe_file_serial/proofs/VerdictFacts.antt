@@ -2,9 +2,9 @@
 use Rattle.std.proofs.Common.{◌≡◌, ℕ, List, [], ◌∷◌, ◌++◌, Option, Some, None, sym, subst, ◌∙◌}
 use Rattle.std.proofs.Common.{refl}
 use Rattle.std.specs.Prelude.{All, MatchOption}
-use Rattle.std.specs.FinMap.{empty}
 use Rattle.oe_model.specs.Rows.{Rows}
 use Rattle.oe_model.specs.System.{system}
+use Rattle.oe_store.specs.Places.{no_rows}
 use Rattle.oe_file_serial.specs.InOrder.{Between, at_first}
 use Rattle.oe_file_serial.specs.Files.{IsTold, lines_of, last_of}
 use Rattle.oe_file_serial.specs.Verdicts.{Agrees, AreSerial, IsVerdict, Begins, EndsSo, IsDecided, verdict_of, Leaves}
@@ -66,20 +66,7 @@ decided o input opening ours lines base b end are ended told begins first (verdi
 
 -- where nothing was run
 pub no_tables : Between system
-no_tables = record {
-  rows = record {
-    warehouses = empty;
-    districts = empty;
-    customers = empty;
-    histories = empty;
-    new_orders = empty;
-    orders = empty;
-    order_lines = empty;
-    items = empty;
-    stocks = empty;
-  };
-  counts = λ t. 0;
-}
+no_tables = record { rows = no_rows; counts = λ t. 0 }
 
 -- the same of a decision, whose verdict it is
 pub decision_so : (o : Origin) (input ours : List ℕ) (d : Decision) (v : Verdict) (end : Between system)

@@ -8,8 +8,7 @@ use crate::lines::BadLines;
 use crate::reasons::{BadLine, bad_line};
 use oe_io::output::flush;
 use oe_io::ports::{Failed, Outlet};
-use oe_reply_words::decimal;
-use oe_texts::{Pending, text};
+use oe_texts::{Pending, decimal, text};
 
 // Writes why a line has no form. Nothing waits before or afterwards.
 fn write_bad_line<W: Outlet>(bad: &BadLine, to: &mut W) -> Result<(), Failed>

@@ -10,8 +10,8 @@ use crate::lines::{LINE, is_terminal, told};
 use crate::origins::Opening;
 use arrayvec::ArrayVec;
 use oe_reasons::{Reason, tell, why};
-use oe_reply_words::{decimal, parted_at};
-use oe_texts::{Pending, SIZE, text};
+use oe_reply_words::parted_at;
+use oe_texts::{Pending, SIZE, decimal, text};
 
 /// What words of a line are read behind.
 #[derive(Clone, Copy)]

@@ -4,18 +4,8 @@ ghost use Rattle.arrayvec.specs.ArrayVec.{array_vec_len};
 ghost use Rattle.oe_file_serial.specs.Worlds.{commit_front};
 ghost use Rattle.oe_file_serial.specs.Verdicts.{serial_line, differs_line};
 
-use oe_reply_words::decimal;
-use oe_texts::{Pending, SIZE};
+use oe_texts::{Pending, SIZE, decimal, text};
 use oe_values::Moment;
-
-// Appends these bytes.
-fn text(out: &mut Pending, bytes: &[u8])
-    requires { array_vec_len out.old + length bytes.now ≤ SIZE }
-    ensures items { out.new.items ≡ out.old.items ++ bytes.now }
-    ensures len { array_vec_len out.new ≡ array_vec_len out.old + length bytes.now }
-{
-    out.try_extend_from_slice(bytes).unwrap();
-}
 
 /// Writes `commit <moment> `.
 pub(crate) fn commit_front(out: &mut Pending, moment: Moment)

@@ -1,6 +1,6 @@
 -- A file goes on by one byte or one line.
 use Rattle.std.proofs.Common.{◌≡◌, ◌≢◌, ℕ, ◌+◌, ◌<◌, ◌≤◌, inl, inr, Bool, true, false, List, [], ◌∷◌}
-use Rattle.std.proofs.Common.{◌++◌, length, take, drop, get_or, Option, Some, None, sym, ap, subst, ◌∙◌, refl}
+use Rattle.std.proofs.Common.{◌++◌, length, take, Option, Some, None, sym, ap, subst, ◌∙◌, refl}
 use Rattle.std.proofs.Common.{append_assoc, arith}
 use Rattle.std.specs.Prelude.{⊤, Result, Ok, Err}
 use Rattle.oe_io.specs.Ports.{Source, Reads}
@@ -21,7 +21,7 @@ use Rattle.oe_filelines.specs.Lines.{Finished}
 use Rattle.oe_file_tables.specs.Lines.{said_of, IsWrong, counts, Taken, Begins}
 use Rattle.oe_file_tables.specs.Lines.{TakesRow}
 use Rattle.oe_file_tables.specs.Lines.{TakesHeading, TakesCount, TakesFault, Stands, AreAll, FileRead}
-use Rattle.oe_file_tables.specs.Tables.{TableReadAs, TableRead, ReadWellAs, ReadWell}
+use Rattle.oe_file_tables.specs.Tables.{TableReadAs, ReadWellAs}
 use Rattle.oe_file_tables.specs.Twice.{twice_in}
 use Rattle.oe_file_tables.proofs.RecordFacts.{some_inj}
 use Rattle.oe_file_tables.proofs.TwiceFacts.{none_each, once}
@@ -31,12 +31,6 @@ use Rattle.std.specs.declared.cmp.Ordering.{Ordering}
 use Rattle.oe_file_tables.specs.Reading.{CountsOne, TakesOne, TakesRead, TableTaken}
 
 -- ---- the number of the next line
-
-shown_below : (n : ℕ) → n < 18446744073709551615 → in_64_bits n ≡ n
-shown_below n h = omega arith
-
-shown_past : (n : ℕ) → 18446744073709551615 ≤ n → in_64_bits n ≡ 18446744073709551615
-shown_past n h = omega arith
 
 pub shown_next : (n m : ℕ) → n ≡ in_64_bits m → in_64_bits (n + 1) ≡ in_64_bits (m + 1)
 shown_next n m e = omega (arith, e)
@@ -254,10 +248,3 @@ table_read_as format cmp total key_of spells table old new start told rows l e =
       ),
       none.1,
     )
-
-pub table_read : {K X : Type 0} (cmp : K → K → Ordering) (total : IsTotalOrder cmp) (key_of : K → Key)
-    (spells : ℕ → List ℕ → K × X → Type 0) (table : Table) (old new : Option Source) (start told : Told TableFault)
-    (rows : List (Numbered K X)) → TableRead cmp key_of spells table old new start told rows → told.count ≡ 0
-    → ReadWell cmp spells table old new rows × (start.count ≡ 0)
-table_read cmp total key_of spells table old new start told rows =
-    table_read_as written.Dump cmp total key_of spells table old new start told rows

@@ -37,16 +37,3 @@ next_byte b s line line' w v n m e = went line line' v m s (step b w n) e
 pub no_next : (b : ℕ) (s line : List ℕ) (w : Within) (n : Option ℕ) → line_onward line (step b w n) ≡ None
     → whole line (b ∷ s) w n ≡ None
 no_next b s line w n e = ap (λ o. option_map (λ t. line ++ t) o) (stopped line s (step b w n) e)
-
--- a null, and the end of its field
-pub ends_empty : (line add line' : List ℕ) (w : Within) (n n' : Option ℕ) (end : Option ℕ → Option ℕ)
-    → ◌≡◌ {A = Option (List ℕ × Within × Option ℕ)} (Some (line ++ add, w, n)) (Some (line', w, n'))
-    → ◌≡◌ {A = Option (List ℕ × Within × Option ℕ)} (Some (line' ++ 9 ∷ [], w, end n'))
-    (Some (line ++ (add ++ 9 ∷ []), w, end n))
-ends_empty line add line' w n n' end e =
-    let p = some_inj _ _ e in
-    λ i. Some (
-      (sym (ap (λ (q : List ℕ × Within × Option ℕ). q.0 ++ 9 ∷ []) p) ∙ append_assoc line add (9 ∷ [])) i,
-      w,
-      end (sym (ap (λ (q : List ℕ × Within × Option ℕ). q.2) p) i),
-    )

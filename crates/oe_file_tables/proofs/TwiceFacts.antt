@@ -89,10 +89,6 @@ module _ {K X : Type 0} (cmp : K → K → Ordering) (table : Table) (key_of : K
       ≡ with_each_fault (twice_in cmp table key_of (take m ns)) start) next
       (told_more ns i p n start now high (subst (λ (m : ℕ). p ≡ get_or ns m p) less is-p) is-n told)
 
-  pub twice_first : (ns : List (Numbered K X)) → twice_in cmp table key_of (take 1 ns) ≡ []
-  twice_first [] = refl
-  twice_first (n ∷ ns) = refl
-
   -- ---- no key stands twice
 
   behind_other : (p : Numbered K X) (ns : List (Numbered K X)) (i : ℕ) (d : Numbered K X)

@@ -45,8 +45,3 @@ abbrev pub ReadWellAs : Format → {K X : Type 0} → (K → K → Ordering) →
 ReadWellAs format cmp spells table old new rows =
     ((bytes : List ℕ) × AreAll old new bytes × AreRowsOf format spells table bytes rows)
     × IsStrictlySortedBy cmp (map (λ n. n.key) rows)
-
--- the same of a file that a dump prints
-abbrev pub ReadWell : {K X : Type 0} → (K → K → Ordering) → (ℕ → List ℕ → K × X → Type 0) → Table → Option Source
-    → Option Source → List (Numbered K X) → Type 0
-ReadWell = ReadWellAs written.Dump

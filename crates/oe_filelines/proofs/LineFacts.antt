@@ -130,21 +130,6 @@ module _ {T : Type 0} (longest : ℕ) (taken : List (List ℕ) → T → Type 0)
         takes s.line s.holds s.lines s.stands,
       )
 
--- what took the lines may be told in other words
-pub standing_map : {T U : Type 0} (longest : ℕ) (taken : List (List ℕ) → T → Type 0)
-    (told : List (List ℕ) → U → Type 0) (input : List ℕ) (held : Held) (now : T) (then : U)
-    → ((ls : List (List ℕ)) → taken ls now → told ls then)
-    → Standing longest taken input held now → Standing longest told input held then
-standing_map longest taken told input held now then says s = record {
-  lines = s.lines;
-  line = s.line;
-  whole = s.whole;
-  each = s.each;
-  tail = s.tail;
-  stands = says s.lines s.stands;
-  holds = s.holds;
-}
-
 -- ---- what calls of the reader gave
 
 abbrev pub ReadSoFar : Option (List ℕ) → Option (List ℕ) → List ℕ → Type 0

@@ -1,7 +1,7 @@
 -- The laws of the formulas of an order.
 use Rattle.std.proofs.Common.{◌≡◌, ℕ, ◌+◌, ◌-◌, ◌*◌, ◌/◌, ◌≤◌, ◌<◌, refl, sym, ◌∙◌, ap, subst, Bool, true, false, cond}
-use Rattle.std.proofs.Common.{List, [], ◌∷◌, ◌++◌, length, Option, Some, None, arith}
-use Rattle.std.specs.Prelude.{fold, filter, sum_by, nat_le, sum, get_or, slice_get}
+use Rattle.std.proofs.Common.{List, [], ◌∷◌, ◌++◌, length, Some, None, arith}
+use Rattle.std.specs.Prelude.{fold, filter, sum_by, nat_le, sum}
 use Rattle.std.specs.Int.{IsInRange}
 use Rattle.std.specs.Ordering.{eq_by_cmp}
 use Rattle.std.specs.Cmp.{IsTotalOrder}
@@ -13,8 +13,7 @@ use Rattle.oe_rows.proofs.KeyFacts.{order_line_total, exact_order_line}
 use Rattle.std.proofs.lemmas.Bool.{leb-true, leb-false}
 use Rattle.std.proofs.lemmas.List.Sums.{sum_by-cons}
 use Rattle.std.proofs.lemmas.Option.{get_or_from_slice_get}
-use Rattle.oe_rows.specs.Key.{order_cmp, order_line_cmp}
-use Rattle.oe_rows.specs.declared.keys.OrderKey.{OrderKey}
+use Rattle.oe_rows.specs.Key.{order_cmp}
 use Rattle.oe_rows.specs.declared.keys.OrderLineKey.{OrderLineKey}
 use Rattle.oe_rows.specs.declared.keys.StockKey.{StockKey}
 use Rattle.oe_rows.specs.declared.items.Stock.{Stock}
@@ -24,7 +23,7 @@ use Rattle.oe_requests.specs.declared.requests.NewOrderRequest.{NewOrderRequest}
 use Rattle.oe_model.specs.Keys.{order_of_line}
 use Rattle.oe_model.specs.Rows.{Rows}
 use Rattle.oe_model.specs.Positions.{Filled}
-use Rattle.oe_model.specs.Effects.{◌>>=◌, in_range}
+use Rattle.oe_model.specs.Effects.{◌>>=◌}
 use Rattle.oe_model.specs.NewOrder.{stock_after, quantities_for, after_lines, line_filled_from, all_filled, fill}
 use Rattle.oe_model.specs.NewOrder.{item_at, stock_of}
 use Rattle.oe_model.specs.NewOrder.{stock_out}

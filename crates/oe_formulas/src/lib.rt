@@ -4,5 +4,6 @@
 
 pub mod deliveries;
 pub mod laws;
+pub mod names;
 pub mod orders;
 pub mod payments;

@@ -1,5 +1,6 @@
 //! Commands that begin with the population of a folder's nine files: what they come to where it is
-//! one, and that they do nothing where it is none.
+//! one, and that they do nothing where it is none. The first type parameter of each is the machine
+//! that it opens.
 #![tactic(auto)]
 
 pub mod gaps;

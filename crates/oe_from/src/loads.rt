@@ -5,11 +5,11 @@ ghost use Rattle.oe_from.specs.Loads.{LoadFromRan, plan_of};
 
 use crate::scales::{Gap, scale_of};
 use crate::serials::FromFault;
-use oe_core::Core;
 use oe_file_loading::Sources;
 use oe_file_tables::Format;
 use oe_io::ports::{Intake, Outlet};
 use oe_load::{LoadFault, Origin, run_load};
+use oe_machine::Machine;
 use oe_numbers::{FollowingNumbers, Form, Items, Kinds, LoadNumbers, Ordinal};
 use oe_origin::load_population;
 use oe_rows::Scale;
@@ -58,7 +58,7 @@ impl Following {
 ///
 /// `NoPopulation` as `load_population` has it. `NoScale`: the numbers of its warehouses or items
 /// have a gap, or a district lacks a customer or a last name. Other faults are those of `run_load`.
-pub fn run_load_from<S: Intake, W: Outlet>(
+pub fn run_load_from<M: Machine, S: Intake, W: Outlet>(
     alloc: Global,
     format: Format,
     from: &mut Sources<S>,
@@ -81,7 +81,7 @@ pub fn run_load_from<S: Intake, W: Outlet>(
         }
     };
     let plan = &following.plan(scale);
-    match run_load::<Core, W>(alloc, plan, Origin::Tables(tables), form, writer) {
+    match run_load::<M, W>(alloc, plan, Origin::Tables(tables), form, writer) {
         Ok(()) => Ok(()),
         Err(fault) => Err(FromFault::Fault(FollowingFault::Load(fault))),
     }

@@ -5,10 +5,10 @@ ghost use Rattle.oe_store.specs.Places.{rows};
 ghost use Rattle.oe_from.specs.Scripts.{OpenedRan, ScriptFromRan};
 
 use crate::serials::FromFault;
-use oe_core::Core;
 use oe_file_loading::Sources;
 use oe_file_tables::Format;
 use oe_io::ports::{Intake, Outlet};
+use oe_machine::Machine;
 use oe_origin::load_population;
 use oe_rows::Layout;
 use oe_script::script::run_opened_script;
@@ -30,7 +30,7 @@ pub enum OpenedFault {
 }
 
 // Answers a script on tables that are a population, with such an undo ring.
-fn run_on<R: Intake, W: Outlet>(
+fn run_on<M: Machine, R: Intake, W: Outlet>(
     alloc: Global,
     tables: Tables,
     extents: ExtentCount,
@@ -42,7 +42,7 @@ fn run_on<R: Intake, W: Outlet>(
     ensures { OpenedRan (rows tables) extents layout (R.source reader.old) (R.source reader.new)
         (W.sink writer.old) (W.sink writer.new) result }
 {
-    let core = match Core::open(alloc, tables, extents, layout) {
+    let core = match M::open(alloc, tables, extents, layout) {
         Ok(core) => core,
         Err(_) => return Err(OpenedFault::NoMemory),
     };
@@ -57,7 +57,7 @@ fn run_on<R: Intake, W: Outlet>(
 ///
 /// `NoPopulation` as `load_population` has it; other faults are those of `run_script`, or a want of
 /// memory before anything is read.
-pub fn run_script_from<S: Intake, R: Intake, W: Outlet>(
+pub fn run_script_from<M: Machine, S: Intake, R: Intake, W: Outlet>(
     alloc: Global,
     format: Format,
     from: &mut Sources<S>,
@@ -74,7 +74,7 @@ pub fn run_script_from<S: Intake, R: Intake, W: Outlet>(
         Ok(tables) => tables,
         Err(error) => return Err(FromFault::NoPopulation(error)),
     };
-    match run_on(alloc, tables, extents, layout, reader, writer) {
+    match run_on::<M, R, W>(alloc, tables, extents, layout, reader, writer) {
         Ok(()) => Ok(()),
         Err(fault) => Err(FromFault::Fault(fault)),
     }

@@ -3,11 +3,11 @@ ghost use Rattle.oe_file_loading.specs.Loading.{nine_of};
 ghost use Rattle.oe_from.specs.Serials.{ComparisonFromRan, SerialFromRan};
 
 use oe_comparison::{ComparisonFault, Verdict as ComparisonVerdict, run_comparison};
-use oe_core::Core;
 use oe_file_loading::Sources;
 use oe_file_serial::{Origin, SerialFault, Verdict, run_serial};
 use oe_file_tables::Format;
 use oe_io::ports::{Intake, Outlet};
+use oe_machine::Machine;
 use oe_origin::{NoPopulation, load_population};
 use std::alloc::Global;
 
@@ -25,7 +25,7 @@ pub enum FromFault<F> {
 ///
 /// `NoPopulation` as `load_population` has it; other faults and the verdict are those of
 /// `run_serial`.
-pub fn run_serial_from<'a, S: Intake, W: Outlet>(
+pub fn run_serial_from<'a, M: Machine, S: Intake, W: Outlet>(
     alloc: Global,
     format: Format,
     from: &mut Sources<S>,
@@ -39,7 +39,7 @@ pub fn run_serial_from<'a, S: Intake, W: Outlet>(
         Ok(tables) => tables,
         Err(error) => return Err(FromFault::NoPopulation(error)),
     };
-    match run_serial::<Core, W>(alloc, input, Origin::Tables(tables), writer) {
+    match run_serial::<M, W>(alloc, input, Origin::Tables(tables), writer) {
         Ok(verdict) => Ok(verdict),
         Err(fault) => Err(FromFault::Fault(fault)),
     }
@@ -50,7 +50,7 @@ pub fn run_serial_from<'a, S: Intake, W: Outlet>(
 ///
 /// `NoPopulation` as `load_population` has it; other faults and the verdict are those of
 /// `run_comparison`.
-pub fn run_comparison_from<'a, S: Intake, W: Outlet>(
+pub fn run_comparison_from<'a, M: Machine, S: Intake, W: Outlet>(
     alloc: Global,
     format: Format,
     from: &mut Sources<S>,
@@ -66,7 +66,7 @@ pub fn run_comparison_from<'a, S: Intake, W: Outlet>(
         Ok(tables) => tables,
         Err(error) => return Err(FromFault::NoPopulation(error)),
     };
-    match run_comparison::<Core, S, W>(
+    match run_comparison::<M, S, W>(
         alloc,
         format,
         input,

@@ -284,13 +284,13 @@ after_read b m q (Err (refusal.Future x)) = refl
 after_read b m q (Err (refusal.NotQuiet x)) = refl
 after_read b m q (Err (refusal.NotPinned x)) = refl
 
-pub read_leaves : (words : TableId) (c c' : TheCaller) (t : ℕ) (p : ThePin) (q : Query) (r : Result QueryReply Refusal)
-    → ReadCall words c t p q r c' → is_open c'.mine ≡ is_open c.mine
-read_leaves words c c' t p q r (inl x) =
+pub read_leaves : {C : Type 0} (world : C → World system) (words : TableId) (c c' : TheCaller) (t : ℕ) (p : ThePin)
+    (q : Query) (r : Result QueryReply Refusal) → ReadCall world words c t p q r c' → is_open c'.mine ≡ is_open c.mine
+read_leaves world words c c' t p q r (inl x) =
     ap is_open x.mine
     ∙ (opens_snoc false c.mine (entry t (step.Read p.moment q) (read_answer r))
     ∙ after_read (is_open c.mine) p.moment q r)
-read_leaves words c c' t p q r (inr x) = ap (λ (y : TheCaller). is_open y.mine) x.1
+read_leaves world words c c' t p q r (inr x) = ap (λ (y : TheCaller). is_open y.mine) x.1
 
 -- an advance is answered as its entry says
 pub carried : (v v' : World system) (t : ℕ) (r : Advanced) (y : Option Reply) → Advances v t r v' y

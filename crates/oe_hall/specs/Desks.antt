@@ -6,6 +6,8 @@ use Rattle.std.specs.Prelude.{slice_get}
 use Rattle.atomic_table.specs.Seated.{TableId}
 use Rattle.oe_moments.specs.Rule.{pin_word}
 use Rattle.oe_moments.specs.Pins.{TheSeat, ThePin, Holds}
+use Rattle.oe_theory.specs.World.{World}
+use Rattle.oe_model.specs.System.{system}
 use Rattle.oe_machine.specs.declared.advances.Advanced.{Advanced}
 use Rattle.oe_machine.specs.declared.advances.Advanced.TheVariants as advanced
 use Rattle.oe_requests.specs.declared.requests.Request.{Request}
@@ -121,16 +123,18 @@ AnEnd d o r d' =
     ⊎ (r ≡ Err (refusal.NotOpen, o)) × (IsOwn d.seat o → ⊥) × (d'.calls ≡ d.calls)
 
 -- at the moment of the desk's own pin; the desk refuses any other with the word of its own pin
-abbrev pub ARead : TheDesk → ThePin → Query → Result QueryReply Refusal → TheDesk → Type 0
-ARead d p q r d' =
-    Holds d.seat p × ReadCall d.seat.words d.calls d.seat.terminal p q r d'.calls
+abbrev pub ARead : {C : Type 0} → (C → World system) → TheDesk → ThePin → Query → Result QueryReply Refusal → TheDesk
+    → Type 0
+ARead world d p q r d' =
+    Holds d.seat p × ReadCall world d.seat.words d.calls d.seat.terminal p q r d'.calls
     ⊎ (r ≡ Err (refusal.NotPinned (pin_word d.seat.notes.pin))) × (Holds d.seat p → ⊥) × (d'.calls ≡ d.calls)
 
 -- the purger's, in a turn of the hall of these words, whose history it has seen
-abbrev pub APurge : TableId → TheCaller → ℕ → ℕ → TheCaller → Type 0
-APurge words c asked m c' =
+abbrev pub APurge : {C : Type 0} → (C → World system) → TableId → TheCaller → ℕ → ℕ → TheCaller → Type 0
+APurge {C} world words c asked m c' =
     PurgeCall c m c'
-    × (h : TheHall) × (h' : TheHall) × IsHall h × IsHall h' × (h.words ≡ words) × PurgeTurn h asked m h'
+    × (h : TheHall C) × (h' : TheHall C) × IsHall world h × IsHall world h' × (h.words ≡ words)
+    × PurgeTurn world h asked m h'
     × (h'.history.log ≡ c'.seen)
 
 -- WHAT A SHOP LEAVES

@@ -9,7 +9,6 @@ use Rattle.oe_moments.specs.declared.notes.KeeperNotes.{KeeperNotes}
 use Rattle.oe_theory.specs.World.{World, newest, horizon}
 use Rattle.oe_theory.specs.Next.{count_open}
 use Rattle.oe_model.specs.System.{system, terminal_limit}
-use Rattle.oe_core.specs.Core.{CoreState, world_of}
 use Rattle.oe_machine.specs.Steps.{Carries, Advances, begin_answer}
 use Rattle.oe_machine.specs.declared.advances.Advanced.{Advanced}
 use Rattle.oe_machine.specs.declared.advances.Advanced.TheVariants as advanced
@@ -29,27 +28,24 @@ use Rattle.oe_hall.specs.Counts.{Counts, Tally, with_begin, with_commit, with_ro
 use Rattle.oe_hall.specs.Counts.{tally_with_commit, tally_with_rollback}
 
 -- what a clause sees of a core with the history that has led to it
-pub record TheRecord : Type 0 where
-  pub core : CoreState
+pub record TheRecord (C : Type 0) : Type 0 where
+  pub core : C
   pub history : TheHistory
 
 -- what a clause sees of the hall: the core and its history, what was counted, what the keeper knows, and the words of
 -- the pins
-pub record TheHall : Type 0 where
-  pub core : CoreState
+pub record TheHall (C : Type 0) : Type 0 where
+  pub core : C
   pub history : TheHistory
   pub counts : Counts
   pub keeper : KeeperNotes
   pub words : TableId
 
-abbrev pub world : TheHall → World system
-world h = world_of h.core
-
-abbrev pub with_history : TheHistory → TheHall → TheHall
+abbrev pub with_history : {C : Type 0} → TheHistory → TheHall C → TheHall C
 with_history x h = record h { history = x }
 
 -- the keeper has looked at the desk of a pin, and found that word
-abbrev pub after_search : ThePin → ℕ → TheHall → TheHall
+abbrev pub after_search : {C : Type 0} → ThePin → ℕ → TheHall C → TheHall C
 after_search p n h = record h { keeper = saw_pin (p.terminal - 1) n h.keeper }
 
 -- how many transactions are open
@@ -97,8 +93,8 @@ abbrev pub AreCounts : Counts → World system → Type 0
 AreCounts c w = (c.committed ≡ newest system w) × (c.begun ≡ c.committed + c.rolled_back + open_count w)
 
 -- so it is in a hall, whose keeper has the world's horizon
-abbrev pub IsHall : TheHall → Type 0
-IsHall h = AreCounts h.counts (world h) × (h.keeper.horizon ≡ horizon system (world h))
+abbrev pub IsHall : {C : Type 0} → (C → World system) → TheHall C → Type 0
+IsHall world h = AreCounts h.counts (world h.core) × (h.keeper.horizon ≡ horizon system (world h.core))
 
 -- what one hand is told of a begin
 abbrev pub begin_told : Result (Unit {0}) Refusal → Tally → Tally
@@ -126,18 +122,19 @@ LeavesReply (advanced.Committed m) old new = IsSome new
 LeavesReply (advanced.RolledBack e) old new = new ≡ old
 
 -- the call is the newest entry
-abbrev pub IsWritten : ℕ → Step → Answer → TheHall → TheHall → Type 0
+abbrev pub IsWritten : {C : Type 0} → ℕ → Step → Answer → TheHall C → TheHall C → Type 0
 IsWritten by i a h h' = h'.history ≡ with_entry (entry by i a) h.history
 
 -- the pins are the same, and what the keeper knows of them
-abbrev pub HasSamePins : TheHall → TheHall → Type 0
+abbrev pub HasSamePins : {C : Type 0} → TheHall C → TheHall C → Type 0
 HasSamePins h h' = (h'.words ≡ h.words) × (h'.keeper ≡ h.keeper)
 
 -- a begin is one step
-abbrev pub BeginTurn : TheHall → ℕ → Request → Result (Unit {0}) Refusal → TheHall → Type 0
-BeginTurn h t q (Ok u) h' = Carries (world h) (step.Begin t q) answer.Begun (world h')
+abbrev pub BeginTurn : {C : Type 0} → (C → World system) → TheHall C → ℕ → Request → Result (Unit {0}) Refusal
+    → TheHall C → Type 0
+BeginTurn world h t q (Ok u) h' = Carries (world h.core) (step.Begin t q) answer.Begun (world h'.core)
     × IsWritten t (step.Begin t q) answer.Begun h h' × (h'.counts ≡ with_begin h.counts) × HasSamePins h h'
-BeginTurn h t q (Err e) h' = Carries (world h) (step.Begin t q) (answer.Refused e) (world h')
+BeginTurn world h t q (Err e) h' = Carries (world h.core) (step.Begin t q) (answer.Refused e) (world h'.core)
     × IsWritten t (step.Begin t q) (answer.Refused e) h h' × (h'.counts ≡ h.counts) × HasSamePins h h'
 
 -- the answer of an Advance that leaves this reply at its desk: a commit's is its own
@@ -149,8 +146,9 @@ advance_answer (advanced.Committed m) None = answer.Begun
 advance_answer (advanced.RolledBack e) y = answer.Refused e
 
 -- an advance is one step, and the reply that is kept is a commit's own
-abbrev pub AdvanceTurn : TheHall → ℕ → Advanced → Option Reply → TheHall → Type 0
-AdvanceTurn h t r reply h' = Advances (world h) t r (world h') reply
+abbrev pub AdvanceTurn : {C : Type 0} → (C → World system) → TheHall C → ℕ → Advanced → Option Reply → TheHall C
+    → Type 0
+AdvanceTurn world h t r reply h' = Advances (world h.core) t r (world h'.core) reply
     × IsWritten t (step.Advance t) (advance_answer r reply) h h'
     × (h'.counts ≡ counts_with r h.counts) × HasSamePins h h'
 
@@ -167,8 +165,9 @@ end_told (Ok u) c = tally_with_rollback c
 end_told (Err e) c = c
 
 -- an end is one step
-abbrev pub EndTurn : TheHall → ℕ → Result (Unit {0}) Refusal → TheHall → Type 0
-EndTurn h t r h' = Carries (world h) (step.Rollback t) (end_answer r) (world h')
+abbrev pub EndTurn : {C : Type 0} → (C → World system) → TheHall C → ℕ → Result (Unit {0}) Refusal → TheHall C
+    → Type 0
+EndTurn world h t r h' = Carries (world h.core) (step.Rollback t) (end_answer r) (world h'.core)
     × IsWritten t (step.Rollback t) (end_answer r) h h' × (h'.counts ≡ end_counts r h.counts) × HasSamePins h h'
 
 abbrev pub read_answer : Result QueryReply Refusal → Answer
@@ -177,9 +176,10 @@ read_answer (Err e) = answer.Refused e
 
 -- a read begins with a look at the pin's word: where that is the pin's, it is one step, which changes only the history;
 -- where it is another, it is none
-abbrev pub ReadTurn : TheHall → ℕ → ThePin → Query → Result QueryReply Refusal → TheHall → Type 0
-ReadTurn h t p q r h' =
-    Carries (world h) (step.Read p.moment q) (read_answer r) (world h')
+abbrev pub ReadTurn : {C : Type 0} → (C → World system) → TheHall C → ℕ → ThePin → Query → Result QueryReply Refusal
+    → TheHall C → Type 0
+ReadTurn world h t p q r h' =
+    Carries (world h.core) (step.Read p.moment q) (read_answer r) (world h'.core)
     × (h' ≡ with_history (with_entry (entry t (step.Read p.moment q) (read_answer r)) h.history)
     (after_search p (sure_word p.moment) h))
     ⊎ (n : ℕ) × (r ≡ Err (refusal.NotPinned n)) × (n ≢ sure_word p.moment) × (h' ≡ after_search p n h)
@@ -192,9 +192,9 @@ HasSwept words m k k' = (k'.claim ≡ m) × (k'.turned ≡ turn k.turned) × Are
 
 -- a purge is one step of the purger, whose number is 0, at the horizon that the keeper reaches: it claims what is
 -- asked, and no more than the newest moment
-abbrev pub PurgeTurn : TheHall → ℕ → ℕ → TheHall → Type 0
-PurgeTurn h asked m h' = HasSwept h.words (min asked (newest system (world h))) h.keeper h'.keeper
-    × (m ≡ h'.keeper.horizon) × Carries (world h) (step.Purge m) (answer.Purged m) (world h')
+abbrev pub PurgeTurn : {C : Type 0} → (C → World system) → TheHall C → ℕ → ℕ → TheHall C → Type 0
+PurgeTurn world h asked m h' = HasSwept h.words (min asked (newest system (world h.core))) h.keeper h'.keeper
+    × (m ≡ h'.keeper.horizon) × Carries (world h.core) (step.Purge m) (answer.Purged m) (world h'.core)
     × IsWritten 0 (step.Purge m) (answer.Purged m) h h' × (h'.counts ≡ h.counts) × (h'.words ≡ h.words)
 
 -- the read is not refused for its moment's age
@@ -214,14 +214,15 @@ abbrev pub EndCall : TheCaller → ℕ → Result (Unit {0}) Refusal → TheCall
 EndCall c t r c' = Extends c (entry t (step.Rollback t) (end_answer r)) c'
 
 -- the keeper of the hall of these words looked at the desk of a pin, and found another word, with which it is refused
-abbrev pub IsNotFound : TableId → ThePin → Result QueryReply Refusal → Type 0
-IsNotFound words p r =
-    (h : TheHall) × IsHall h × (h.words ≡ words) × (h.keeper.found.desk ≡ p.terminal - 1)
+abbrev pub IsNotFound : {C : Type 0} → (C → World system) → TableId → ThePin → Result QueryReply Refusal → Type 0
+IsNotFound {C} world words p r =
+    (h : TheHall C) × IsHall world h × (h.words ≡ words) × (h.keeper.found.desk ≡ p.terminal - 1)
     × (h.keeper.found.word ≢ sure_word p.moment) × (r ≡ Err (refusal.NotPinned h.keeper.found.word))
 
-abbrev pub ReadCall : TableId → TheCaller → ℕ → ThePin → Query → Result QueryReply Refusal → TheCaller → Type 0
-ReadCall words c t p q r c' =
-    Extends c (entry t (step.Read p.moment q) (read_answer r)) c' ⊎ IsNotFound words p r × (c' ≡ c)
+abbrev pub ReadCall : {C : Type 0} → (C → World system) → TableId → TheCaller → ℕ → ThePin → Query
+    → Result QueryReply Refusal → TheCaller → Type 0
+ReadCall world words c t p q r c' =
+    Extends c (entry t (step.Read p.moment q) (read_answer r)) c' ⊎ IsNotFound world words p r × (c' ≡ c)
 
 -- the purger's
 abbrev pub PurgeCall : TheCaller → ℕ → TheCaller → Type 0

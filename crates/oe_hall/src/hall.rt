@@ -9,7 +9,6 @@ ghost use Rattle.std.specs.Prelude.{◌≡◌, ℕ, ◌<◌, ◌≤◌, ◌^◌,
 ghost use Rattle.std.specs.Arc.{arc_value};
 ghost use Rattle.oe_theory.specs.World.{newest, horizon};
 ghost use Rattle.oe_model.specs.System.{system};
-ghost use Rattle.oe_core.specs.Core.{world_of};
 ghost use Rattle.oe_history.specs.Views.{calls_by};
 ghost use Rattle.oe_history.specs.Calls.{Knows};
 ghost use Rattle.oe_moments.specs.Rule.{at_start};
@@ -21,9 +20,8 @@ ghost use Rattle.oe_hall.specs.Turns.{IsHall, BeginCall, AdvanceCall, EndCall, R
 use crate::counts::{Told, Totals};
 use crate::naming::Naming;
 use crate::records::Recorded;
-use oe_core::Core;
 use oe_history::{Caller, History};
-use oe_machine::Advanced;
+use oe_machine::{Advanced, Machine};
 use oe_moments::{KeeperSeat, Moments, Pin};
 use oe_requests::{Query, QueryReply, Refusal, Reply, Request};
 use oe_values::{Moment, Terminal};
@@ -31,27 +29,22 @@ use std::marker::Model;
 use std::sync::Arc;
 
 /// The hall of a shop. It can't be dropped, since the core can't.
-pub struct Hall<J: Naming> {
-    recorded: Recorded<J>,
+pub struct Hall<J: Naming, M: Machine> {
+    recorded: Recorded<J, M>,
     totals: Totals<J>,
     moments: Arc<Moments>,
     keeper: KeeperSeat,
 }
 
-impl<J: Naming> Model for Hall<J> {
+impl<J: Naming, M: Machine> Model for Hall<J, M> {
     ghost use Rattle.std.specs.Prelude.{◌≡◌};
     ghost use Rattle.std.specs.Arc.{arc_value};
-    ghost use Rattle.std.specs.Coded.{codes};
-    ghost use Rattle.std.specs.FinMap.{code as map_code};
     ghost use Rattle.oe_theory.specs.World.{horizon};
     ghost use Rattle.oe_model.specs.System.{system};
-    ghost use Rattle.oe_core.specs.Core.{world_of};
     ghost use Rattle.oe_moments.specs.Pins.{AreOfDesks};
     ghost use Rattle.oe_hall.specs.Turns.{TheHall, AreCounts};
 
-    ghost Value = { TheHall };
-
-    ghost coded = { Prim.hlevel (codes, map_code) };
+    ghost Value = { TheHall M };
 
     ghost view = { λ h. record {
       core = h.recorded.core;
@@ -61,31 +54,31 @@ impl<J: Naming> Model for Hall<J> {
       words = arc_value h.moments;
     } };
 
-    ghost invariant = { λ h. AreCounts h.totals (world_of h.recorded.core)
+    ghost invariant = { λ h. AreCounts h.totals (M.world h.recorded.core)
         × (h.keeper.words ≡ arc_value h.moments)
-        × (h.keeper.notes.horizon ≡ horizon system (world_of h.recorded.core))
+        × (h.keeper.notes.horizon ≡ horizon system (M.world h.recorded.core))
         × AreOfDesks (arc_value h.moments) 64 × (arc_value h.moments ≡ J.names.words)
-        × ((world_of h.recorded.core).layout ≡ J.names.layout)
+        × ((M.world h.recorded.core).layout ≡ J.names.layout)
         × (h.recorded.history.dealt ≡ 65) };
 }
 
-impl<J: Naming> Hall<J> {
+impl<J: Naming, M: Machine> Hall<J, M> {
     /// Makes a hall of a core that has begun nothing, and of words that nothing is told of.
     pub(crate) fn new(
-        recorded: Recorded<J>,
+        recorded: Recorded<J, M>,
         totals: Totals<J>,
         moments: Arc<Moments>,
         keeper: KeeperSeat,
-    ) -> Hall<J>
-        requires newest { newest system (world_of recorded.core) ≡ 0 }
-        requires quiet { open_count (world_of recorded.core) ≡ 0 }
-        requires horizon { horizon system (world_of recorded.core) ≡ 0 }
+    ) -> Hall<J, M>
+        requires newest { newest system (M.world recorded.core) ≡ 0 }
+        requires quiet { open_count (M.world recorded.core) ≡ 0 }
+        requires horizon { horizon system (M.world recorded.core) ≡ 0 }
         requires dealt { recorded.history.dealt ≡ 65 }
         requires totals { totals ≡ none }
         requires keeper { keeper ≡ record { words = arc_value moments; notes = at_start } }
         requires words { AreOfDesks (arc_value moments) 64 }
         requires naming { arc_value moments ≡ J.names.words }
-        requires layout { (world_of recorded.core).layout ≡ J.names.layout }
+        requires layout { (M.world recorded.core).layout ≡ J.names.layout }
         ensures { result ≡ record {
           core = recorded.core;
           history = recorded.history;
@@ -113,8 +106,8 @@ impl<J: Naming> Hall<J> {
         requires part { 0 < told.old.parts }
         requires here { caller.old.table ≡ J.names.history }
         requires own { caller.old.by ≡ terminal }
-        ensures hall { IsHall self.old × IsHall self.new }
-        ensures turn { BeginTurn self.old terminal request.now result self.new }
+        ensures hall { IsHall M.world self.old × IsHall M.world self.new }
+        ensures turn { BeginTurn M.world self.old terminal request.now result self.new }
         ensures told { told.new ≡ begin_told result told.old }
         ensures called { BeginCall caller.old terminal request.now result caller.new }
         ensures here { (caller.new.table ≡ caller.old.table) × (caller.new.by ≡ caller.old.by) }
@@ -141,8 +134,8 @@ impl<J: Naming> Hall<J> {
         requires part { 0 < told.old.parts }
         requires here { caller.old.table ≡ J.names.history }
         requires own { caller.old.by ≡ terminal }
-        ensures hall { IsHall self.old × IsHall self.new }
-        ensures turn { AdvanceTurn self.old terminal result reply.new self.new }
+        ensures hall { IsHall M.world self.old × IsHall M.world self.new }
+        ensures turn { AdvanceTurn M.world self.old terminal result reply.new self.new }
         ensures reply { LeavesReply result reply.old reply.new }
         ensures told { told.new ≡ tally_after result told.old }
         ensures called { AdvanceCall caller.old terminal result reply.new caller.new }
@@ -170,8 +163,8 @@ impl<J: Naming> Hall<J> {
         requires part { 0 < told.old.parts }
         requires here { caller.old.table ≡ J.names.history }
         requires own { caller.old.by ≡ terminal }
-        ensures hall { IsHall self.old × IsHall self.new }
-        ensures turn { EndTurn self.old terminal result self.new }
+        ensures hall { IsHall M.world self.old × IsHall M.world self.new }
+        ensures turn { EndTurn M.world self.old terminal result self.new }
         ensures told { told.new ≡ end_told result told.old }
         ensures called { EndCall caller.old terminal result caller.new }
         ensures here { (caller.new.table ≡ caller.old.table) × (caller.new.by ≡ caller.old.by) }
@@ -195,10 +188,10 @@ impl<J: Naming> Hall<J> {
     ) -> Result<QueryReply, Refusal>
         requires here { caller.old.table ≡ J.names.history }
         requires run { HasHappened J.names.opened caller.old.seen }
-        ensures hall { IsHall self.old × IsHall self.new }
-        ensures turn { ReadTurn self.old caller.old.by pin.now query.now result self.new }
+        ensures hall { IsHall M.world self.old × IsHall M.world self.new }
+        ensures turn { ReadTurn M.world self.old caller.old.by pin.now query.now result self.new }
         ensures young { IsYoung result }
-        ensures called { ReadCall J.names.words caller.old caller.old.by pin.now query.now result
+        ensures called { ReadCall M.world J.names.words caller.old caller.old.by pin.now query.now result
             caller.new }
         ensures here { (caller.new.table ≡ caller.old.table) × (caller.new.by ≡ caller.old.by) }
         ensures run { HasHappened J.names.opened caller.new.seen }
@@ -217,8 +210,8 @@ impl<J: Naming> Hall<J> {
     pub fn purge(&mut self, caller: &mut Caller, moment: Moment) -> Moment
         requires here { caller.old.table ≡ J.names.history }
         requires own { caller.old.by ≡ 0 }
-        ensures hall { IsHall self.old × IsHall self.new }
-        ensures turn { PurgeTurn self.old moment result self.new }
+        ensures hall { IsHall M.world self.old × IsHall M.world self.new }
+        ensures turn { PurgeTurn M.world self.old moment result self.new }
         ensures words { self.old.words ≡ J.names.words }
         ensures called { PurgeCall caller.old result caller.new }
         ensures seen { self.new.history.log ≡ caller.new.seen }
@@ -237,7 +230,7 @@ impl<J: Naming> Hall<J> {
     pub(crate) fn audit(&mut self, all: &mut Told<J>)
         requires whole { all.old.parts ≡ 65 }
         ensures same { (self.new ≡ self.old) × (all.new ≡ all.old) }
-        ensures hall { IsHall self.old }
+        ensures hall { IsHall M.world self.old }
         ensures told { AreTotals all.old self.old.counts }
     {
         self.totals.audit(all);
@@ -254,11 +247,11 @@ impl<J: Naming> Hall<J> {
     }
 
     /// Gives the core and its history, as the hall leaves them.
-    pub(crate) fn into_parts(self) -> (Core, History)
-        ensures hall { IsHall self }
+    pub(crate) fn into_parts(self) -> (M, History)
+        ensures hall { IsHall M.world self }
         ensures same { (result.0 ≡ self.core) × (result.1 ≡ self.history) }
-        ensures layout { (world_of result.0).layout ≡ J.names.layout }
-        ensures run { IsHistory J.names.opened result.1.log (world_of result.0) }
+        ensures layout { (M.world result.0).layout ≡ J.names.layout }
+        ensures run { IsHistory J.names.opened result.1.log (M.world result.0) }
         ensures others { (by : ℕ) → 65 ≤ by → calls_by by result.1.log ≡ [] }
     {
         let Hall {

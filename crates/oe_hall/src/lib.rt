@@ -1,6 +1,7 @@
 //! The hall: one core behind one lock, the desks at which terminals ask it, the one history of what
 //! they asked and were answered, and how much each desk was told. Of the words that desks share,
-//! and that no call waits for, the keeper sits in the hall.
+//! and that no call waits for, the keeper sits in the hall. The core is of any type that is a
+//! `Machine` of `oe_machine`.
 //!
 //! A terminal carries a transaction out so (`a_day_in_a_shop` of `oe_hall_tests` has the whole):
 //!

@@ -6,6 +6,7 @@ ghost use Rattle.oe_hall.specs.Desks.{APurge};
 use crate::naming::Naming;
 use crate::shop::{Front, enter};
 use oe_history::Caller;
+use oe_machine::Machine;
 use oe_values::Moment;
 use std::marker::{Model, PhantomData};
 use std::sync::Wait;
@@ -32,8 +33,13 @@ impl<J: Naming> Model for Purger<J> {
 
 impl<J: Naming> Purger<J> {
     /// Purges up to a moment, no further than the newest and each pin, and gives the horizon.
-    pub fn purge<W: Wait>(&mut self, rt: &W, front: &Front<J>, moment: Moment) -> Moment
-        ensures turn { APurge front.now self.old moment result self.new }
+    pub fn purge<M: Machine, W: Wait>(
+        &mut self,
+        rt: &W,
+        front: &Front<J, M>,
+        moment: Moment,
+    ) -> Moment
+        ensures turn { APurge M.world front.now self.old moment result self.new }
         ensures run { HasHappened J.names.opened self.new.seen }
     {
         enter(rt, &front.hall).purge(&mut self.caller, moment)

@@ -7,7 +7,6 @@ ghost use Rattle.std.specs.Prelude.{◌≡◌, ◌≤◌, ℕ, []};
 ghost use Rattle.oe_theory.specs.World.{newest, horizon};
 ghost use Rattle.oe_theory.specs.Next.{IsQuiet};
 ghost use Rattle.oe_model.specs.System.{system};
-ghost use Rattle.oe_core.specs.Core.{CoreState, world_of};
 ghost use Rattle.oe_machine.specs.Steps.{Carries, Advances, begin_answer};
 ghost use Rattle.oe_history.specs.Views.{entry, calls_by};
 ghost use Rattle.oe_history.specs.Calls.{TheHistory, Extends, Knows, with_entry};
@@ -16,47 +15,41 @@ ghost use Rattle.oe_hall.specs.Turns.{TheRecord, BeginMoves, BeginLeaves, HasMov
 
 use crate::calls;
 use crate::naming::Naming;
-use oe_core::Core;
 use oe_history::{Caller, History};
-use oe_machine::Advanced;
+use oe_machine::{Advanced, Machine};
 use oe_requests::{Answer, Query, QueryReply, Refusal, Reply, Request, Step};
 use oe_values::{Moment, Terminal};
 use std::marker::{Brand, Model, PhantomData};
 
 /// A core with its history. It can't be dropped, since the core can't.
-pub struct Recorded<J: Naming> {
-    core: Core,
+pub struct Recorded<J: Naming, M: Machine> {
+    core: M,
     history: History,
     of: PhantomData<J>,
 }
 
-impl<J: Naming> Model for Recorded<J> {
+impl<J: Naming, M: Machine> Model for Recorded<J, M> {
     ghost use Rattle.std.specs.Prelude.{◌≡◌};
-    ghost use Rattle.std.specs.Coded.{codes};
-    ghost use Rattle.std.specs.FinMap.{code as map_code};
     ghost use Rattle.oe_theory.specs.Next.{IsQuiet};
     ghost use Rattle.oe_model.specs.System.{system};
-    ghost use Rattle.oe_core.specs.Core.{world_of};
     ghost use Rattle.oe_hall.specs.Histories.{IsHistory};
     ghost use Rattle.oe_hall.specs.Turns.{TheRecord};
 
-    ghost Value = { TheRecord };
-
-    ghost coded = { Prim.hlevel (codes, map_code) };
+    ghost Value = { TheRecord M };
 
     ghost view = { λ r. record { core = r.core; history = r.history } };
 
     ghost invariant = { λ r. (r.history.table ≡ J.names.history)
         × IsQuiet system J.names.opened
-        × IsHistory J.names.opened r.history.log (world_of r.core) };
+        × IsHistory J.names.opened r.history.log (M.world r.core) };
 }
 
-impl<J: Naming> Recorded<J> {
+impl<J: Naming, M: Machine> Recorded<J, M> {
     /// Makes a record of a core that has just opened, and of a history with no entry.
-    pub(crate) fn new(core: Core, history: History) -> Recorded<J>
+    pub(crate) fn new(core: M, history: History) -> Recorded<J, M>
         requires table { history.table ≡ J.names.history }
         requires none { history.log ≡ [] }
-        requires opened { world_of core ≡ J.names.opened }
+        requires opened { M.world core ≡ J.names.opened }
         requires quiet { IsQuiet system J.names.opened }
         ensures { result ≡ record { core = core; history = history } }
     {
@@ -69,7 +62,7 @@ impl<J: Naming> Recorded<J> {
 
     /// Gives the newest moment.
     pub(crate) fn newest(&self) -> Moment
-        ensures { result ≡ newest system (world_of self.now.core) }
+        ensures { result ≡ newest system (M.world self.now.core) }
     {
         let _history = &self.history;
         self.core.newest()
@@ -84,9 +77,9 @@ impl<J: Naming> Recorded<J> {
     ) -> Result<(), Refusal>
         requires here { caller.old.table ≡ J.names.history }
         requires own { caller.old.by ≡ terminal }
-        ensures step { Carries (world_of self.old.core) (Step.Begin terminal request.now)
-            (begin_answer result) (world_of self.new.core) }
-        ensures counts { BeginMoves result (world_of self.old.core) (world_of self.new.core) }
+        ensures step { Carries (M.world self.old.core) (Step.Begin terminal request.now)
+            (begin_answer result) (M.world self.new.core) }
+        ensures counts { BeginMoves result (M.world self.old.core) (M.world self.new.core) }
         ensures written { self.new.history ≡ with_entry
             (entry terminal (Step.Begin terminal request.now) (begin_answer result))
             self.old.history }
@@ -112,10 +105,10 @@ impl<J: Naming> Recorded<J> {
     ) -> Advanced
         requires here { caller.old.table ≡ J.names.history }
         requires own { caller.old.by ≡ terminal }
-        ensures step { Advances (world_of self.old.core) terminal result
-            (world_of self.new.core) reply.new }
+        ensures step { Advances (M.world self.old.core) terminal result
+            (M.world self.new.core) reply.new }
         ensures reply { LeavesReply result reply.old reply.new }
-        ensures counts { HasMoved result (world_of self.old.core) (world_of self.new.core) }
+        ensures counts { HasMoved result (M.world self.old.core) (M.world self.new.core) }
         ensures written { self.new.history ≡ with_entry
             (entry terminal (Step.Advance terminal) (advance_answer result reply.new))
             self.old.history }
@@ -134,9 +127,9 @@ impl<J: Naming> Recorded<J> {
     pub(crate) fn end(&mut self, caller: &mut Caller, terminal: Terminal) -> Result<(), Refusal>
         requires here { caller.old.table ≡ J.names.history }
         requires own { caller.old.by ≡ terminal }
-        ensures step { Carries (world_of self.old.core) (Step.Rollback terminal)
-            (end_answer result) (world_of self.new.core) }
-        ensures counts { EndMoves result (world_of self.old.core) (world_of self.new.core) }
+        ensures step { Carries (M.world self.old.core) (Step.Rollback terminal)
+            (end_answer result) (M.world self.new.core) }
+        ensures counts { EndMoves result (M.world self.old.core) (M.world self.new.core) }
         ensures written { self.new.history ≡ with_entry
             (entry terminal (Step.Rollback terminal) (end_answer result)) self.old.history }
         ensures called { EndCall caller.old terminal result caller.new }
@@ -158,9 +151,9 @@ impl<J: Naming> Recorded<J> {
         query: &Query,
     ) -> Result<QueryReply, Refusal>
         requires here { caller.old.table ≡ J.names.history }
-        requires kept { horizon system (world_of self.old.core) ≤ moment }
-        ensures step { Carries (world_of self.old.core) (Step.Read moment query.now)
-            (read_answer result) (world_of self.new.core) }
+        requires kept { horizon system (M.world self.old.core) ≤ moment }
+        ensures step { Carries (M.world self.old.core) (Step.Read moment query.now)
+            (read_answer result) (M.world self.new.core) }
         ensures same { self.new.core ≡ self.old.core }
         ensures young { IsYoung result }
         ensures written { self.new.history ≡ with_entry
@@ -185,11 +178,11 @@ impl<J: Naming> Recorded<J> {
     pub(crate) fn purge(&mut self, caller: &mut Caller, moment: Moment)
         requires here { caller.old.table ≡ J.names.history }
         requires own { caller.old.by ≡ 0 }
-        requires old { horizon system (world_of self.old.core) ≤ moment }
-        requires new { moment ≤ newest system (world_of self.old.core) }
-        ensures step { Carries (world_of self.old.core) (Step.Purge moment)
-            (Answer.Purged moment) (world_of self.new.core) }
-        ensures counts { HasPurged moment (world_of self.old.core) (world_of self.new.core) }
+        requires old { horizon system (M.world self.old.core) ≤ moment }
+        requires new { moment ≤ newest system (M.world self.old.core) }
+        ensures step { Carries (M.world self.old.core) (Step.Purge moment)
+            (Answer.Purged moment) (M.world self.new.core) }
+        ensures counts { HasPurged moment (M.world self.old.core) (M.world self.new.core) }
         ensures written { self.new.history ≡ with_entry
             (entry caller.old.by (Step.Purge moment) (Answer.Purged moment)) self.old.history }
         ensures called { Extends caller.old
@@ -215,9 +208,9 @@ impl<J: Naming> Recorded<J> {
 
     /// Gives the core, and the history that has led to it, in which no number stands that was not
     /// dealt.
-    pub(crate) fn into_parts(self) -> (Core, History)
+    pub(crate) fn into_parts(self) -> (M, History)
         ensures same { (result.0 ≡ self.core) × (result.1 ≡ self.history) }
-        ensures run { IsHistory J.names.opened result.1.log (world_of result.0) }
+        ensures run { IsHistory J.names.opened result.1.log (M.world result.0) }
         ensures others { (by : ℕ) → self.history.dealt ≤ by → calls_by by result.1.log ≡ [] }
     {
         let Recorded {

@@ -1,17 +1,16 @@
 //! Where the reply of a commit is kept, behind the turn that made it.
 ghost use Rattle.std.specs.Prelude.{◌≡◌, Some, IsSome};
 ghost use Rattle.oe_requests.specs.Reply.{told_reply};
-ghost use Rattle.oe_core.specs.Core.{last_reply};
 
-use oe_core::Core;
+use oe_machine::Machine;
 use oe_requests::{PaymentReply, Reply, ReplyRef};
 use oe_values::Terminal;
 
 /// Copies the reply of the terminal's last transaction, which has committed.
 #[inline]
-pub(crate) fn keep_last(core: &Core, terminal: Terminal, reply: &mut Option<Reply>)
-    requires { IsSome (last_reply core.now terminal) }
-    ensures { reply.new ≡ last_reply core.now terminal }
+pub(crate) fn keep_last<M: Machine>(core: &M, terminal: Terminal, reply: &mut Option<Reply>)
+    requires { IsSome (M.last core.now terminal) }
+    ensures { reply.new ≡ M.last core.now terminal }
 {
     match core.last_reply(terminal) {
         Some(last) => keep(&last, reply),

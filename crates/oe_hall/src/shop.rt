@@ -16,7 +16,6 @@ ghost use Rattle.oe_theory.specs.Theorems.{world_at_opening};
 ghost use Rattle.oe_model.specs.Conditions.{IsPopulation};
 ghost use Rattle.oe_model.specs.System.{system};
 ghost use Rattle.oe_store.specs.Places.{rows};
-ghost use Rattle.oe_core.specs.Core.{world_of};
 ghost use Rattle.oe_moments.specs.Rule.{notes_after_sight, turn, with_pin, at_start, pin_word};
 ghost use Rattle.oe_moments.specs.Pins.{AreOfDesks, with_notes, is_pinned, Holds};
 ghost use Rattle.oe_moments.specs.declared.notes.PinState.TheVariants.{Free};
@@ -34,9 +33,8 @@ use crate::hall::Hall;
 use crate::naming::Naming;
 use crate::purger::Purger;
 use crate::records::Recorded;
-use oe_core::Core;
 use oe_history::{Caller, History};
-use oe_machine::Advanced;
+use oe_machine::{Advanced, Machine};
 use oe_moments::{DealerSeat, DeskSeat, KeeperSeat, Moments, NotPinned, Pin, TooOld};
 use oe_requests::{Column, Query, QueryReply, Refusal, Reply, Request};
 use oe_rows::Layout;
@@ -66,12 +64,12 @@ pub enum Turn {
 }
 
 /// What a shop lends to its desks: the locked hall, and the words.
-pub struct Front<J: Naming> {
-    pub(crate) hall: Mutex<Hall<J>>,
+pub struct Front<J: Naming, M: Machine> {
+    pub(crate) hall: Mutex<Hall<J, M>>,
     moments: Arc<Moments>,
 }
 
-impl<J: Naming> Model for Front<J> {
+impl<J: Naming, M: Machine> Model for Front<J, M> {
     ghost Value = { TableId };
 
     ghost view = { λ f. arc_value f.moments };
@@ -138,15 +136,15 @@ impl Model for Seats {
 }
 
 /// A shop: what it lends, and what gives the desks.
-pub struct Shop<J: Naming> {
-    front: Front<J>,
+pub struct Shop<J: Naming, M: Machine> {
+    front: Front<J, M>,
     seats: Vec<Option<Place>>,
     rest: Told<J>,
     given: u64,
     name: u32,
 }
 
-impl<J: Naming> Model for Shop<J> {
+impl<J: Naming, M: Machine> Model for Shop<J, M> {
     ghost Value = { TheShop };
 
     ghost view = { λ s. record {
@@ -197,17 +195,17 @@ impl<J: Naming> Model for Desk<J> {
 
 /// What a closed shop leaves: its core, how much its desks were told in sum, and the history, which
 /// contracts see. It can't be dropped, since the core can't.
-pub struct Closed {
-    pub core: Core,
+pub struct Closed<M: Machine> {
+    pub core: M,
     pub counted: Counted,
     pub history: History,
 }
 
 /// Why a shop can't be closed: its desks were told that many more begins than ends. It comes back
 /// with its desks and its purger.
-pub struct NotQuiet<J: Naming> {
+pub struct NotQuiet<J: Naming, M: Machine> {
     pub open: u64,
-    pub shop: Shop<J>,
+    pub shop: Shop<J, M>,
     pub desks: Vec<Desk<J>>,
     pub purger: Purger<J>,
 }
@@ -233,10 +231,10 @@ fn pause(pauses: u32) {
 
 // Enters the hall, once nobody else is in it.
 #[inline]
-pub(crate) fn enter<'h, J: Naming, W: Wait>(
+pub(crate) fn enter<'h, J: Naming, M: Machine, W: Wait>(
     rt: &W,
-    hall: &'h Mutex<Hall<J>>,
-) -> MutexGuard<'h, Hall<J>> {
+    hall: &'h Mutex<Hall<J, M>>,
+) -> MutexGuard<'h, Hall<J, M>> {
     match hall.try_lock() {
         Some(guard) => guard,
         None => enter_later(rt, hall),
@@ -245,10 +243,10 @@ pub(crate) fn enter<'h, J: Naming, W: Wait>(
 
 // Enters the hall, in which somebody was.
 #[inline(never)]
-fn enter_later<'h, J: Naming, W: Wait>(
+fn enter_later<'h, J: Naming, M: Machine, W: Wait>(
     rt: &W,
-    hall: &'h Mutex<Hall<J>>,
-) -> MutexGuard<'h, Hall<J>> {
+    hall: &'h Mutex<Hall<J, M>>,
+) -> MutexGuard<'h, Hall<J, M>> {
     let mut pauses = FIRST_PAUSES;
     for _ in 0..TRIES {
         pause(pauses);
@@ -336,7 +334,7 @@ impl Seats {
     }
 }
 
-impl<J: Naming> Shop<J> {
+impl<J: Naming, M: Machine> Shop<J, M> {
     /// Opens a shop on a population, with that number of undo extents, and gives its purger. Memory
     /// is the only refusal; seats have theirs.
     pub fn open(
@@ -344,7 +342,7 @@ impl<J: Naming> Shop<J> {
         tables: Tables,
         extents: ExtentCount,
         seats: Seats,
-    ) -> Result<(Shop<J>, Purger<J>), NoMemory>
+    ) -> Result<(Shop<J, M>, Purger<J>), NoMemory>
         requires population { IsPopulation (rows tables) }
         requires names { names_at_opening seats.names
             (world_at_opening system (rows tables) extents seats.names.layout) ≡ J.names }
@@ -353,18 +351,18 @@ impl<J: Naming> Shop<J> {
         ensures purger { IfOk result (λ s. s.1 ≡ silent J.names.history 0) }
     {
         let layout = seats.layout();
-        let core = Core::open(alloc, tables, extents, layout)?;
+        let core = M::open(alloc, tables, extents, layout)?;
         Ok(Shop::over(core, seats))
     }
 
     // Opens a shop on a core that has begun nothing.
-    fn over(core: Core, seats: Seats) -> (Shop<J>, Purger<J>)
-        requires newest { newest system (world_of core) ≡ 0 }
-        requires quiet { open_count (world_of core) ≡ 0 }
-        requires horizon { horizon system (world_of core) ≡ 0 }
-        requires names { names_at_opening seats.names (world_of core) ≡ J.names }
-        requires layout { (world_of core).layout ≡ J.names.layout }
-        requires none { IsQuiet system (world_of core) }
+    fn over(core: M, seats: Seats) -> (Shop<J, M>, Purger<J>)
+        requires newest { newest system (M.world core) ≡ 0 }
+        requires quiet { open_count (M.world core) ≡ 0 }
+        requires horizon { horizon system (M.world core) ≡ 0 }
+        requires names { names_at_opening seats.names (M.world core) ≡ J.names }
+        requires layout { (M.world core).layout ≡ J.names.layout }
+        requires none { IsQuiet system (M.world core) }
         ensures new { (result.0.room.name ≡ seats.shop) × (result.0.given ≡ 0) }
         ensures free { (t : ℕ) → seat_for result.0 t ≢ Some None }
         ensures purger { result.1 ≡ silent J.names.history 0 }
@@ -437,7 +435,7 @@ impl<J: Naming> Shop<J> {
     }
 
     /// Lends what the calls of its desks take.
-    pub fn front(&self) -> &Front<J>
+    pub fn front(&self) -> &Front<J, M>
         ensures { result.now ≡ self.now.room.words }
     {
         let _name = self.name;
@@ -450,10 +448,14 @@ impl<J: Naming> Shop<J> {
     ///
     /// The history leads from the world with which the shop opened to the core's. Each desk's calls
     /// stand there as the desk was told them, in its order, and so do the purger's, and no others.
-    pub fn close(self, mut desks: Vec<Desk<J>>, purger: Purger<J>) -> Result<Closed, NotQuiet<J>>
+    pub fn close(
+        self,
+        mut desks: Vec<Desk<J>>,
+        purger: Purger<J>,
+    ) -> Result<Closed<M>, NotQuiet<J, M>>
         requires all { length desks.items ≡ self.given }
         ensures run { IfOk result (λ r.
-            IsHistory J.names.opened r.history.log (world_of r.core)) }
+            IsHistory J.names.opened r.history.log (M.world r.core)) }
         ensures told { IfOk result (λ r. AreKnown r.history.log desks.items
             × Knows r.history.log purger) }
         ensures purges { IfOk result (λ r. calls_by 0 r.history.log ≡ purger.mine) }
@@ -462,10 +464,10 @@ impl<J: Naming> Shop<J> {
         ensures sums { IfOk result (λ r. AreSums desks.items r.counted) }
         ensures ended { IfOk result (λ r.
             r.counted.begun ≡ r.counted.committed + r.counted.rolled_back) }
-        ensures quiet { IfOk result (λ r. open_count (world_of r.core) ≡ 0) }
+        ensures quiet { IfOk result (λ r. open_count (M.world r.core) ≡ 0) }
         ensures newest { IfOk result (λ r.
-            newest system (world_of r.core) ≡ r.counted.committed) }
-        ensures layout { IfOk result (λ r. (world_of r.core).layout ≡ J.names.layout) }
+            newest system (M.world r.core) ≡ r.counted.committed) }
+        ensures layout { IfOk result (λ r. (M.world r.core).layout ≡ J.names.layout) }
         ensures back { IfErr result (λ e. (e.shop ≡ self) × (e.desks.items ≡ desks.items)
             × (e.purger ≡ purger)) }
         ensures open { IfErr result (λ e. (1 ≤ e.open) × AreOpen desks.items e.open) }
@@ -512,7 +514,7 @@ impl<J: Naming> Shop<J> {
 }
 
 // Looks at what the places of a list have called.
-fn look_at_list<J: Naming>(hall: &mut Hall<J>, places: &mut Vec<Option<Place>>)
+fn look_at_list<J: Naming, M: Machine>(hall: &mut Hall<J, M>, places: &mut Vec<Option<Place>>)
     requires here { AreHere J.names.history places.old.items }
     ensures same { (hall.new ≡ hall.old) × (places.new.items ≡ places.old.items) }
     ensures told { HaveCalled hall.old.history.log places.old.items }
@@ -521,7 +523,7 @@ fn look_at_list<J: Naming>(hall: &mut Hall<J>, places: &mut Vec<Option<Place>>)
 }
 
 // Looks at what the places have called.
-fn look_at_places<J: Naming>(hall: &mut Hall<J>, places: &mut [Option<Place>])
+fn look_at_places<J: Naming, M: Machine>(hall: &mut Hall<J, M>, places: &mut [Option<Place>])
     requires here { AreHere J.names.history places.old }
     ensures same { (hall.new ≡ hall.old) × (places.new ≡ places.old) }
     ensures told { HaveCalled hall.old.history.log places.old }
@@ -534,7 +536,7 @@ fn look_at_places<J: Naming>(hall: &mut Hall<J>, places: &mut [Option<Place>])
 }
 
 // Looks at what a place has called, if it is there.
-fn look_at_place<J: Naming>(hall: &mut Hall<J>, place: &mut Option<Place>)
+fn look_at_place<J: Naming, M: Machine>(hall: &mut Hall<J, M>, place: &mut Option<Place>)
     requires here { IsHere J.names.history place.old }
     ensures same { (hall.new ≡ hall.old) × (place.new ≡ place.old) }
     ensures told { HasCalled hall.old.history.log place.old }
@@ -545,8 +547,8 @@ fn look_at_place<J: Naming>(hall: &mut Hall<J>, place: &mut Option<Place>)
 }
 
 // Counts what the desks of a list were told, and what one hand was told before.
-fn audit_list<J: Naming>(
-    hall: &mut Hall<J>,
+fn audit_list<J: Naming, M: Machine>(
+    hall: &mut Hall<J, M>,
     all: &mut Told<J>,
     desks: &mut Vec<Desk<J>>,
     before: Counted,
@@ -557,7 +559,7 @@ fn audit_list<J: Naming>(
     requires room { HasRoomToCount before (length desks.old.items) }
     ensures same { (hall.new ≡ hall.old) × (all.new ≡ all.old) }
     ensures desks { desks.new.items ≡ desks.old.items }
-    ensures hall { IsHall hall.old }
+    ensures hall { IsHall M.world hall.old }
     ensures counts { AreTotals (tally 1 result) hall.old.counts }
     ensures known { AreKnown hall.old.history.log desks.old.items }
     ensures told { (result.begun ≡ before.begun + sum_by begun_by desks.old.items)
@@ -569,8 +571,8 @@ fn audit_list<J: Naming>(
 
 // Counts what the desks were told: lends it to one hand, and looks at the totals.
 #[cycle(audit)]
-fn audit_desks<J: Naming>(
-    hall: &mut Hall<J>,
+fn audit_desks<J: Naming, M: Machine>(
+    hall: &mut Hall<J, M>,
     all: &mut Told<J>,
     desks: &mut [Desk<J>],
     before: Counted,
@@ -580,7 +582,7 @@ fn audit_desks<J: Naming>(
     requires before { all.old ≡ tally all.old.parts before }
     requires room { HasRoomToCount before (length desks.old) }
     ensures same { (hall.new ≡ hall.old) × (all.new ≡ all.old) × (desks.new ≡ desks.old) }
-    ensures hall { IsHall hall.old }
+    ensures hall { IsHall M.world hall.old }
     ensures counts { AreTotals (tally 1 result) hall.old.counts }
     ensures known { AreKnown hall.old.history.log desks.old }
     ensures told { (result.begun ≡ before.begun + sum_by begun_by desks.old)
@@ -595,8 +597,8 @@ fn audit_desks<J: Naming>(
 }
 
 #[cycle(audit)]
-fn audit_first<J: Naming>(
-    hall: &mut Hall<J>,
+fn audit_first<J: Naming, M: Machine>(
+    hall: &mut Hall<J, M>,
     all: &mut Told<J>,
     first: &mut Desk<J>,
     others: &mut [Desk<J>],
@@ -608,7 +610,7 @@ fn audit_first<J: Naming>(
     requires room { HasRoomToCount before (length others.old + 1) }
     ensures same { (hall.new ≡ hall.old) × (all.new ≡ all.old) × (first.new ≡ first.old)
         × (others.new ≡ others.old) }
-    ensures hall { IsHall hall.old }
+    ensures hall { IsHall M.world hall.old }
     ensures counts { AreTotals (tally 1 result) hall.old.counts }
     ensures known { Knows hall.old.history.log first.old.calls
         × AreKnown hall.old.history.log others.old }
@@ -641,10 +643,10 @@ impl<J: Naming> Desk<J> {
 
     /// Begins a transaction. `AlreadyOpen` where the terminal has one open. `Overflow` of H_NUMBER
     /// also where the desk has begun 2^58 - 1. A refusal has changed nothing.
-    pub fn begin<W: Wait>(
+    pub fn begin<M: Machine, W: Wait>(
         &mut self,
         rt: &W,
-        front: &Front<J>,
+        front: &Front<J, M>,
         request: &Request,
     ) -> Result<Open, Refusal>
         ensures turn { ABegin self.old request.now result self.new }
@@ -676,7 +678,7 @@ impl<J: Naming> Desk<J> {
     /// Carries out the next stage of a transaction that the desk began, which commits after the
     /// last: its reply is the desk's `reply` until the next commit. `NotOpen` of any other.
     #[inline]
-    pub fn advance<W: Wait>(&mut self, rt: &W, front: &Front<J>, work: Open) -> Turn
+    pub fn advance<M: Machine, W: Wait>(&mut self, rt: &W, front: &Front<J, M>, work: Open) -> Turn
         ensures turn { AnAdvance self.old work result self.new }
         ensures kept { Keeps work result }
         ensures run { HasHappened J.names.opened self.new.calls.seen }
@@ -717,10 +719,10 @@ impl<J: Naming> Desk<J> {
 
     /// Rolls a transaction back that the desk began: it is never refused where the desk's calls left
     /// one open. `NotOpen` of any other, which comes back.
-    pub fn end<W: Wait>(
+    pub fn end<M: Machine, W: Wait>(
         &mut self,
         rt: &W,
-        front: &Front<J>,
+        front: &Front<J, M>,
         transaction: Open,
     ) -> Result<(), (Refusal, Open)>
         ensures turn { AnEnd self.old transaction result self.new }
@@ -748,14 +750,14 @@ impl<J: Naming> Desk<J> {
 
     /// Answers a query of the moment that the desk's pin holds: never `TooOld`. `NotPinned` with
     /// the desk's pin word, where the pin is another desk's.
-    pub fn read<W: Wait>(
+    pub fn read<M: Machine, W: Wait>(
         &mut self,
         rt: &W,
-        front: &Front<J>,
+        front: &Front<J, M>,
         pin: &Pin,
         query: &Query,
     ) -> Result<QueryReply, Refusal>
-        ensures turn { ARead self.old pin.now query.now result self.new }
+        ensures turn { ARead M.world self.old pin.now query.now result self.new }
         ensures run { HasHappened J.names.opened self.new.calls.seen }
         ensures desk { self.new ≡ with_calls self.new.calls self.old }
         ensures young { IsYoung result }
@@ -767,7 +769,7 @@ impl<J: Naming> Desk<J> {
     }
 
     /// Loads the newest moment, which is at least each that this desk saw or told.
-    pub fn newest(&mut self, front: &Front<J>) -> Moment
+    pub fn newest<M: Machine>(&mut self, front: &Front<J, M>) -> Moment
         ensures desk { self.new ≡
             with_seat (with_notes (notes_after_sight result self.old.seat.notes) self.old.seat)
             self.old }
@@ -778,7 +780,7 @@ impl<J: Naming> Desk<J> {
     }
 
     /// Tells a moment: from then on this desk sees no earlier one as the newest.
-    pub fn told(&mut self, front: &Front<J>, moment: Moment)
+    pub fn told<M: Machine>(&mut self, front: &Front<J, M>, moment: Moment)
         ensures desk { self.new ≡ with_seat (with_notes
             (notes_after_sight self.new.seat.notes.seen self.old.seat.notes) self.old.seat)
             self.old }
@@ -798,7 +800,7 @@ impl<J: Naming> Desk<J> {
 
     /// Pins the newest moment, which it loads. `TooOld` with the keeper's claim, where that is above
     /// it.
-    pub fn pin(&mut self, front: &Front<J>) -> Result<Pin, TooOld>
+    pub fn pin<M: Machine>(&mut self, front: &Front<J, M>) -> Result<Pin, TooOld>
         requires { is_pinned self.old.seat.notes.pin ≡ false }
         ensures desk { self.new ≡
             with_seat (with_notes self.new.seat.notes self.old.seat) self.old }
@@ -815,7 +817,11 @@ impl<J: Naming> Desk<J> {
 
     /// Ends a pin of this desk. Any other is handed back with this desk's pin word, and nothing has
     /// changed.
-    pub fn unpin(&mut self, front: &Front<J>, pin: Pin) -> Result<(), (NotPinned, Pin)>
+    pub fn unpin<M: Machine>(
+        &mut self,
+        front: &Front<J, M>,
+        pin: Pin,
+    ) -> Result<(), (NotPinned, Pin)>
         ensures ok { OnOk result (self.new ≡ with_seat
             (with_notes (with_pin Free self.old.seat.notes) self.old.seat) self.old) }
         ensures own { OnOk result (Holds self.old.seat pin) }

@@ -10,7 +10,9 @@ ghost use Rattle.oe_hall.specs.Naming.{names_at_opening};
 use crate::asks::{Ask, Look, query, request};
 use crate::scripts::PLACES;
 use crate::shows::{desk, extents, opened, populated, seats};
+use oe_core::Core;
 use oe_hall::{Closed, Desk, Front, Naming, Purger, Seats, Shop, Turn};
+use oe_machine::Machine;
 use oe_moments::Pin;
 use oe_requests::{Query, QueryReply, Refusal, Request};
 use oe_store::Tables;
@@ -31,9 +33,9 @@ struct Seen {
 }
 
 // Carries a request out, and gives the moment that it made.
-fn carried_out<J: Naming, H: Wait + Abort>(
+fn carried_out<J: Naming, M: Machine, H: Wait + Abort>(
     rt: &H,
-    front: &Front<J>,
+    front: &Front<J, M>,
     desk: &mut Desk<J>,
     request: &Request,
 ) -> Moment {
@@ -52,7 +54,7 @@ fn carried_out<J: Naming, H: Wait + Abort>(
     unreachable!()
 }
 
-fn pinned<J: Naming>(rt: &impl Abort, front: &Front<J>, desk: &mut Desk<J>) -> Pin {
+fn pinned<J: Naming, M: Machine>(rt: &impl Abort, front: &Front<J, M>, desk: &mut Desk<J>) -> Pin {
     if desk.is_pinned() {
         panic!(rt; "a pin is out")
     }
@@ -62,7 +64,12 @@ fn pinned<J: Naming>(rt: &impl Abort, front: &Front<J>, desk: &mut Desk<J>) -> P
     }
 }
 
-fn unpinned<J: Naming>(rt: &impl Abort, front: &Front<J>, desk: &mut Desk<J>, pin: Pin) {
+fn unpinned<J: Naming, M: Machine>(
+    rt: &impl Abort,
+    front: &Front<J, M>,
+    desk: &mut Desk<J>,
+    pin: Pin,
+) {
     match desk.unpin(front, pin) {
         Ok(()) => {}
         Err(_) => panic!(rt; "the pin is another desk's"),
@@ -70,10 +77,10 @@ fn unpinned<J: Naming>(rt: &impl Abort, front: &Front<J>, desk: &mut Desk<J>, pi
 }
 
 // Two terminals' day, until the shop is closed.
-fn day<J: Naming, H: Wait + Abort>(
+fn day<J: Naming, M: Machine, H: Wait + Abort>(
     rt: &H,
     alloc: Global,
-    mut shop: Shop<J>,
+    mut shop: Shop<J, M>,
     mut purger: Purger<J>,
     order: &Request,
     status: &Query,
@@ -113,7 +120,7 @@ fn day<J: Naming, H: Wait + Abort>(
 }
 
 // Opens a shop for a day.
-fn opened_for<J: Naming, H: Wait + Abort>(
+fn opened_for<J: Naming, M: Machine, H: Wait + Abort>(
     rt: &H,
     alloc: Global,
     tables: Tables,
@@ -125,7 +132,7 @@ fn opened_for<J: Naming, H: Wait + Abort>(
         (world_at_opening system (rows tables) extents seats.names.layout) ≡ J.names }
 {
     let at = &PLACES[0];
-    let (shop, purger) = opened::<J>(rt, alloc, tables, seats, extents);
+    let (shop, purger) = opened::<J, M>(rt, alloc, tables, seats, extents);
     let order = request(rt, at, Ask::Order(0));
     let status = query(rt, at, Look::Status);
     day(rt, alloc, shop, purger, &order, &status)
@@ -136,6 +143,6 @@ fn a_day_in_a_shop(rt: HostRuntime) {
     let extents = extents(&rt, 64);
     let seats = seats(&rt, rt.alloc(), 7, PLACES[0].layout);
     let tables = populated(&rt, rt.alloc());
-    let seen = opened_for::<Brand, HostRuntime>(&rt, rt.alloc(), tables, seats, extents);
+    let seen = opened_for::<Brand, Core, HostRuntime>(&rt, rt.alloc(), tables, seats, extents);
     assert!(rt; seen.beside == 0 && seen.behind == 1 && seen.found && seen.begun == 1);
 }

@@ -3,6 +3,7 @@
 use crate::asks::{Place, query, request};
 use crate::moves::{Act, Hand, Said, Told, alone, answered, answered_at, put, refused, taken};
 use oe_hall::{Desk, Front, Naming, Purger, Turn};
+use oe_machine::Machine;
 use oe_requests::{Answer, Query, Request};
 use oe_values::Moment;
 use std::process::Abort;
@@ -25,9 +26,9 @@ fn committed<J: Naming>(rt: &impl Abort, desk: &Desk<J>, made: Moment) -> Said {
 }
 
 // Advances what the hand holds.
-fn advanced<J: Naming, H: Wait + Abort>(
+fn advanced<J: Naming, M: Machine, H: Wait + Abort>(
     rt: &H,
-    front: &Front<J>,
+    front: &Front<J, M>,
     desk: &mut Desk<J>,
     hand: &mut Hand,
 ) -> Said {
@@ -50,9 +51,9 @@ fn advanced<J: Naming, H: Wait + Abort>(
 }
 
 // Begins a transaction, which the hand then holds.
-fn begun<J: Naming, H: Wait + Abort>(
+fn begun<J: Naming, M: Machine, H: Wait + Abort>(
     rt: &H,
-    front: &Front<J>,
+    front: &Front<J, M>,
     desk: &mut Desk<J>,
     hand: &mut Hand,
     request: &Request,
@@ -67,9 +68,9 @@ fn begun<J: Naming, H: Wait + Abort>(
 }
 
 // Rolls back what the hand holds.
-fn ended<J: Naming, H: Wait + Abort>(
+fn ended<J: Naming, M: Machine, H: Wait + Abort>(
     rt: &H,
-    front: &Front<J>,
+    front: &Front<J, M>,
     desk: &mut Desk<J>,
     hand: &mut Hand,
 ) -> Said {
@@ -84,9 +85,9 @@ fn ended<J: Naming, H: Wait + Abort>(
 }
 
 // Pins the newest moment; the hand then holds the pin.
-fn pinned<J: Naming>(
+fn pinned<J: Naming, M: Machine>(
     rt: &impl Abort,
-    front: &Front<J>,
+    front: &Front<J, M>,
     desk: &mut Desk<J>,
     hand: &mut Hand,
 ) -> Told {
@@ -104,9 +105,9 @@ fn pinned<J: Naming>(
 }
 
 // Ends the pin that the hand holds.
-fn unpinned<J: Naming>(
+fn unpinned<J: Naming, M: Machine>(
     rt: &impl Abort,
-    front: &Front<J>,
+    front: &Front<J, M>,
     desk: &mut Desk<J>,
     hand: &mut Hand,
 ) -> Told {
@@ -121,9 +122,9 @@ fn unpinned<J: Naming>(
 }
 
 // Reads under the pin that the hand holds.
-fn read<J: Naming, H: Wait + Abort>(
+fn read<J: Naming, M: Machine, H: Wait + Abort>(
     rt: &H,
-    front: &Front<J>,
+    front: &Front<J, M>,
     desk: &mut Desk<J>,
     hand: &Hand,
     query: &Query,
@@ -138,9 +139,9 @@ fn read<J: Naming, H: Wait + Abort>(
 }
 
 /// Asks the purger.
-pub(crate) fn purged<J: Naming, H: Wait + Abort>(
+pub(crate) fn purged<J: Naming, M: Machine, H: Wait + Abort>(
     rt: &H,
-    front: &Front<J>,
+    front: &Front<J, M>,
     purger: &mut Purger<J>,
     newest: u64,
 ) -> Said {
@@ -150,9 +151,9 @@ pub(crate) fn purged<J: Naming, H: Wait + Abort>(
 }
 
 /// Asks a desk, with what a hand holds. It does not purge.
-pub(crate) fn asked<J: Naming, H: Wait + Abort>(
+pub(crate) fn asked<J: Naming, M: Machine, H: Wait + Abort>(
     rt: &H,
-    front: &Front<J>,
+    front: &Front<J, M>,
     desk: &mut Desk<J>,
     hand: &mut Hand,
     at: &Place,

@@ -9,8 +9,11 @@ ghost use Rattle.oe_hall.specs.Naming.{names_at_opening};
 use crate::asks::{Ask, request};
 use crate::scripts::PLACES;
 use crate::shows::{extents as extents_of, opened, populated, seats};
+use oe_core::Core;
+use oe_core::crossing::core_crosses;
 use oe_drive::{Ajar, Deeds, Driven, Gate, Plan, drive};
 use oe_hall::{Counted, Naming, Seats};
+use oe_machine::Machine;
 use oe_requests::{Errand, Request};
 use oe_store::Tables;
 use oe_values::ExtentCount;
@@ -44,8 +47,13 @@ fn plans(rt: &impl Abort, alloc: Global, asks: &[Ask]) -> Vec<Plan> {
     plans
 }
 
-// Drives terminals in a shop, and counts what they did.
-fn driven<J: Naming + Send + Sync, H: Threads + Wait + Abort + Sync, G: Gate + Sync>(
+// Drives terminals in a shop.
+fn driven<
+    J: Naming + Send + Sync,
+    M: Machine + Send,
+    H: Threads + Wait + Abort + Sync,
+    G: Gate + Sync,
+>(
     rt: &H,
     alloc: Global,
     gate: &G,
@@ -53,29 +61,34 @@ fn driven<J: Naming + Send + Sync, H: Threads + Wait + Abort + Sync, G: Gate + S
     seats: Seats,
     extents: ExtentCount,
     asks: &[Ask],
-) -> (Counted, Deeds)
+) -> Driven<M>
     requires population { IsPopulation (rows tables) }
     requires names { names_at_opening seats.names
         (world_at_opening system (rows tables) extents seats.names.layout) ≡ J.names }
 {
-    let (shop, purger) = opened::<J>(rt, alloc, tables, seats, extents);
+    let (shop, purger) = opened::<J, M>(rt, alloc, tables, seats, extents);
     let plans = plans(rt, alloc, asks);
     if plans.len() < 1 || plans.len() > 63 {
         panic!(rt; "no terminal, or too many");
     }
     match drive(rt, alloc, gate, shop, purger, plans) {
-        Ok(driven) => {
-            let Driven {
-                core,
-                history: _,
-                counted,
-                deeds,
-            } = driven;
-            core.discard();
-            (counted, deeds)
-        }
+        Ok(driven) => driven,
         Err(_) => panic!(rt; "no memory"),
     }
+}
+
+/// Drives a terminal for each request, in a shop over a machine of that type.
+pub(crate) fn driven_on<M: Machine + Send, H: Threads + Wait + Abort + Sync, G: Gate + Sync>(
+    rt: &H,
+    alloc: Global,
+    gate: &G,
+    extents: u32,
+    asks: &[Ask],
+) -> Driven<M> {
+    let extents = extents_of(rt, extents);
+    let seats = seats(rt, alloc, 7, PLACES[0].layout);
+    let tables = populated(rt, alloc);
+    driven::<Brand, M, H, G>(rt, alloc, gate, tables, seats, extents, asks)
 }
 
 /// Drives a terminal for each request, and counts what they did.
@@ -86,10 +99,15 @@ pub(crate) fn driven_at<H: Threads + Wait + Abort + Sync, G: Gate + Sync>(
     extents: u32,
     asks: &[Ask],
 ) -> (Counted, Deeds) {
-    let extents = extents_of(rt, extents);
-    let seats = seats(rt, alloc, 7, PLACES[0].layout);
-    let tables = populated(rt, alloc);
-    driven::<Brand, H, G>(rt, alloc, gate, tables, seats, extents, asks)
+    core_crosses();
+    let Driven {
+        core,
+        history: _,
+        counted,
+        deeds,
+    } = driven_on::<Core, H, G>(rt, alloc, gate, extents, asks);
+    core.discard();
+    (counted, deeds)
 }
 
 // Both terminals leave a delivery in the queue, and only the worker begins a transaction.

@@ -9,6 +9,8 @@
 #[cfg(test)]
 mod asks;
 #[cfg(test)]
+mod counts;
+#[cfg(test)]
 mod days;
 #[cfg(test)]
 mod desks;

@@ -72,9 +72,9 @@ fn compared(
 
 /// Carries out the moves of a script, in order: each is told what it should be told, and a core
 /// answers alike.
-pub(crate) fn play<J: Naming, H: Wait + Abort>(
+pub(crate) fn play<J: Naming, M: Machine, H: Wait + Abort>(
     rt: &H,
-    front: &Front<J>,
+    front: &Front<J, M>,
     desks: &mut [Desk<J>],
     purger: &mut Purger<J>,
     core: &mut Core,

@@ -12,6 +12,7 @@ use crate::moves::{Act, Hand, Told};
 use crate::scripts::PLACES;
 use crate::shows::{extents, populated, seated, seats};
 use oe_core::Core;
+use oe_core::crossing::core_crosses;
 use oe_hall::crossing::front_crosses;
 use oe_hall::{Closed, Desk, Front, Naming, Purger, Seats};
 use oe_machine::Machine;
@@ -67,9 +68,9 @@ impl Reader {
 }
 
 // Pays a hundred times at a place, and reads after each payment.
-fn pay_and_read<J: Naming, H: Wait + Abort>(
+fn pay_and_read<J: Naming, M: Machine, H: Wait + Abort>(
     rt: &H,
-    front: &Front<J>,
+    front: &Front<J, M>,
     desk: &mut Desk<J>,
     at: &Place,
 ) {
@@ -94,7 +95,11 @@ fn pay_and_read<J: Naming, H: Wait + Abort>(
 }
 
 // Purges two hundred times, as far as the pins let it.
-fn purge<J: Naming, H: Wait + Abort>(rt: &H, front: &Front<J>, purger: &mut Purger<J>) {
+fn purge<J: Naming, M: Machine, H: Wait + Abort>(
+    rt: &H,
+    front: &Front<J, M>,
+    purger: &mut Purger<J>,
+) {
     for _ in 0..200u32 {
         let _reached = purger.purge(rt, front, moment(rt, 999_999_999_999));
         thread::yield_now();
@@ -102,33 +107,35 @@ fn purge<J: Naming, H: Wait + Abort>(rt: &H, front: &Front<J>, purger: &mut Purg
 }
 
 // Runs two readers and the purger at once, each in a thread of its own.
-fn all_at_once<J: Naming + Send + Sync, H: Threads + Wait + Abort + Sync>(
+fn all_at_once<J: Naming + Send + Sync, M: Machine + Send, H: Threads + Wait + Abort + Sync>(
     rt: &H,
-    front: &Front<J>,
+    front: &Front<J, M>,
     desks: &mut [Desk<J>],
     purger: &mut Purger<J>,
 ) -> bool {
-    let walk = desks.iter_mut();
+    let Some((first, others)) = desks.split_first_mut() else {
+        return false;
+    };
+    let Some((second, _idle)) = others.split_first_mut() else {
+        return false;
+    };
     thread::scope(thread::scope_env(), rt, move |scope| {
-        front_crosses::<J>();
+        front_crosses::<J, M>();
         let work = move || purge(rt, front, purger);
         if scope.spawn(work).is_err() {
             return false;
         }
-        for (desk, place) in walk.zip(PLACES.iter()) {
-            if scope
-                .spawn(move || pay_and_read(rt, front, desk, place))
-                .is_err()
-            {
-                return false;
-            }
+        let near = move || pay_and_read(rt, front, first, &PLACES[0]);
+        if scope.spawn(near).is_err() {
+            return false;
         }
-        true
+        let far = move || pay_and_read(rt, front, second, &PLACES[1]);
+        scope.spawn(far).is_ok()
     })
 }
 
 // Counts the conditions that hold at the newest moment.
-fn count_held(core: &mut Core) -> u32 {
+fn count_held<M: Machine>(core: &mut M) -> u32 {
     let mut held = 0u32;
     for condition in [
         Condition::First,
@@ -153,7 +160,7 @@ fn count_held(core: &mut Core) -> u32 {
 
 // Runs two desks and a purger: how many commits they were told, and how many conditions hold in the
 // end.
-fn day<J: Naming + Send + Sync, H: Threads + Wait + Abort + Sync>(
+fn day<J: Naming + Send + Sync, M: Machine + Send, H: Threads + Wait + Abort + Sync>(
     rt: &H,
     alloc: Global,
     tables: Tables,
@@ -164,7 +171,14 @@ fn day<J: Naming + Send + Sync, H: Threads + Wait + Abort + Sync>(
     requires names { names_at_opening seats.names
         (world_at_opening system (rows tables) extents seats.names.layout) ≡ J.names }
 {
-    let (shop, mut desks, mut purger) = seated::<J>(rt, alloc, tables, seats, extents, [1, 2, 3]);
+    let (shop, mut desks, mut purger) = seated::<J, M>(
+        rt,
+        alloc,
+        tables,
+        seats,
+        extents,
+        [1, 2, 3],
+    );
     let is_run = all_at_once(rt, shop.front(), desks.as_mut_slice(), &mut purger);
     assert!(rt; is_run);
     match shop.close(desks, purger) {
@@ -187,6 +201,7 @@ fn purger_beside_readers(rt: HostRuntime) {
     let extents = extents(&rt, 4_096);
     let seats = seats(&rt, rt.alloc(), 7, PLACES[0].layout);
     let tables = populated(&rt, rt.alloc());
-    let told = day::<Brand, HostRuntime>(&rt, rt.alloc(), tables, seats, extents);
+    core_crosses();
+    let told = day::<Brand, Core, HostRuntime>(&rt, rt.alloc(), tables, seats, extents);
     assert!(rt; told == (200, 11));
 }

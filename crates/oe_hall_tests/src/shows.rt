@@ -14,6 +14,7 @@ use crate::scripts;
 use crate::tables::is_same;
 use oe_core::Core;
 use oe_hall::{Closed, Counted, Desk, Naming, NotQuiet, Purger, Seats, Shop};
+use oe_machine::Machine;
 use oe_model::populations::population_is_one;
 use oe_population::populate;
 use oe_rows::{Layout, Scale};
@@ -75,13 +76,13 @@ pub(crate) fn extents(rt: &impl Abort, number: u32) -> ExtentCount {
 }
 
 /// Opens a shop on a population.
-pub(crate) fn opened<J: Naming>(
+pub(crate) fn opened<J: Naming, M: Machine>(
     rt: &impl Abort,
     alloc: Global,
     tables: Tables,
     seats: Seats,
     extents: ExtentCount,
-) -> (Shop<J>, Purger<J>)
+) -> (Shop<J, M>, Purger<J>)
     requires population { IsPopulation (rows tables) }
     requires names { names_at_opening seats.names
         (world_at_opening system (rows tables) extents seats.names.layout) ≡ J.names }
@@ -104,7 +105,11 @@ pub(crate) fn seats(rt: &impl Abort, alloc: Global, shop: u32, layout: Layout) -
 }
 
 /// Gives a terminal its desk.
-pub(crate) fn desk<J: Naming>(rt: &impl Abort, shop: &mut Shop<J>, number: u32) -> Desk<J>
+pub(crate) fn desk<J: Naming, M: Machine>(
+    rt: &impl Abort,
+    shop: &mut Shop<J, M>,
+    number: u32,
+) -> Desk<J>
     ensures { shop.new.given ≡ shop.old.given + 1 }
 {
     let terminal = Terminal::new(number).expect(rt, "a terminal");
@@ -115,20 +120,20 @@ pub(crate) fn desk<J: Naming>(rt: &impl Abort, shop: &mut Shop<J>, number: u32) 
 }
 
 /// Opens a shop with the desks of three terminals.
-pub(crate) fn seated<J: Naming>(
+pub(crate) fn seated<J: Naming, M: Machine>(
     rt: &impl Abort,
     alloc: Global,
     tables: Tables,
     seats: Seats,
     extents: ExtentCount,
     terminals: [u32; 3],
-) -> (Shop<J>, Vec<Desk<J>>, Purger<J>)
+) -> (Shop<J, M>, Vec<Desk<J>>, Purger<J>)
     requires population { IsPopulation (rows tables) }
     requires names { names_at_opening seats.names
         (world_at_opening system (rows tables) extents seats.names.layout) ≡ J.names }
     ensures { length result.1.items ≡ result.0.given }
 {
-    let (mut shop, purger) = opened::<J>(rt, alloc, tables, seats, extents);
+    let (mut shop, purger) = opened::<J, M>(rt, alloc, tables, seats, extents);
     let Ok(mut desks) = Vec::with_capacity(alloc, 3) else {
         panic!(rt; "no memory")
     };
@@ -140,9 +145,9 @@ pub(crate) fn seated<J: Naming>(
 
 // Closes a shop whose transactions have ended: it counts what the show says, and leaves the tables
 // that the core has.
-fn ended<J: Naming>(
+fn ended<J: Naming, M: Machine>(
     rt: &impl Abort,
-    shop: Shop<J>,
+    shop: Shop<J, M>,
     desks: Vec<Desk<J>>,
     purger: Purger<J>,
     core: Core,
@@ -171,13 +176,13 @@ fn is_counted(counted: &Counted, show: &Show) -> bool {
 }
 
 // Asks a shop to close beside that many open transactions, where there are any: it comes back.
-fn still_open<J: Naming>(
+fn still_open<J: Naming, M: Machine>(
     rt: &impl Abort,
-    shop: Shop<J>,
+    shop: Shop<J, M>,
     desks: Vec<Desk<J>>,
     purger: Purger<J>,
     open: u64,
-) -> (Shop<J>, Vec<Desk<J>>, Purger<J>)
+) -> (Shop<J, M>, Vec<Desk<J>>, Purger<J>)
     requires { length desks.items ≡ shop.given }
     ensures { length result.1.items ≡ result.0.given }
 {
@@ -200,7 +205,7 @@ fn still_open<J: Naming>(
 }
 
 // Plays a show by the desks of a shop.
-fn played<J: Naming, H: Wait + Abort>(
+fn played<J: Naming, M: Machine, H: Wait + Abort>(
     rt: &H,
     alloc: Global,
     tables: Tables,
@@ -214,7 +219,7 @@ fn played<J: Naming, H: Wait + Abort>(
     requires names { names_at_opening seats.names
         (world_at_opening system (rows tables) extents seats.names.layout) ≡ J.names }
 {
-    let seated = seated::<J>(rt, alloc, tables, seats, extents, show.terminals);
+    let seated = seated::<J, M>(rt, alloc, tables, seats, extents, show.terminals);
     let (shop, mut desks, mut purger) = seated;
     let mut core = core_on(rt, alloc, show.extents, at.layout);
     play(
@@ -242,7 +247,7 @@ fn played<J: Naming, H: Wait + Abort>(
 }
 
 /// Shows a script in a shop of that name.
-pub(crate) fn shown<H: Wait + Abort>(
+pub(crate) fn shown<M: Machine, H: Wait + Abort>(
     rt: &H,
     alloc: Global,
     name: u32,
@@ -253,12 +258,12 @@ pub(crate) fn shown<H: Wait + Abort>(
     let extents = extents(rt, show.extents);
     let seats = seats(rt, alloc, name, at.layout);
     let tables = populated(rt, alloc);
-    played::<Brand, H>(rt, alloc, tables, seats, extents, show, at, hands);
+    played::<Brand, M, H>(rt, alloc, tables, seats, extents, show, at, hands);
 }
 
 // Plays a show by the desks of a shop, and another one in another shop in between, which is handed
 // what they hold.
-fn two_shops<J: Naming, H: Wait + Abort>(
+fn two_shops<J: Naming, M: Machine, H: Wait + Abort>(
     rt: &H,
     alloc: Global,
     tables: Tables,
@@ -272,7 +277,7 @@ fn two_shops<J: Naming, H: Wait + Abort>(
         (world_at_opening system (rows tables) extents seats.names.layout) ≡ J.names }
 {
     let (show, other) = shows;
-    let seated = seated::<J>(rt, alloc, tables, seats, extents, show.terminals);
+    let seated = seated::<J, M>(rt, alloc, tables, seats, extents, show.terminals);
     let (shop, mut desks, mut purger) = seated;
     let mut core = core_on(rt, alloc, show.extents, at.layout);
     let mut hands = Hands::empty();
@@ -286,7 +291,7 @@ fn two_shops<J: Naming, H: Wait + Abort>(
         at,
         show.moves,
     );
-    shown(rt, alloc, 8, other, at, &mut hands);
+    shown::<M, H>(rt, alloc, 8, other, at, &mut hands);
     play(
         rt,
         shop.front(),
@@ -301,10 +306,15 @@ fn two_shops<J: Naming, H: Wait + Abort>(
     ended(rt, shop, desks, purger, core, show);
 }
 
-// Shows a script alone.
-fn shown_alone<H: Wait + Abort>(rt: &H, alloc: Global, show: &Show, at: &Place) {
+/// Shows a script alone, in a shop over a machine of that type.
+pub(crate) fn shown_alone<M: Machine, H: Wait + Abort>(
+    rt: &H,
+    alloc: Global,
+    show: &Show,
+    at: &Place,
+) {
     let mut hands = Hands::empty();
-    shown(rt, alloc, 7, show, at, &mut hands);
+    shown::<M, H>(rt, alloc, 7, show, at, &mut hands);
     hands.put_down(rt);
 }
 
@@ -312,7 +322,7 @@ fn shown_alone<H: Wait + Abort>(rt: &H, alloc: Global, show: &Show, at: &Place) 
 fn desks_answer_as_core(rt: HostRuntime) {
     for show in scripts::WORKED {
         for place in scripts::PLACES {
-            shown_alone(&rt, rt.alloc(), &show, &place);
+            shown_alone::<Core, HostRuntime>(&rt, rt.alloc(), &show, &place);
         }
     }
 }
@@ -320,7 +330,7 @@ fn desks_answer_as_core(rt: HostRuntime) {
 #[test]
 fn what_is_another_desks_comes_back(rt: HostRuntime) {
     for place in scripts::PLACES {
-        shown_alone(&rt, rt.alloc(), &scripts::STRANGERS, &place);
+        shown_alone::<Core, HostRuntime>(&rt, rt.alloc(), &scripts::STRANGERS, &place);
     }
 }
 
@@ -331,22 +341,22 @@ fn what_is_another_shops_comes_back(rt: HostRuntime) {
     let extents = extents(&rt, scripts::HOME.extents);
     let seats = seats(&rt, rt.alloc(), 7, at.layout);
     let tables = populated(&rt, rt.alloc());
-    two_shops::<Brand, HostRuntime>(&rt, rt.alloc(), tables, seats, extents, shows, at);
+    two_shops::<Brand, Core, HostRuntime>(&rt, rt.alloc(), tables, seats, extents, shows, at);
 }
 
 #[test]
 fn a_pin_holds_the_horizon_until_it_ends(rt: HostRuntime) {
-    shown_alone(&rt, rt.alloc(), &scripts::PURGES, &scripts::PLACES[0]);
+    shown_alone::<Core, HostRuntime>(&rt, rt.alloc(), &scripts::PURGES, &scripts::PLACES[0]);
 }
 
 #[test]
 fn a_desk_waits_for_a_lock_that_another_gives_back(rt: HostRuntime) {
-    shown_alone(&rt, rt.alloc(), &scripts::WAITS, &scripts::PLACES[0]);
+    shown_alone::<Core, HostRuntime>(&rt, rt.alloc(), &scripts::WAITS, &scripts::PLACES[0]);
 }
 
 #[test]
 fn a_shop_is_closed_once_all_has_ended(rt: HostRuntime) {
-    shown_alone(&rt, rt.alloc(), &scripts::STAYS_OPEN, &scripts::PLACES[0]);
+    shown_alone::<Core, HostRuntime>(&rt, rt.alloc(), &scripts::STAYS_OPEN, &scripts::PLACES[0]);
 }
 
 /// Opens, begins, advances and commits, all of it at the first try where memory is ample. Under
@@ -354,5 +364,5 @@ fn a_shop_is_closed_once_all_has_ended(rt: HostRuntime) {
 /// `no memory`, or is as with ample memory: nothing else is refused.
 #[test]
 fn memory_is_taken_or_refused(rt: HostRuntime) {
-    shown_alone(&rt, rt.alloc(), &scripts::AN_ORDER, &scripts::PLACES[1]);
+    shown_alone::<Core, HostRuntime>(&rt, rt.alloc(), &scripts::AN_ORDER, &scripts::PLACES[1]);
 }

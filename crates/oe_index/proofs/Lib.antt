@@ -2,5 +2,4 @@
 mod FoundFacts
 mod ListFacts
 mod NameFacts
-mod NumberFacts
 mod OwnerFacts

@@ -9,7 +9,7 @@ use Rattle.std.specs.Ordering.{is_eq}
 use Rattle.std.specs.declared.cmp.Ordering.{Ordering}
 use Rattle.std.specs.Cmp.{IsTotalOrder, eq_by_cmp_equiv}
 use Rattle.std.specs.FinMap.{IsAntisymmetric}
-use Rattle.std.proofs.lemmas.List.{get_or-set_same, get_or-set_other, get_or_past, set-get_or, take_at}
+use Rattle.std.proofs.lemmas.List.{get_or-set_same, get_or-set_other, set-get_or, take_at}
 use borrow.Author.Tests.{eqb-true, eqb-false}
 use lib.Dec.{eqb}
 use Rattle.oe_table.specs.Table.{place}
@@ -210,18 +210,6 @@ module _ {K : Type 0} {cmp : K → K → Ordering} (total : IsTotalOrder cmp) (e
       λ e. let own : is_eq (cmp key k) ≡ true = ap (λ (y : K). is_eq (cmp key y)) e
       ∙ (eq_by_cmp_equiv total).refl key in (let no : ⊥ = cc in no) in
       ((λ h. (subst IsSome is h, λ e. apart e.1)), (λ h. subst IsSome (sym is) h.0))
-
-  -- past the last list no key is listed
-  pub unlists-none : (ls : List (Keys K)) → length ls ≤ i → Unlists cmp ls ls i key
-  unlists-none ls past n k = (
-    (λ h. (
-      h,
-      λ e. none-there
-          (subst (λ (l : Keys K). IsSome (place cmp l k)) (ap (λ j. get_or ls j []) e.0 ∙ get_or_past ls i [] past)
-          h),
-    )),
-    (λ h. h.0),
-  )
 
   module _ (ls : List (Keys K)) (s new : Keys K) (there : (d : Keys K) → s ≡ get_or ls i d) (up : AreLists cmp ls)
       (is : new ≡ without cmp s key) where

@@ -1,3 +1,2 @@
 pub mod Streaming
-pub mod DumpFacts
 pub mod FrontFacts

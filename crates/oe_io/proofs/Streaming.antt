@@ -52,22 +52,6 @@ cut_failed None b bytes e w = tt
 cut_failed (Some a) None bytes e w = absurd w
 cut_failed (Some a) (Some b) bytes e w = ((bytes, ap (λ z. z ++ bytes) (w.0 ∙ sym (append-nil a.contents))), w.1)
 
--- what waited is written, and nothing new came
-pub sent_flushed : (a b : Option Sink) (h i : List ℕ) → i ≡ [] → Sent a [] b [] h → Sent a h b i []
-sent_flushed None b h i e p = tt
-sent_flushed (Some a) None h i e p = absurd p
-sent_flushed (Some a) (Some b) h i e p = (
-  ap (λ z. b.contents ++ z) e ∙ p.0 ∙ ap (λ z. z ++ h) (append-nil a.contents)
-      ∙ sym (append-nil (a.contents ++ h)),
-  p.1,
-)
-
-pub cut_flushed : (a b : Option Sink) (h : List ℕ) → Cut a [] b h → Cut a h b []
-cut_flushed None b h p = tt
-cut_flushed (Some a) None h p = absurd p
-cut_flushed (Some a) (Some b) h p =
-    ((p.0.0, p.0.1 ∙ ap (λ z. z ++ h) (append-nil a.contents) ∙ sym (append-nil (a.contents ++ h))), p.1)
-
 -- a text that only waits
 pub sent_waits : (a : Option Sink) (h i t : List ℕ) → i ≡ h ++ t → Sent a h a i t
 sent_waits None h i t e = tt

@@ -1,4 +1,3 @@
 -- What the clauses of this crate cite.
 pub mod Ports
-pub mod Dump
 pub mod Lines

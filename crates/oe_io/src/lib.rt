@@ -1,8 +1,7 @@
 #![tactic(auto)]
 //! Where a script comes from and where its answers go: a reader, a writer, the output that waits,
-//! the rows of a dump, and what the system refuses.
+//! and what the system refuses.
 
-pub mod dumps;
 pub mod faults;
 pub mod output;
 pub mod ports;

@@ -1,13 +1,12 @@
 //! Output that waits in a buffer of fixed size until it is written whole. Where a write fails, what
 //! waited is not written again.
-ghost use Rattle.std.specs.Prelude.{◌≡◌, ◌<◌, ◌≤◌, ◌+◌, ◌++◌, ℕ, [], length, decimal, codes, MatchResult, IfOk};
+ghost use Rattle.std.specs.Prelude.{◌≡◌, ◌<◌, ◌≤◌, ◌+◌, ◌++◌, ℕ, [], length, codes, MatchResult, IfOk};
 ghost use Rattle.arrayvec.specs.ArrayVec.{array_vec_len};
 ghost use Rattle.oe_io.specs.Ports.{Streams, Cut};
 ghost use Rattle.oe_io.specs.Lines.{bad_line};
 
 use crate::ports::{Failed, Outlet};
-use itoa::Buffer;
-use oe_texts::{LONGEST, Pending, SIZE, has_room};
+use oe_texts::{LONGEST, Pending, SIZE, decimal, has_room, text};
 
 /// Writes all of the bytes.
 pub fn write_all<W: Outlet>(to: &mut W, bytes: &[u8]) -> Result<(), Failed>
@@ -42,25 +41,6 @@ pub fn make_room<W: Outlet>(out: &mut Pending, to: &mut W) -> Result<(), Failed>
         return Ok(());
     }
     flush(out, to)
-}
-
-/// Appends these bytes.
-fn text(out: &mut Pending, bytes: &[u8])
-    requires { array_vec_len out.old + length bytes.now ≤ SIZE }
-    ensures items { out.new.items ≡ out.old.items ++ bytes.now }
-    ensures len { array_vec_len out.new ≡ array_vec_len out.old + length bytes.now }
-{
-    out.try_extend_from_slice(bytes).unwrap();
-}
-
-/// Appends a number in decimal.
-fn decimal(out: &mut Pending, number: u128)
-    requires { array_vec_len out.old + 39 ≤ SIZE }
-    ensures items { out.new.items ≡ out.old.items ++ decimal number }
-    ensures len { array_vec_len out.new ≤ array_vec_len out.old + 39 }
-{
-    let mut buffer = Buffer::new();
-    text(out, buffer.format(number).as_bytes());
 }
 
 /// Appends the line `error 1 BadLine <number>`.

@@ -168,8 +168,3 @@ ends ts ts' v v' t count o rs is h =
         own = subst (HavePlaces ts') (sym records) h.own;
       };
     }
-
-pub all_dropped : (ts ts' : tables.Places) (v v' : SegmentLog) (t count : ℕ) (rs : List Logged)
-    → GoesBack ts ts' v v' t count rs 0
-    → v' ≡ with_records v t (drop count (records_at v t))
-all_dropped ts ts' v v' t count rs h = h.log ∙ ap (with_records v t) h.rest

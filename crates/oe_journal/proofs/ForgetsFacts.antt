@@ -1,5 +1,5 @@
 -- Customers are taken off lists of last names one after another.
-use Rattle.std.proofs.Common.{◌≡◌, ℕ, zero, suc, ◌-◌, ◌<◌, Bool, true, false, refl, sym, ap, ◌∙◌, subst, inl, inr}
+use Rattle.std.proofs.Common.{◌≡◌, ℕ, zero, suc, ◌-◌, ◌<◌, Bool, true, refl, sym, ap, ◌∙◌, subst, inl, inr}
 use Rattle.std.proofs.Common.{arith, List, [], ◌∷◌, length, map, get_or, drop}
 use Rattle.std.specs.Prelude.{◌↔◌, ◌⊎◌, IsTrue, IsSome}
 use Rattle.std.specs.Option.{IsSomeAnd}
@@ -7,7 +7,6 @@ use Rattle.std.proofs.lemmas.Bool.{true≢false}
 use Rattle.oe_rows.specs.declared.keys.CustomerKey.{CustomerKey}
 use Rattle.oe_rows.specs.declared.keys.Key.{Key}
 use Rattle.oe_rows.specs.declared.keys.Key.TheVariants as key
-use Rattle.oe_model.specs.Keys.{district_of_customer}
 use Rattle.oe_model.specs.Rows.{Rows, row_at}
 use Rattle.oe_model.specs.Changes.{Record, InsertedHistory, InsertedNewOrder, InsertedOrder, InsertedOrderLine}
 use Rattle.oe_model.specs.Changes.{UpdatedWarehouse, UpdatedDistrict, UpdatedCustomer, UpdatedOrder, UpdatedOrderLine}
@@ -16,14 +15,13 @@ use Rattle.oe_model.specs.Changes.{ChangedOrder, ChangedOrderLine, ChangedStock}
 use Rattle.oe_change.specs.PutBack.{LeavesPlaces}
 use Rattle.oe_rows.specs.Key.{customer_cmp}
 use Rattle.oe_index.specs.Listed.{IsListed}
-use Rattle.oe_index.specs.Numbers.{list_number}
 use Rattle.oe_log.specs.Log.{SegmentLog, Committed, committed_records, records_of}
 use Rattle.oe_log.specs.Stands.{model_records, undo_of, rename_in}
 use Rattle.oe_store.specs.Places.{Places, Listing, rows, SamePlaces, LosesPlace}
-use Rattle.oe_store.specs.Names.{IsNamed, SameNames, TakesOff}
+use Rattle.oe_store.specs.Names.{IsNamed, SameNames}
 use Rattle.oe_journal.specs.GivesUp.{GivesUpThose}
 use Rattle.oe_journal.specs.Named.{PutsBack}
-use Rattle.oe_journal.specs.Forgetting.{HasName, IsUntold, LosesName, LosesNameIn, HaveNamesChanged, ForgetsNames}
+use Rattle.oe_journal.specs.Forgetting.{HasName, LosesName, LosesNameIn, HaveNamesChanged, ForgetsNames}
 
 -- where nothing but names has changed, the rows have not
 pub same_rows : (old new : Places) → HaveNamesChanged old new → rows new ≡ rows old
@@ -33,14 +31,6 @@ same_rows old new is = ap rows is
 pub both_changed : (old mid new : Places) → HaveNamesChanged old mid → HaveNamesChanged mid new
     → HaveNamesChanged old new
 both_changed old mid new first second = second ∙ ap (λ (s : Places). record s { names = new.names }) first
-
--- where it holds of none, all stay
-pub forgets_none : (ts : Places) (P : ℕ → CustomerKey → Type 0) → ((n : ℕ) (k : CustomerKey) → P n k → ⊥)
-    → ForgetsNames ts ts P
-forgets_none ts P none = record {
-  lists = λ n k. ((λ h. (h, λ p. absurd (none n k p))), (λ h. h.0));
-  stand = refl;
-}
 
 -- what holds of the same
 pub forgets_same : (old new : Places) (P Q : ℕ → CustomerKey → Type 0) → ((n : ℕ) (k : CustomerKey) → P n k ↔ Q n k)
@@ -77,37 +67,6 @@ forgets_both old mid new P Q same first second = record { lists = lists; stand =
           )),
     )
 
--- a customer is off a list
-pub forgets_one : (old new : Places) (u : SegmentLog) (m : ℕ) (key : CustomerKey) (last : List ℕ)
-    → TakesOff old new (list_number (district_of_customer key) last) key → IsUntold u m key last
-    → ForgetsNames old new (LosesName u m (key, last))
-forgets_one old new u m key last off untold = record { lists = lists; stand = off.stand }
-  where
-    number : ℕ
-    number = list_number (district_of_customer key) last
-
-    lists : (n : ℕ) (k : CustomerKey) → IsNamed new n k
-        ↔ (IsNamed old n k × (LosesName u m (key, last) n k → HasName (rows old) n k))
-    lists n k = (
-      (λ h.
-          let was = (off.lists n k).0 h in (
-            was.0,
-            λ p. subst (λ (x : ℕ × CustomerKey). HasName (rows old) x.0 x.1)
-                (λ i. (sym p.0 i, sym p.1 i)) (was.1 (p.0, p.1)),
-          )),
-      (λ h.
-          (off.lists n k).1 (
-            h.0,
-            λ e. subst (λ (x : ℕ × CustomerKey). HasName (rows old) x.0 x.1)
-                (λ i. (e.0 i, e.1 i)) (h.1 (e.0, e.1, untold)),
-          )),
-    )
-
--- and where a record tells a name of the list, it stays
-pub forgets_told : (ts : Places) (u : SegmentLog) (m : ℕ) (key : CustomerKey) (last : List ℕ)
-    → (IsUntold u m key last → ⊥) → ForgetsNames ts ts (LosesName u m (key, last))
-forgets_told ts u m key last told = forgets_none ts (LosesName u m (key, last)) (λ n k p. told p.2)
-
 -- ---- commits, the oldest first
 
 history_at : (cs : List Committed) (i : ℕ) → i < length cs
@@ -118,24 +77,10 @@ history_at [] i h = let no : ⊥ = omega arith in absurd no
 history_at (c ∷ cs) zero h = refl
 history_at (c ∷ cs) (suc i) h = history_at cs i (omega arith)
 
-none_older : (cs : List Committed) (n : ℕ) → n ≡ length cs
-    → drop n (map (λ (c : Committed). model_records c.records) cs) ≡ []
-none_older [] zero e = refl
-none_older [] (suc n) e = let no : ⊥ = omega arith in absurd no
-none_older (c ∷ cs) zero e = let no : ⊥ = omega arith in absurd no
-none_older (c ∷ cs) (suc n) e = none_older cs n (omega arith)
-
 -- so far these have gone
 pub record ForgetsSoFar (ts ts' : Places) (u : SegmentLog) (m from : ℕ) : Type 0 where
   pub others : HaveNamesChanged ts ts'
   pub names : ForgetsNames ts ts' (LosesNameIn u m (drop from (undo_of u).history))
-
-pub none_so_far : (ts : Places) (u : SegmentLog) (m : ℕ) → ForgetsSoFar ts ts u m (length u.committed - 0)
-none_so_far ts u m = record {
-  others = refl;
-  names = forgets_none ts _ (λ n k p. subst (λ ss. LosesNameIn u m ss n k)
-      (none_older u.committed (length u.committed - 0) (omega arith)) p);
-}
 
 pub one_so_far : (ts ts' ts'' : Places) (u : SegmentLog) (m i at : ℕ) → i < length u.committed → at ≡ i
     → HaveNamesChanged ts' ts''
@@ -170,11 +115,6 @@ pub may_forget : (ts ts' : Places) (P : ℕ → CustomerKey → Type 0) (may : B
     → ForgetsNames ts ts' (λ n k. IsTrue may × P n k)
 may_forget ts ts' P may is g =
     forgets_same ts ts' P (λ n k. IsTrue may × P n k) (λ n k. ((λ p. (is, p)), (λ p. p.1))) g
-
-pub may_not_forget : (ts : Places) (P : ℕ → CustomerKey → Type 0) (may : Bool) → may ≡ false
-    → ForgetsNames ts ts (λ n k. IsTrue may × P n k)
-may_not_forget ts P may is =
-    forgets_none ts (λ n k. IsTrue may × P n k) (λ n k p. true≢false (sym p.0 ∙ is))
 
 -- where the same customers are listed then
 pub names_still : (old mid new : Places) (P : ℕ → CustomerKey → Type 0) → ForgetsNames old mid P → SameNames mid new

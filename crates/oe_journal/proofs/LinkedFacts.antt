@@ -16,7 +16,6 @@ use Rattle.oe_store.specs.Places.{AddsPlace}
 use Rattle.oe_store.specs.Places as tables
 use Rattle.oe_undo.specs.declared.links.OwnedLink.{OwnedLink}
 use Rattle.oe_change.specs.PutBack.{LeavesPlaces}
-use Rattle.oe_undo.specs.Shelf.{content_in}
 use Rattle.oe_undo.specs.Links.{LinkMaps, place_of, links_of, HasPlace, SetsLink, SamePlaces, LeadsTo, GivesUpLink}
 use Rattle.oe_undo.proofs.LeadFacts.{set_leads}
 use Rattle.oe_undo.specs.Owners.{link_by_now}
@@ -104,12 +103,6 @@ own_stay ts ts' old new own lost gives =
     more k false e lost h p =
         subst IsSome (sym (gives k ∙ ap (λ b. cond b (left_of (place_of old k)) (place_of old k)) e)) h
 
--- the place of a key's link goes, where it has none in the table
-pub unplaced_stay : (ts : tables.Places) (old new : LinkMaps) (own : Key) → (tables.HasPlace ts own → ⊥)
-    → GivesUpLink old new own → StayLinked ts ts old new
-unplaced_stay ts old new own none gives = own_stay ts ts old new own
-    (λ k. (λ h. (h, λ same. none (subst (λ (j : Key). tables.HasPlace ts j) same h)), λ h. h.0)) gives
-
 -- a change is undone, and its key's place stays, or goes with that of its link
 pub kept_stay : (ts ts' : tables.Places) (old new : LinkMaps) → new ≡ old → tables.SamePlaces ts ts'
     → StayLinked ts ts' old new
@@ -138,45 +131,7 @@ gone_stay (ChangedOrderLine k v) ts ts' old new h g = kept_stay ts ts' old new g
 gone_stay (ChangedStock k v) ts ts' old new h g = kept_stay ts ts' old new g h
 gone_stay (DeletedNewOrder k v) ts ts' old new h g = kept_stay ts ts' old new g h
 
-left_leads : {X : Type 0} (p : Option (Option X)) → content_in (left_of p) ≡ content_in p
-left_leads None = refl
-left_leads (Some None) = refl
-left_leads (Some (Some x)) = refl
-
--- an empty place that is given up leads nowhere still
-pub given_up_leads : (b : Record) (old new : UndoState) → new.log ≡ old.log → GivesUpOwn b old.links new.links
-    → SameLinks old new
-given_up_leads b old new log g k = ap (link_by_now new.log) (same b g)
-    ∙ ap (λ v. link_by_now v (links_of old.links k)) log
-  where
-    of : (own : Key) (q : Bool) → content_in (cond q (left_of (place_of old.links k)) (place_of old.links k)) ≡ links_of
-        old.links k
-    of own true = left_leads (place_of old.links k)
-    of own false = refl
-
-    same : (b : Record) → GivesUpOwn b old.links new.links → links_of new.links k ≡ links_of old.links k
-    same (InsertedHistory j v) g = ap content_in (g k) ∙ of (key.History j) (is_key (key.History j) k)
-    same (InsertedNewOrder j v) g = ap (λ m. links_of m k) g
-    same (InsertedOrder j v) g = ap (λ m. links_of m k) g
-    same (InsertedOrderLine j v) g = ap (λ m. links_of m k) g
-    same (UpdatedWarehouse j v) g = ap (λ m. links_of m k) g
-    same (UpdatedDistrict j v) g = ap (λ m. links_of m k) g
-    same (UpdatedCustomer j v) g = ap (λ m. links_of m k) g
-    same (UpdatedOrder j v) g = ap (λ m. links_of m k) g
-    same (UpdatedOrderLine j v) g = ap (λ m. links_of m k) g
-    same (UpdatedStock j v) g = ap (λ m. links_of m k) g
-    same (ChangedWarehouse j v) g = ap (λ m. links_of m k) g
-    same (ChangedDistrict j v) g = ap (λ m. links_of m k) g
-    same (ChangedCustomer j v) g = ap (λ m. links_of m k) g
-    same (ChangedOrder j v) g = ap (λ m. links_of m k) g
-    same (ChangedOrderLine j v) g = ap (λ m. links_of m k) g
-    same (ChangedStock j v) g = ap (λ m. links_of m k) g
-    same (DeletedNewOrder j v) g = ap (λ m. links_of m k) g
-
 -- ---- the same keys have places
-
-pub then_links : (old mid new : LinkMaps) → SamePlaces old mid → SamePlaces mid new → SamePlaces old new
-then_links old mid new a b k = (λ h. (a k).0 ((b k).0 h), λ h. (b k).1 ((a k).1 h))
 
 pub no_links_set : (old new : LinkMaps) → new ≡ old → SamePlaces old new
 no_links_set old new e = subst (SamePlaces old) (sym e) (λ k. (λ h. h, λ h. h))

@@ -12,7 +12,7 @@ use Rattle.oe_model.specs.Rows.{Rows, row_at}
 use Rattle.oe_model.specs.Changes.{Record}
 use Rattle.oe_model.specs.Changes as model
 use Rattle.oe_model.specs.System.{system, terminal_limit}
-use Rattle.oe_store.specs.Places.{rows, HasPlace, GivesUp}
+use Rattle.oe_store.specs.Places.{rows, HasPlace}
 use Rattle.oe_store.specs.Places as tables
 use Rattle.oe_layout.specs.Stored.{deleted_new_order}
 use Rattle.oe_log.specs.Log.{SegmentLog, Committed, committed_records, records_of, total_count, with_newest}
@@ -184,12 +184,6 @@ deleted_are k bs = (is_deleted k bs, λ d. subst (λ j. IsOneOf j (deleted_keys 
 
 -- One key, which goes where E holds of it
 module _ (E : Key → Type 0) where
-  pub ended_given_up : (old new : tables.Places) (o : NewOrderKey) → E (key.NewOrder o)
-      → GivesUp old new (key.NewOrder o)
-      → GivesUpThose old new (λ k. (k ≡ key.NewOrder o) × E k)
-  ended_given_up old new o ended g = same_given_up old new (λ k. k ≡ key.NewOrder o) (λ k. (k ≡ key.NewOrder o) × E k)
-      (λ k. (λ is. (is, subst E (sym is) ended), λ d. d.0)) g
-
   -- or stays
   pub other_stays : (ts : tables.Places) (o : NewOrderKey) → (E (key.NewOrder o) → ⊥)
       → GivesUpThose ts ts (λ k. (k ≡ key.NewOrder o) × E k)
@@ -200,9 +194,6 @@ pub record LooksAt (E : Key → Type 0) (old now : tables.Places) (all left : Li
   pub same : rows now ≡ rows old
   pub rest : (new : tables.Places) → GivesUpThose now new (λ k. IsOneOf k left × E k)
       → GivesUpThose old new (λ k. IsOneOf k all × E k)
-
-pub none_looked_at : (E : Key → Type 0) (ts : tables.Places) (all : List NewOrderKey) → LooksAt E ts ts all all
-none_looked_at E ts all = record { same = refl; rest = λ new g. g }
 
 pub one_looked_at : (E : Key → Type 0) (old now now' : tables.Places) (all : List NewOrderKey) (o : NewOrderKey)
     (os : List NewOrderKey) → rows now' ≡ rows now

@@ -1,10 +1,8 @@
 -- What a write's record and its change make together, and why a write is refused.
-use Rattle.std.proofs.Common.{◌≡◌, ℕ, refl, sym, ap, ◌∙◌, subst, Option, None, Some, is_some, true}
-use Rattle.std.specs.Prelude.{IsSome, option_map}
+use Rattle.std.proofs.Common.{◌≡◌, ℕ, refl, sym, ap, ◌∙◌, Option, None, Some, is_some, true}
+use Rattle.std.specs.Prelude.{option_map}
 use Rattle.std.specs.FinMap.{get}
 use Rattle.oe_theory.proofs.Sets.{some_inj}
-use Rattle.oe_requests.specs.declared.refusals.Refusal.{Refusal}
-use Rattle.oe_requests.specs.declared.refusals.Refusal.TheVariants.{NoSuchRow}
 use Rattle.oe_theory.specs.Next.{record_on}
 use Rattle.oe_rows.specs.declared.layouts.Layout.{Layout}
 use Rattle.oe_rows.specs.declared.keys.Key.{Key}
@@ -20,13 +18,13 @@ use Rattle.oe_change.specs.declared.writes.Write.TheVariants.{InsertHistory, Ins
 use Rattle.oe_change.specs.declared.writes.Write.TheVariants.{InsertOrderLine, DeleteNewOrder}
 use Rattle.oe_change.specs.Writes.{key_written, change_of}
 use Rattle.oe_store.specs.Places.{Places, rows}
-use Rattle.oe_log.specs.Log.{SegmentLog, active_at}
+use Rattle.oe_log.specs.Log.{active_at}
 use Rattle.oe_undo.specs.Undo.{UndoState}
 use Rattle.oe_journal.specs.Linked.{MayChange, AreLinked}
 use Rattle.oe_writes.specs.Records.{record_of_write}
 use Rattle.oe_writes.specs.Made.{IsApplied, IsMade}
-use Rattle.oe_journal.specs.Recorded.{HasMore, HasWritten, IsRecorded, HasRecorded, CantWrite, Absent}
-use Rattle.oe_writes.proofs.RecordFacts.{write_records, recorded}
+use Rattle.oe_journal.specs.Recorded.{HasMore, HasWritten, IsRecorded, HasRecorded}
+use Rattle.oe_writes.proofs.RecordFacts.{write_records}
 use Rattle.oe_log.proofs.StateFacts.{some_of}
 use Rattle.oe_journal.proofs.MoreFacts.{of_some, there_is, own_key, more_stands, recorded_linked}
 
@@ -76,11 +74,6 @@ writes_may (DeleteNewOrder k) = tt
 
 -- ---- a record that was pushed makes the write a change
 
-pub pushed_there : (w : Write) (r : Rows) (u u' : UndoState) (t : ℕ) → HasWritten w r u u' t → IsSome (change_of w r)
-pushed_there w r u u' t h =
-    let b = there_is (λ b. HasMore b u u' t) (record_of_write u.log.layout w r) h in
-    recorded u.log.layout w r (ap is_some b.1)
-
 -- the record first, and then the change
 pub made_recorded : (w : Write) (old new : Places) (u u' : UndoState) (t : ℕ) → is_some (active_at u.log t) ≡ true
     → HasWritten w (rows old) u u' t → IsMade w old new → HasRecorded w old new u u' t
@@ -102,7 +95,3 @@ made_linked w old new u u' t is push made linked =
     recorded_linked c.0 old new u u' t linked c.2
 
 -- ---- refusals
-
-pub absent_write : (w : Write) (s : Places) (u : SegmentLog) (t : ℕ) (e : Refusal) → change_of w (rows s) ≡ None
-    → e ≡ NoSuchRow (key_written w) → CantWrite w s u t e
-absent_write w s u t e none is = subst (CantWrite w s u t) (sym is) (Absent none)

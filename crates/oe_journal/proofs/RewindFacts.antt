@@ -4,7 +4,7 @@ use Rattle.std.proofs.Common.{inl, inr, arith, cond, List, [], ◌∷◌, length
 use Rattle.std.proofs.Common.{Some, is_some}
 use Rattle.std.specs.Prelude.{slice_get, option_map}
 use mathlib.Core.Path.{fun_ext}
-use Rattle.std.proofs.lemmas.Bool.{cases_eq, cases_lt, cond-true, cond-false, eq-eqb, ne_eqb}
+use Rattle.std.proofs.lemmas.Bool.{cases_eq, cases_lt}
 use Rattle.std.proofs.lemmas.List.{get_or-set_same, get_or-set_other, get_or_past, set_past, drop_all, length-set}
 use Rattle.std.proofs.Math.Seq.{drop-nil, take-nil}
 use Rattle.std.proofs.lemmas.List.Sums.{get_or-le-sum_by}
@@ -17,6 +17,7 @@ use Rattle.oe_log.specs.Log.{count_at, open_total, with_records, without_segment
 use Rattle.oe_log.specs.Stands.{model_records, undo_of, seal_of, seals_of, counts_of}
 use Rattle.oe_journal.specs.Rewinds.{without_first_commit, without_newest, StandsRewound}
 use Rattle.oe_log.proofs.StateFacts.{set_twice, seen_same, records_are}
+use Rattle.oe_log.proofs.LawFacts.{less_counted}
 
 abbrev see_records : TerminalState → List Record
 see_records s = model_records (records_in s.active)
@@ -26,35 +27,6 @@ see_count s = s.count
 
 minus_none : (n : ℕ) → n ≡ n - 0
 minus_none n = omega arith
-
-none_less : (n k : ℕ) → n ≡ 0 → n ≡ n - k
-none_less n k e = omega arith
-
--- a terminal's count, where a commit is no longer counted
-less_counted : (v : SegmentLog) (c : Committed) (u : ℕ)
-    → (get_or (set v.terminals c.terminal
-    (record { count = count_at v c.terminal - 1; active = active_at v c.terminal })) u idle).count
-    ≡ count_at v u - cond (u == c.terminal) 1 0
-less_counted v c u =
-    elim (cases_eq u c.terminal) [
-      | inl e ↦ elim (cases_lt c.terminal (length v.terminals)) [
-        | inl within ↦
-            ap (λ z. (get_or (set v.terminals c.terminal s) z idle).count) e
-            ∙ ap see_count (get_or-set_same v.terminals c.terminal s idle within)
-            ∙ ap (λ z. count_at v z - 1) (sym e) ∙ ap (λ z. count_at v u - z)
-            (sym (cond-true (u == c.terminal) 1 0 (eq-eqb u c.terminal e)))
-        | inr past ↦
-            let none : count_at v u ≡ 0 = ap (λ z. count_at v z) e ∙ ap see_count
-            (get_or_past v.terminals c.terminal idle past) in
-            ap (λ z. (get_or z u idle).count) (set_past v.terminals c.terminal s past)
-            ∙ none_less (count_at v u) (cond (u == c.terminal) 1 0) none
-      ]
-      | inr ne ↦ ap see_count (get_or-set_other v.terminals c.terminal u s idle ne) ∙ minus_none (count_at v u)
-          ∙ ap (λ z. count_at v u - z) (sym (cond-false (u == c.terminal) 1 0 (ne_eqb u c.terminal ne)))
-    ]
-  where
-    s : TerminalState
-    s = record { count = count_at v c.terminal - 1; active = active_at v c.terminal }
 
 none_plus : (n : ℕ) → 0 + n ≡ n
 none_plus n = omega arith
@@ -82,7 +54,7 @@ one_less v (c ∷ cs) e =
     record {
       undo = λ i. record { active = λ u. active u i; history = history i };
       seals = ap (λ z. drop 1 (map seal_of z)) (sym e);
-      counts = fun_ext (λ u. less_counted v c u
+      counts = fun_ext (λ u. less_counted v c (active_at v c.terminal) u
           ∙ ap (λ z. count_at v u - commit_count system u (take 1 (map seal_of z))) (sym e));
     }
 

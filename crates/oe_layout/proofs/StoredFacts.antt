@@ -19,8 +19,7 @@ use Rattle.oe_layout.specs.Kinds.{kind_image, kind_of, kind_at}
 use Rattle.oe_layout.specs.Records.{before_image, key_and_before, contents, record_image, IsInRanges}
 use Rattle.oe_layout.specs.Records.{record_of_own}
 use Rattle.oe_layout.specs.RecordFronts.{record_at}
-use Rattle.oe_layout.specs.Stored.{IsStoredRecord, record_stored, record_in_bytes, table_changed, deleted_new_order}
-use Rattle.oe_layout.specs.Stored.{deleted_key}
+use Rattle.oe_layout.specs.Stored.{IsStoredRecord, record_stored, record_in_bytes, table_changed}
 use Rattle.oe_layout.specs.declared.links.Previous.{Previous}
 use Rattle.oe_layout.specs.declared.records.OwnRecord.{OwnRecord}
 use Rattle.oe_layout.proofs.LengthFacts.{joined_long, number_long, kind_long, link_long}
@@ -146,25 +145,6 @@ table_is (model.ChangedCustomer k v) = refl
 table_is (model.ChangedOrder k v) = refl
 table_is (model.ChangedOrderLine k v) = refl
 table_is (model.ChangedStock k v) = refl
-
-pub deleted_is : (b : Record) → deleted_key (kind_of b) (record_key b) ≡ deleted_new_order b
-deleted_is (model.InsertedHistory k v) = refl
-deleted_is (model.InsertedNewOrder k v) = refl
-deleted_is (model.InsertedOrder k v) = refl
-deleted_is (model.InsertedOrderLine k v) = refl
-deleted_is (model.UpdatedWarehouse k v) = refl
-deleted_is (model.UpdatedDistrict k v) = refl
-deleted_is (model.UpdatedCustomer k v) = refl
-deleted_is (model.UpdatedOrder k v) = refl
-deleted_is (model.UpdatedOrderLine k v) = refl
-deleted_is (model.UpdatedStock k v) = refl
-deleted_is (model.DeletedNewOrder k v) = refl
-deleted_is (model.ChangedWarehouse k v) = refl
-deleted_is (model.ChangedDistrict k v) = refl
-deleted_is (model.ChangedCustomer k v) = refl
-deleted_is (model.ChangedOrder k v) = refl
-deleted_is (model.ChangedOrderLine k v) = refl
-deleted_is (model.ChangedStock k v) = refl
 
 -- ---- what was read of the front of bytes
 

@@ -15,8 +15,7 @@ use Rattle.oe_ledgers.specs.declared.order_lines.OrderLines.{OrderLines}
 use Rattle.oe_ledgers.specs.Keys.{same_district, same_order, same_stock}
 use Rattle.oe_ledgers.specs.Sums.{lines_joined, supplies_joined}
 use Rattle.oe_ledgers.specs.Keeping.{KeepsOrderLines, line_entry, line_district_entry, supply_entry}
-use Rattle.oe_ledgers.specs.Figures.{AreFew, AreAmounts, AreNumbers}
-use Rattle.oe_ledgers.specs.Figures.{delivered_amount}
+use Rattle.oe_ledgers.specs.Figures.{AreFew, AreNumbers}
 use Rattle.oe_ledgers.specs.Figures.{lines_of_order}
 use Rattle.oe_ledgers.specs.Figures.{delivered_lines}
 use Rattle.oe_ledgers.specs.Figures.{remote_lines}
@@ -25,16 +24,8 @@ use Rattle.oe_ledgers.specs.Figures.{ordered_quantity}
 use Rattle.oe_ledgers.specs.Figures.{ordered_lines}
 use Rattle.oe_ledgers.specs.Figures.{ordered_remotes}
 use Rattle.oe_ledgers.specs.Figures.{lines_of_stock}
-use Rattle.oe_ledgers.proofs.SumFacts.{counted, money, quantities}
-use Rattle.oe_ledgers.proofs.SumFacts.{flag, other_flag, flag_of, at_most, abs_at_most}
-
-pub delivered_amount-kept : (facts : List OrderLineFact) (kept : OrderLines) → KeepsOrderLines facts kept
-    → AreFew facts → AreAmounts (λ (f : OrderLineFact). f.amount) facts → (k : OrderId)
-    → option_map (λ (s : LineSums). s.amount) (total same_order lines_joined kept.by_order k) ≡ delivered_amount facts k
-delivered_amount-kept facts kept is few amounts k =
-    ap (option_map (λ (s : LineSums). s.amount)) (is.by_order k)
-    ∙ money same_order lines_joined line_entry (λ (s : LineSums). s.amount) (λ a b. refl)
-    (λ (f : OrderLineFact). f.amount) (λ f. abs_at_most f.is_delivered f.amount) facts few amounts k
+use Rattle.oe_ledgers.proofs.SumFacts.{counted, quantities}
+use Rattle.oe_ledgers.proofs.SumFacts.{flag, other_flag, flag_of, at_most}
 
 pub lines_of_order-kept : (facts : List OrderLineFact) (kept : OrderLines) → KeepsOrderLines facts kept
     → AreFew facts → (k : OrderId)

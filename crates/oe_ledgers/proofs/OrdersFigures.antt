@@ -17,7 +17,6 @@ use Rattle.oe_ledgers.specs.Sums.{customer_orders_joined, district_orders_joined
 use Rattle.oe_ledgers.specs.Keeping.{KeepsOrders, delivered_of, order_entry, order_district_entry, order_customer_entry}
 use Rattle.oe_ledgers.specs.Figures.{AreFew, AreNumbers}
 use Rattle.oe_ledgers.specs.Figures.{o_line_count}
-use Rattle.oe_ledgers.specs.Figures.{o_customer}
 use Rattle.oe_ledgers.specs.Figures.{order_rows}
 use Rattle.oe_ledgers.specs.Figures.{lines_asked}
 use Rattle.oe_ledgers.specs.Figures.{greatest_order}
@@ -38,14 +37,6 @@ o_line_count-kept facts kept is k =
     ap (option_map (λ (s : OrderSums). pos s.line_count)) (is.by_order k)
     ∙ projected same_order orders_joined int_max order_entry (λ (s : OrderSums). pos s.line_count)
     (λ a b. pos_max a.line_count b.line_count) facts k
-
-pub o_customer-kept : (facts : List OrderFact) (kept : Orders) → KeepsOrders facts kept → (k : OrderId)
-    → option_map (λ (s : OrderSums). pos s.customer) (total same_order orders_joined kept.by_order k)
-    ≡ o_customer facts k
-o_customer-kept facts kept is k =
-    ap (option_map (λ (s : OrderSums). pos s.customer)) (is.by_order k)
-    ∙ projected same_order orders_joined int_max order_entry (λ (s : OrderSums). pos s.customer)
-    (λ a b. pos_max a.customer b.customer) facts k
 
 pub order_rows-kept : (facts : List OrderFact) (kept : Orders) → KeepsOrders facts kept → AreFew facts → (k : OrderId)
     → option_map (λ (s : OrderSums). pos s.rows) (total same_order orders_joined kept.by_order k) ≡ order_rows facts k
@@ -106,14 +97,6 @@ is_delivered-kept facts kept is k =
     ap (option_map (λ (s : OrderSums). pos (cond s.is_delivered 1 0))) (is.by_order k)
     ∙ projected same_order orders_joined int_max order_entry (λ (s : OrderSums). pos (cond s.is_delivered 1 0))
     (λ a b. either_flag a.is_delivered b.is_delivered) facts k
-
-pub is_all_local-kept : (facts : List OrderFact) (kept : Orders) → KeepsOrders facts kept → (k : OrderId)
-    → option_map (λ (s : OrderSums). pos (cond s.is_all_local 1 0)) (total same_order orders_joined kept.by_order k)
-    ≡ is_all_local facts k
-is_all_local-kept facts kept is k =
-    ap (option_map (λ (s : OrderSums). pos (cond s.is_all_local 1 0))) (is.by_order k)
-    ∙ projected same_order orders_joined int_max order_entry (λ (s : OrderSums). pos (cond s.is_all_local 1 0))
-    (λ a b. either_flag a.is_all_local b.is_all_local) facts k
 
 pub is_open-kept : (facts : List OrderFact) (kept : Orders) → KeepsOrders facts kept → (k : OrderId)
     → option_map (λ (s : OrderSums). pos (cond s.is_delivered 0 1)) (total same_order orders_joined kept.by_order k)

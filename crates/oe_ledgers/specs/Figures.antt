@@ -136,10 +136,6 @@ new_orders_of_district facts k = sum_of same_district (λ f. district_of_order f
 abbrev pub o_line_count : List OrderFact → OrderId → Option ℤ
 o_line_count facts k = greatest_of same_order (λ f. f.key) (λ f. pos f.line_count) facts k
 
--- O_C_ID
-abbrev pub o_customer : List OrderFact → OrderId → Option ℤ
-o_customer facts k = greatest_of same_order (λ f. f.key) (λ f. pos f.customer) facts k
-
 -- the number of ORDER rows
 abbrev pub order_rows : List OrderFact → OrderId → Option ℤ
 order_rows facts k = sum_of same_order (λ f. f.key) (λ f. pos 1) facts k

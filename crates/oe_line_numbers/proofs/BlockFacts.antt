@@ -1,5 +1,5 @@
 -- Blocks are one by their columns.
-use Rattle.std.proofs.Common.{◌≡◌, refl, ℕ, ◌*◌, ◌%◌, ◌^◌, ◌<◌, arith, mod-lt, mod-eq_of_lt, one-mul, ap, ◌∙◌, Option}
+use Rattle.std.proofs.Common.{◌≡◌, refl, ℕ, ◌*◌, ◌%◌, ◌^◌, ◌<◌, mod-eq_of_lt, one-mul, ap, ◌∙◌, Option}
 use Rattle.std.proofs.Common.{Some, None}
 use Rattle.std.proofs.Math.Pow.{pow-lt}
 use Rattle.std.specs.Cmp.{IsEquivalence, nat_eq_equiv, on_equiv, and_equiv}

@@ -1,6 +1,6 @@
 -- Numbers may be put together in any order.
 use Rattle.std.specs.Prelude.{◌≡◌, ℕ, bit_or, max}
-use Rattle.std.proofs.Common.{arith, sym, ◌∙◌, ap}
+use Rattle.std.proofs.Common.{sym, ◌∙◌, ap}
 use Rattle.std.proofs.lemmas.Nat.Bits.{same_from_bits, bit_at_or}
 use Rattle.std.specs.Int.{bit_at}
 use Rattle.oe_ledgers.specs.ColumnLaws.{capped_associative, capped_commutative, max_associative, max_commutative}

@@ -7,7 +7,6 @@ use Rattle.std.specs.Int.{IsInRange}
 use Rattle.std.specs.List.{All, join_with_byte}
 use Rattle.std.proofs.lemmas.Bool.{leb-true, eqb-true}
 use Rattle.std.proofs.lemmas.List.Elements.{All-nil, All-cons, All-head, All-tail}
-use Rattle.std.proofs.lemmas.Fmt.{decimal_digit}
 use Rattle.oe_rows.specs.Credit.{money_text}
 use Rattle.oe_rows.specs.Key.{table_name}
 use Rattle.oe_rows.specs.declared.keys.DistrictKey.{DistrictKey}
@@ -62,7 +61,7 @@ use Rattle.oe_lines.proofs.NameFacts.{name_no_last, first_name_found, first_name
 use Rattle.oe_values.specs.Text.{IsLastName, IsFirstName}
 use Rattle.oe_values.specs.Front.{after_of, decimal_of, alone}
 use Rattle.oe_values.proofs.FrontFacts.{bind_some, some_same, chosen, guarded, ends, alone_found, after_found}
-use Rattle.oe_values.proofs.FrontFacts.{after_only, decimal_found, decimal_only}
+use Rattle.oe_values.proofs.FrontFacts.{decimal_found, decimal_only}
 use Rattle.oe_lines.proofs.WordFacts.{map_some, word_is, within_found, within_only, number_found, number_only}
 use Rattle.oe_lines.proofs.WordFacts.{then_found, then_only, before_found, before_only, last_found, last_only}
 use Rattle.oe_lines.proofs.WordFacts.{amount_found, amount_only}

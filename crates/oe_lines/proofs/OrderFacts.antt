@@ -1,5 +1,5 @@
 -- The lines of an order are read one after another.
-use Rattle.std.proofs.Common.{◌≡◌, ℕ, zero, suc, ◌+◌, ◌-◌, ◌<◌, ◌≤◌, List, [], ◌∷◌, ◌++◌, length, Bool, true, false}
+use Rattle.std.proofs.Common.{◌≡◌, ℕ, suc, ◌+◌, ◌-◌, ◌<◌, ◌≤◌, List, [], ◌∷◌, ◌++◌, length, Bool, true, false}
 use Rattle.std.proofs.Common.{cond, Option, Some, None, IsSome, IfSome, codes, nat_le, sym, ap, ◌∙◌, refl, append_assoc}
 use Rattle.std.proofs.Common.{length-append, le-leb, arith}
 use Rattle.std.specs.Prelude.{◌↔◌}
@@ -7,7 +7,7 @@ use Rattle.std.proofs.lemmas.Bool.{leb-true}
 use Rattle.std.specs.Option.{option_map}
 use Rattle.oe_requests.specs.declared.requests.RequestLine.{RequestLine}
 use Rattle.oe_values.specs.Front.{◌>>=◌, after_of}
-use Rattle.oe_lines.specs.Reading.{line_of, line_and, lines_within, lines_of}
+use Rattle.oe_lines.specs.Reading.{line_of, lines_within, lines_of}
 
 -- what is read of the text, behind the lines before it
 abbrev pub lines_after : List RequestLine → List ℕ → Option (List RequestLine)

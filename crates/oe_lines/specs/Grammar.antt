@@ -13,8 +13,6 @@ use Rattle.oe_requests.specs.declared.requests.Request.TheVariants as request
 use Rattle.oe_requests.specs.declared.requests.Query.{Query}
 use Rattle.oe_requests.specs.declared.requests.Query.TheVariants as query
 use Rattle.oe_requests.specs.Condition.{condition_number}
-use Rattle.oe_requests.specs.declared.audits.Condition.{Condition}
-use Rattle.oe_requests.specs.declared.audits.Condition.TheVariants as condition
 use Rattle.oe_texts.specs.Stamp.{stamp_text}
 use Rattle.oe_model.specs.Population.{IsScale}
 use Rattle.oe_model.specs.Requests as model

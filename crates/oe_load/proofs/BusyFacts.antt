@@ -1,12 +1,11 @@
 -- A table between two turns, and how it ends.
-use Rattle.std.proofs.Common.{◌≡◌, ℕ, List, [], ◌∷◌, ◌++◌, Option, Result, Ok, Err, refl, sym, ap, subst, ◌∙◌}
+use Rattle.std.proofs.Common.{◌≡◌, ℕ, List, [], ◌∷◌, ◌++◌, Option, Result, Ok, refl, sym, ap, subst, ◌∙◌}
 use Rattle.std.proofs.Common.{inl, inr}
 use Rattle.std.specs.Prelude.{◌⊎◌}
 use Rattle.oe_theory.specs.World.{World}
 use Rattle.oe_model.specs.System.{system}
 use Rattle.oe_io.specs.Ports.{Sink, Sent}
 use Rattle.oe_io.proofs.Streaming.{sent_none, sent_waits}
-use Rattle.oe_numbers.specs.declared.forms.Form.{Form}
 use Rattle.oe_numbers.specs.declared.forms.Form.TheVariants as load_form
 use Rattle.oe_busy.specs.declared.happenings.Happening.{Happening}
 use Rattle.oe_busy.specs.declared.tables.Busyness.{Busyness}

@@ -1,12 +1,12 @@
 -- A script between two turns, and how it ends.
-use Rattle.std.proofs.Common.{◌≡◌, ℕ, List, [], ◌∷◌, ◌++◌, Option, Ok, Err, refl, sym, subst, ◌∙◌, inl, inr}
+use Rattle.std.proofs.Common.{◌≡◌, ℕ, List, [], ◌∷◌, ◌++◌, Option, Ok, Err, refl, sym, subst, ◌∙◌, inr}
 use Rattle.std.proofs.lemmas.List.{append-nil}
 use Rattle.oe_theory.specs.World.{World}
 use Rattle.oe_model.specs.System.{system}
 use Rattle.oe_lines.specs.declared.commands.Command.{Command}
 use Rattle.oe_io.specs.declared.ports.Failed.{Failed}
 use Rattle.oe_io.specs.Ports.{Sink, Sent, Cut}
-use Rattle.oe_io.proofs.Streaming.{sent_none, sent_then, sent_cut, sent_as, sent_waits, cut_as}
+use Rattle.oe_io.proofs.Streaming.{sent_then, sent_cut, sent_as, sent_waits, cut_as}
 use Rattle.oe_lines.specs.Texts.{line_text}
 use Rattle.oe_numbers.specs.declared.forms.Form.{Form}
 use Rattle.oe_numbers.specs.declared.forms.Form.TheVariants as load_form
@@ -96,11 +96,6 @@ module _ (p : Plan) (o : Origin) (a : Option Sink) where
   ends_cut b c i k s e (cs, script, phase, sent) cut =
       (script_text p o cs, inr (is_begun cs s script), cut_off a b c i (script_text p o cs) sent cut)
 
-  -- nothing was opened
-  pub ends_unopened : (k : List ℕ) (e : Shortage) → k ≡ [] → Wrote p o load_form.Script a a k (Ok (ending.Short e))
-  ends_unopened k e none =
-      ([], inl refl, subst (λ (z : List ℕ). Sent a [] a z []) (sym none) (sent_none a []))
-
 -- WHAT WAITS IS WRITTEN
 
 whole_begun : (p : Plan) (o : Origin) (form : Form) (text : List ℕ) → Whole p o form text → Begun p o form text
@@ -125,22 +120,6 @@ whole_begun p o load_form.Busy text h = record {
 }
 
 module _ (p : Plan) (o : Origin) (form : Form) (a : Option Sink) where
-  pub closes_served : (b c : Option Sink) (i j : List ℕ) → Wrote p o form a b i (Ok ending.Served)
-      → Sent b i c j [] → j ≡ [] → LoadRan p o form a c (Ok tt)
-  closes_served b c i j (text, whole, sent) more none = (
-    text,
-    whole,
-    subst (λ (z : List ℕ). Sent a [] c z text) none (flushed a b c i j text sent more),
-  )
-
-  pub closes_short : (b c : Option Sink) (i j : List ℕ) (e : Shortage) → Wrote p o form a b i (Ok (ending.Short e))
-      → Sent b i c j [] → j ≡ [] → LoadRan p o form a c (Err (fault.Short e))
-  closes_short b c i j e (text, begun, sent) more none = (
-    text,
-    begun,
-    subst (λ (z : List ℕ). Sent a [] c z text) none (flushed a b c i j text sent more),
-  )
-
   pub closes_cut : (b c : Option Sink) (i : List ℕ) (e : Ending) → Wrote p o form a b i (Ok e) → Cut b i c []
       → LoadRan p o form a c (Err fault.Write)
   closes_cut b c i ending.Served (text, whole, sent) cut =

@@ -1,34 +1,12 @@
 //! What the types of a request say: that its numbers and its name are in their ranges. All are
 //! laws, and do nothing.
 ghost use Rattle.oe_lines.specs.Grammar.{IsQuery};
-ghost use Rattle.oe_model.specs.Requests.{IsDistrict, IsChoice};
 ghost use Rattle.oe_terms.specs.Plans.{IsKnown};
 ghost use Rattle.oe_load.specs.Loads.{HasWords};
 
-use oe_admission::ranges_hold;
-use oe_requests::{CustomerChoice, Query};
-use oe_rows::DistrictKey;
+use oe_admission::{choice_holds, district_holds, ranges_hold};
+use oe_requests::Query;
 use oe_terms::Asked;
-
-fn district_holds(district: &DistrictKey)
-    ensures { IsDistrict district.now }
-{
-    let _warehouse = district.warehouse.get();
-    let _district = district.district.get();
-}
-
-fn choice_holds(choice: &CustomerChoice)
-    ensures { IsChoice choice.now }
-{
-    match choice {
-        CustomerChoice::Number(number) => {
-            let _number = number.get();
-        }
-        CustomerChoice::LastName(name) => {
-            let _name = name.as_str();
-        }
-    }
-}
 
 fn query_holds(query: &Query)
     ensures { IsQuery query.now }

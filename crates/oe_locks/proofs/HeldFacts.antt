@@ -18,7 +18,7 @@ use Rattle.oe_locks.specs.Held.{Holdings, entries_of, mode_held, is_name, go_tog
 use Rattle.oe_locks.specs.Held.{IsFreeFor}
 use Rattle.oe_locks.specs.Held.{IsInTheWay, IsFirstAmong, Takes, GivesBack, HoldsNothing, OthersKeep, AreBusy}
 use Rattle.oe_locks.specs.Terminals.{has}
-use Rattle.oe_locks.specs.Listed.{IsListed, OthersKeepNames}
+use Rattle.oe_locks.specs.Listed.{IsListed}
 use Rattle.oe_locks.specs.Marks.{mark, may_hold, AreNoted, Changes}
 use Rattle.oe_locks.proofs.NameFacts.{eq_is_name, name_true, name_sym, same_true}
 use Rattle.oe_locks.proofs.EntryFacts.{stands-found}
@@ -69,9 +69,6 @@ module _ (ls : Holdings) (t : ℕ) (es : Entries) (within : t < length ls) where
   pub keeps-set : OthersKeep ls (set ls t es) t
   unfolding mode_held
   keeps-set u ne q = ap (lookup (ghosts.eq q)) (others-set u ne)
-
-  pub names-set : OthersKeepNames ls (set ls t es) t
-  names-set u ne = ap (λ l. keys_of l) (others-set u ne)
 
   held-set : (q : Name) → mode_held (set ls t es) t q ≡ lookup (ghosts.eq q) es
   unfolding mode_held

@@ -1,10 +1,8 @@
 -- The test of names is equality, and is what their `==` answers.
-use Rattle.std.proofs.Common.{◌≡◌, ℕ, ◌==◌, Bool, true, false, ◌&&◌, List, ◌↔◌, refl, sym, ap, ◌∙◌, eqb-true, eq-eqb}
+use Rattle.std.proofs.Common.{◌≡◌, ℕ, ◌==◌, Bool, true, false, ◌&&◌, ◌↔◌, refl, sym, ap, ◌∙◌, eqb-true, eq-eqb}
 use Rattle.std.proofs.lemmas.Bool.{and_parts, and_from, false≢true}
-use Rattle.std.specs.Map.{lookup}
 use Rattle.std.specs.Str.{bytes_eq}
 use Rattle.std.proofs.lemmas.Slice.Eq.{bytes_eq-Decides}
-use mathlib.Core.Path.{fun_ext}
 use Rattle.oe_rows.specs.declared.keys.DistrictKey.{DistrictKey}
 use Rattle.oe_rows.specs.declared.locks.Name.{Name}
 use Rattle.oe_rows.specs.declared.locks.Name.TheVariants.{Warehouse, District, Customer, Order, Queue, Stock, Names}
@@ -21,10 +19,6 @@ eq_is_name (Queue a) (Queue b) = refl
 eq_is_name (Stock a) (Stock b) = refl
 eq_is_name (Names a x) (Names b y) = refl
 eq_is_name _ _ = refl
-
--- so a look-up by either finds the same
-pub lookup_is_name : {X : Type 0} (q : Name) (es : List (Name × X)) → lookup (ghosts.eq q) es ≡ lookup (is_name q) es
-lookup_is_name q es = ap (λ f. lookup f es) (fun_ext (eq_is_name q))
 
 pair : (a b x y : ℕ) → ((a == x) && (b == y)) ≡ true → ◌≡◌ {A = ℕ × ℕ} (a, b) (x, y)
 pair a b x y h =
@@ -77,10 +71,6 @@ name_refl (Stock a) = and_from _ _ (same a.warehouse) (same a.item)
 name_refl (Names a x) =
     and_from _ _ (and_from _ _ (same a.warehouse) (same a.district)) ((bytes_eq-Decides x x).1 refl)
 
--- the test is equality
-pub name_exact : (a b : Name) → (is_name a b ≡ true) ↔ (a ≡ b)
-name_exact a b = (name_true a b, λ e. ap (λ z. is_name a z) (sym e) ∙ name_refl a)
-
 -- the order of the two does not matter
 pub name_sym : (a b : Name) → is_name a b ≡ is_name b a
 name_sym a b = go (is_name a b) (is_name b a) refl refl
@@ -90,10 +80,6 @@ name_sym a b = go (is_name a b) (is_name b a) refl refl
     go false false e f = refl
     go true false e f = sym (name_refl b) ∙ (ap (λ z. is_name b z) (sym (name_true a b e)) ∙ f)
     go false true e f = sym e ∙ (ap (λ z. is_name a z) (name_true b a f) ∙ name_refl a)
-
--- so `==` is symmetric too, and true of equal names alone
-pub same_sym : (a b : Name) → ghosts.eq a b ≡ ghosts.eq b a
-same_sym a b = eq_is_name a b ∙ (name_sym a b ∙ sym (eq_is_name b a))
 
 pub same_true : (a b : Name) → ghosts.eq a b ≡ true → a ≡ b
 same_true a b e = name_true a b (sym (eq_is_name a b) ∙ e)

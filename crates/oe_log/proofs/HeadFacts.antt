@@ -171,18 +171,6 @@ few_open hs cs k n o t K low high closed =
     let opens = K.opens_are in
     omega arith
 
-pub at_most_64 : (hs : List TerminalHead) (cs : List Head) (k n o : ℕ) → AreHeads hs cs k n o → o ≤ 64
-at_most_64 hs cs k n o K =
-    let size : length hs ≡ 65 = K.size in
-    let taken : TerminalHead =
-    record { count = 0; active = Some (record { terminal = 0; number = 0 }); deletes = false; len = 0 } in
-    let first = sum_by-set (λ (z : TerminalHead). one z.active) hs 0 taken idle_head (omega arith) in
-    let nobody : one (get_or hs 0 idle_head).active ≡ 0 = ap one K.nobody in
-    let most = none_above (set hs 0 taken) in
-    let same : length (set hs 0 taken) ≡ length hs = length-set hs 0 taken in
-    let opens = K.opens_are in
-    omega arith
-
 -- ---- what the calls make of them
 
 -- a segment is opened, of the terminal's next number

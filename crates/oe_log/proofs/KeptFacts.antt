@@ -16,7 +16,7 @@ use Rattle.oe_log.specs.Strings.{records_in, HoldsRecords}
 use Rattle.oe_log.specs.declared.heads.SegmentOwner.{SegmentOwner}
 use Rattle.oe_log.specs.declared.heads.TerminalHead.{TerminalHead}
 use Rattle.oe_log.specs.Log as seen
-use Rattle.oe_log.specs.Log.{SegmentLog, idle_terminals}
+use Rattle.oe_log.specs.Log.{SegmentLog}
 use Rattle.oe_log.specs.Kept.{Head, idle_head, idle_heads, head_at, log_from, lens_of, committed_lens_of, IsKept}
 use Rattle.oe_log.proofs.Lists as log
 use Rattle.oe_log.proofs.Lists.{no_lists, lists_of}
@@ -82,9 +82,6 @@ module _ (y : Layout) {hs : List TerminalHead} {cs : List Head} {capacity : ℕ}
     {opens newest : ℕ} (K : IsKept hs cs capacity r opens newest) where
   pub within : (t : ℕ) → t ≤ 64 → t < length hs
   within t high = calls.within y (inside K) t high
-
-  pub within_slots : (t : ℕ) → t ≤ 64 → t < length r.active
-  within_slots t high = let slots : length r.active ≡ 65 = K.lie.slots in omega arith
 
   -- as many strings lie in the ring as the head says
   pub len_lies : (t : ℕ) (x : TerminalHead) → t ≤ 64 → x ≡ get_or hs t x → x.len ≡ length (get_or r.active t [])

@@ -89,7 +89,7 @@ none_less : (n k : ℕ) → n ≡ 0 → n ≡ n - k
 none_less n k e = omega arith
 
 -- a terminal's count, where a commit is no longer counted
-less_counted : (v : SegmentLog) (c : Committed) (a : Option Open) (u : ℕ)
+pub less_counted : (v : SegmentLog) (c : Committed) (a : Option Open) (u : ℕ)
     → (get_or (set v.terminals c.terminal (record { count = count_at v c.terminal - 1; active = a })) u idle).count
     ≡ count_at v u - cond (u == c.terminal) 1 0
 less_counted v c a u =

@@ -86,10 +86,6 @@ seen_lent a p l ss hp hb =
     seen (record { address = a; bytes = record_image p (record_of_lent l) }) ss (written_is p l hp hb)
     ∙ ap (λ (b : Record). record { address = a; previous = p; before = b } ∷ records_in ss) o.1
 
-pub lent_long : (p : Previous) (l : LentRecord) → IsInRanges (record_of_lent l)
-    → length (record_image p (record_of_lent l)) ≡ record_length (record_of_lent l)
-lent_long p l h = (record_long p (record_of_lent l) h).is
-
 -- ---- a segment's records
 
 pub length_is : (ss : List (ring.Addressed)) → AreRecords ss → length (records_in ss) ≡ length ss

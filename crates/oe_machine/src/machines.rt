@@ -13,7 +13,7 @@ ghost use Rattle.oe_store.specs.Places.{rows};
 ghost use Rattle.oe_locks.specs.Listed.{stands, AreOnce};
 ghost use Rattle.oe_locks.specs.Holds.{hold_of};
 ghost use Rattle.oe_machine.specs.Steps.{step_in, answer_in, Carries, begin_answer, Advances};
-ghost use Rattle.oe_machine.specs.Replies.{RepliesBegun, RepliesAfter, RepliesWithout};
+ghost use Rattle.oe_machine.specs.Replies.{RepliesBegun, RepliesAfter, RepliesWithout, RepliesStepped};
 ghost use Rattle.oe_machine.specs.Asks.{held_by, wanted_by};
 
 use crate::advances::Advanced;
@@ -194,6 +194,7 @@ pub trait Machine {
     final fn step(&mut self, step: Step) -> Answer
         ensures serves { Next system (world self.old) (step_in step) (answer_in step result)
             (world self.new) }
+        ensures replies { RepliesStepped step result (last self.old) (last self.new) }
         ensures reached { IsReached system (world self.new) }
     {
         match step {
@@ -211,8 +212,10 @@ pub trait Machine {
 
     /// Carries out a Begin, and answers it.
     final fn answer_begin(&mut self, terminal: Terminal, request: &Request) -> Answer
-        ensures { Carries (world self.old) (Step.Begin terminal request.now) result
+        ensures carries { Carries (world self.old) (Step.Begin terminal request.now) result
             (world self.new) }
+        ensures replies { RepliesStepped (Step.Begin terminal request.now) result
+            (last self.old) (last self.new) }
     {
         match self.begin(terminal, request) {
             Ok(()) => Answer::Begun,
@@ -222,7 +225,10 @@ pub trait Machine {
 
     /// Carries out an Advance, and answers it, with the reply.
     final fn answer_advance(&mut self, terminal: Terminal) -> Answer
-        ensures { Carries (world self.old) (Step.Advance terminal) result (world self.new) }
+        ensures carries { Carries (world self.old) (Step.Advance terminal) result
+            (world self.new) }
+        ensures replies { RepliesStepped (Step.Advance terminal) result (last self.old)
+            (last self.new) }
     {
         match self.advance(terminal) {
             Advanced::More => Answer::More,

@@ -16,21 +16,21 @@ use Rattle.oe_model.specs.Lists.{IsAmong}
 use Rattle.oe_model.proofs.EntryFacts.{EachOf, each_of, entries_at, row_among}
 use Rattle.oe_model.proofs.ListFacts.{each_among, none_is, found_passes, none_passes, unbeaten, not_above, top}
 
-left : (a b : Bool) → T (a && b) → T a
+pub left : (a b : Bool) → T (a && b) → T a
 left true b p = tt
 left false b p = p
 
-right : (a b : Bool) → T (a && b) → T b
+pub right : (a b : Bool) → T (a && b) → T b
 right true b p = p
 right false b p = absurd p
 
-less : (r : Ordering) → T (is_lt r) → r ≡ Less
+pub less : (r : Ordering) → T (is_lt r) → r ≡ Less
 less Less p = refl
 less Equal p = absurd p
 less Greater p = absurd p
 
 -- of two keys not each is below the other
-not_both : {K : Type 0} {R : K → K → Ordering} → IsTotalOrder R → (j k : K) → R j k ≡ Less → R k j ≡ Less → ⊥
+pub not_both : {K : Type 0} {R : K → K → Ordering} → IsTotalOrder R → (j k : K) → R j k ≡ Less → R k j ≡ Less → ⊥
 not_both o j k a b = let z : Less ≡ ordering_reverse Less = sym a ∙ o.antisymm j k ∙ ap ordering_reverse b in
     let no : ⊥ = cc in no
 

@@ -36,7 +36,7 @@ all_pass p (x ∷ xs) h = and_from (p x) _ h.0 (all_pass p xs h.1)
 module _ {K X : Type 0} {R : K → K → Ordering} (o : IsTotalOrder R) (exact : IsAntisymmetric R) (test : K → X → Bool)
     (m : FinMap R X) where
   -- each row passes the test
-  rows_pass : (each_row test m ≡ true) ↔ ((k : K) (x : X) → get m k ≡ Some x → test k x ≡ true)
+  pub rows_pass : (each_row test m ≡ true) ↔ ((k : K) (x : X) → get m k ≡ Some x → test k x ≡ true)
   rows_pass = (
     λ e k x row. each_among (λ e. test e.0 e.1 ≡ true) (entries m) (k, x)
         (each_passes (λ e. test e.0 e.1) (entries m) e) (row_among o exact m k x row),

@@ -4,7 +4,7 @@ use Rattle.std.proofs.Common.{Some, None, arith, zero-add}
 use Rattle.std.specs.Prelude.{◌⊎◌, ◌&&◌, ◌==◌, not, is_some, nat_lt}
 use Rattle.std.specs.Ordering.{eq_by_cmp}
 use Rattle.std.specs.FinMap.{get}
-use Rattle.std.proofs.lemmas.Bool.{and_parts, and_right, cases_Bool, leb-true, leb-false, ltb-true, false_from_ne_true}
+use Rattle.std.proofs.lemmas.Bool.{and_parts, and_right, leb-true, leb-false, ltb-true, false_from_ne_true}
 use Rattle.std.proofs.lemmas.Bool.{eq-eqb}
 use Rattle.std.proofs.lemmas.Nat.{mod_below}
 use Rattle.oe_rows.specs.Key.{order_cmp, customer_cmp}

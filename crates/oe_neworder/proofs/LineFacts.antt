@@ -7,7 +7,6 @@ use Rattle.std.proofs.lemmas.List.{length-take-le, length-append, drop_all}
 use Rattle.std.proofs.lemmas.Option.{slice_get_within, slice_get_cases, get_or_from_slice_get}
 use Rattle.oe_theory.specs.Machine.{Stop, Plain, Take, Go}
 use Rattle.oe_theory.specs.Machine as theory
-use Rattle.oe_theory.specs.World.{IsEnough}
 use Rattle.oe_rows.specs.declared.items.Item.{Item}
 use Rattle.oe_rows.specs.declared.locks.Name.{Name}
 use Rattle.oe_rows.specs.declared.locks.Name.TheVariants as name

@@ -77,13 +77,6 @@ module _ (q : NewOrderRequest) (r : Rows) (x : District) (here : get r.districts
         (record x { next_order = n }) e),
   )
 
-  pub number_out : (c : Column) → row_with {A = ℕ} (λ k. record x { next_order = k }) (Err c) ≡ row_in_ranges next_out
-      (with_next x)
-      → new_order_act q (NewOrderDistrict w) r ≡ Fail (Overflow c)
-  number_out c e = at_district (Fail (Overflow c))
-      (leaves next_out (with_next x)
-      (Go (Some (UpdateDistrict q.district (with_next x))) (InNewOrder q (NewOrderCustomer x.next_order w x.tax))) c e)
-
 -- the lock of the stock row: where the item is unused, none
 asks_of : RequestLine → Option Item → Ask Name Refusal
 asks_of l o = elim o [ None ↦ Stop InvalidItem | Some x ↦ Take (name.Stock (stock_of l)) Exclusive ]

@@ -1,7 +1,6 @@
 -- Verdicts as what tables lack.
 use Rattle.std.proofs.Common.{sym}
 use Rattle.oe_requests.specs.declared.audits.Condition.{Condition}
-use Rattle.oe_requests.specs.declared.audits.Verdict.{Verdict}
 use Rattle.oe_requests.specs.declared.audits.Verdict.TheVariants as told
 use Rattle.oe_rows.specs.declared.keys.Key.{Key}
 use Rattle.oe_machine.specs.Verdict.{condition_of}

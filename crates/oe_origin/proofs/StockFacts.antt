@@ -1,10 +1,10 @@
 -- What walks of warehouses and items find is the first STOCK row that is not there.
-use Rattle.std.proofs.Common.{◌≡◌, ◌⊎◌, inl, inr, Bool, true, false, List, [], ◌∷◌, Option, Some, None, ⊎_elim, refl}
+use Rattle.std.proofs.Common.{◌≡◌, ◌⊎◌, inl, inr, List, [], ◌∷◌, Option, Some, None, ⊎_elim, refl}
 use Rattle.std.proofs.Common.{sym, ap, subst, ◌∙◌}
 use Rattle.std.specs.Prelude.{T, ◌&&◌, IsSome, MatchOption}
 use Rattle.std.specs.declared.cmp.Ordering.{Ordering}
 use Rattle.std.specs.declared.cmp.Ordering.TheVariants.{Less, Equal, Greater}
-use Rattle.std.specs.Cmp.{IsTotalOrder, nat_cmp_total}
+use Rattle.std.specs.Cmp.{nat_cmp_total}
 use Rattle.std.specs.Ordering.{is_lt, nat_cmp, ordering_then, ordering_reverse}
 use Rattle.std.specs.FinMap.{get, entries, entries_sorted}
 use Rattle.std.specs.FinMap.Entries.{is_sorted, below_all}
@@ -22,6 +22,7 @@ use Rattle.oe_model.specs.Lists.{IsAmong}
 use Rattle.oe_model.specs.Rows.{Rows}
 use Rattle.oe_model.proofs.EntryFacts.{EachOf, entries_at, row_among}
 use Rattle.oe_model.proofs.PresenceFacts.{missing, present_some, some_present}
+use Rattle.oe_model.proofs.FirstFacts.{left, right, less, not_both}
 use Rattle.oe_origin.specs.Lacks.{LacksStock, IsFirstAbsent}
 use Rattle.oe_origin.specs.Walks.{where_none, stock_in, absent, or_else, first_absent, first_unstocked}
 
@@ -43,24 +44,6 @@ either None b k e = inr (refl, e)
 either (Some q) b k e = inl e
 
 -- ---- the order of keys
-
-left : (a b : Bool) → T (a && b) → T a
-left true b p = tt
-left false b p = p
-
-right : (a b : Bool) → T (a && b) → T b
-right true b p = p
-right false b p = absurd p
-
-less : (r : Ordering) → T (is_lt r) → r ≡ Less
-less Less p = refl
-less Equal p = absurd p
-less Greater p = absurd p
-
--- of two keys not each is below the other
-not_both : {K : Type 0} {R : K → K → Ordering} → IsTotalOrder R → (j k : K) → R j k ≡ Less → R k j ≡ Less → ⊥
-not_both o j k a b = let z : Less ≡ ordering_reverse Less = sym a ∙ o.antisymm j k ∙ ap ordering_reverse b in
-    let no : ⊥ = cc in no
 
 -- a key is tied with itself
 tied : (r : Ordering) → r ≡ ordering_reverse r → r ≡ Equal

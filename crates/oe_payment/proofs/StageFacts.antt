@@ -65,12 +65,6 @@ module _ (q : PaymentRequest) (x : Handle) (s : EngineState) where
   abbrev do_warehouse : Warehouse → Doing
   do_warehouse w = within (paid_warehouse_out (paid_warehouse q w)) (on_warehouse w (paid_warehouse q w))
 
-  pub warehouse_absent : get (view_of s).rows.warehouses (warehouse_of_district q.district) ≡ None
-      → act_here s x (request.Payment q) (InPayment q PaymentWarehouse) ≡ Fail
-      (NoSuchRow (key.Warehouse (warehouse_of_district q.district)))
-  warehouse_absent e = ap (λ o. with_value
-      (NoSuchRow (key.Warehouse (warehouse_of_district q.district))) o do_warehouse) e
-
   pub warehouse_fails : (w : Warehouse) (c : Column)
       → get (view_of s).rows.warehouses (warehouse_of_district q.district) ≡ Some w
       → Err c ≡ row_in_ranges paid_warehouse_out (paid_warehouse q w)
@@ -99,11 +93,6 @@ module _ (q : PaymentRequest) (x : Handle) (s : EngineState) where
 
     abbrev do_district : District → Doing
     do_district d = within (paid_district_out (paid_district q d)) (on_district d (paid_district q d))
-
-    pub district_absent : get (view_of s).rows.districts q.district ≡ None
-        → act_here s x (request.Payment q) (InPayment q (PaymentDistrict name_of)) ≡ Fail
-        (NoSuchRow (key.District q.district))
-    district_absent e = ap (λ o. with_value (NoSuchRow (key.District q.district)) o do_district) e
 
     pub district_fails : (d : District) (c : Column) → get (view_of s).rows.districts q.district ≡ Some d
         → Err c ≡ row_in_ranges paid_district_out (paid_district q d)

@@ -75,9 +75,6 @@ line_count o = omega arith
 
 -- the rows of a scale in its ranges have keys in their ranges
 module _ (s : Scale) (scale : IsScale s) where
-  customers_fit : s.customers ≤ 3_000
-  customers_fit = scale.customers.1
-
   order_fits : (o : ℕ) → counts_to s.customers o ≡ true → IsInRange 1 10_000_000 o
   order_fits o e = let f : s.customers ≤ 10_000_000 = omega (arith, scale.customers.1) in
       counts 10_000_000 s.customers o f e

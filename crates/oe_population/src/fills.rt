@@ -12,13 +12,13 @@ use crate::formulas::{
     customer_row, district_row, history_key_of, history_row, item_row, last_delivered_order,
     line_count, line_row, order_row, stock_row, warehouse_row,
 };
-use crate::numbers::number;
 use oe_index::{Customers, Orders};
 use oe_rows::{
     CustomerKey, District, DistrictKey, History, HistoryKey, Item, ItemKey, NewOrder, NewOrderKey,
     Order, OrderKey, OrderLine, OrderLineKey, Scale, Stock, StockKey, Warehouse, WarehouseKey,
 };
 use oe_table::shelves::Shelves;
+use oe_values::known::number;
 use oe_values::{CustomerNumber, NoMemory, WarehouseNumber};
 use std::alloc::Global;
 

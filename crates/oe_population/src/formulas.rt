@@ -2,12 +2,12 @@
 ghost use Rattle.std.specs.Prelude.{◌≡◌, ◌≤◌};
 ghost use Rattle.oe_model.specs.Population.{address_of, warehouse_of, district_of, customer_of, history_of, history_key, order_of, line_of, item_of, stock_of, last_delivered, lines_of, start};
 
-use crate::numbers::{amount, number};
 use crate::texts::{alphabet, dist_info, name_of, numbered, plain, zip};
 use oe_rows::{
     Account, Address, Credit, Customer, CustomerKey, CustomerName, District, History, HistoryKey,
     Item, Order, OrderLine, OrderLineKey, Scale, Stock, StockKey, Warehouse,
 };
+use oe_values::known::{amount, number};
 use oe_values::{
     Balance, BrandText, CustomerNumber, DistrictNumber, ItemNumber, LineCount, Stamp,
     WarehouseNumber,

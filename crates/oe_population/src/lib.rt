@@ -4,7 +4,6 @@
 
 mod fills;
 mod formulas;
-mod numbers;
 pub mod population;
 mod texts;
 

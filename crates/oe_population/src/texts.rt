@@ -4,9 +4,10 @@ ghost use Rattle.std.specs.Prelude.{◌≡◌, ◌≤◌, ◌<◌, ◌+◌, ◌+
 ghost use Rattle.std.specs.List.{list_all};
 ghost use Rattle.std.specs.Int.{IsInRange};
 ghost use Rattle.oe_population.specs.Printable.{is_printable};
-ghost use Rattle.oe_model.specs.Population.{dec, letters, syllable, last_name, dist_text};
+ghost use Rattle.oe_model.specs.Population.{dec, letters, last_name, dist_text};
 
 use arrayvec::ArrayString;
+use oe_formulas::names::syllable_of;
 use oe_values::Text;
 
 // From each letter of the first alphabet on it has 500 letters.
@@ -79,28 +80,6 @@ pub(crate) fn alphabet(count: u32, first: u32) -> Text<0, 500>
 {
     let start = (first % 26) as usize;
     Text::of_printable(&ALPHABETS[start..start + count as usize])
-}
-
-/// Gives the syllable of a digit (clause 4.3.2.3).
-#[tactic(auto, unfolding(oe_model::specs::Population::syllable))]
-fn syllable_of(digit: u32) -> &'static str
-    requires { digit < 10 }
-    ensures value { result.now ≡ syllable digit }
-    ensures length { length result.now ≤ 5 }
-{
-    match digit {
-        0 => "BAR",
-        1 => "OUGHT",
-        2 => "ABLE",
-        3 => "PRI",
-        4 => "PRES",
-        5 => "ESE",
-        6 => "ANTI",
-        7 => "CALLY",
-        8 => "ATION",
-        9 => "EING",
-        _ => unreachable!(),
-    }
 }
 
 /// Gives the last name of a number: the syllables of its three digits (clause 4.3.2.3).

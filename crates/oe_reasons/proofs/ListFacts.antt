@@ -1,5 +1,5 @@
 -- The lists of verbs, forms and columns are whole.
-use Rattle.std.proofs.Common.{◌≡◌, List, [], ◌∷◌, Some, refl, arith}
+use Rattle.std.proofs.Common.{◌≡◌, [], ◌∷◌, Some, refl, arith}
 use Rattle.std.proofs.lemmas.List.Elements.{All-cons, All-nil}
 use Rattle.oe_reasons.specs.declared.verbs.Verb.{Verb}
 use Rattle.oe_reasons.specs.declared.verbs.Verb.TheVariants as verb

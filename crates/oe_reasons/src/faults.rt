@@ -10,7 +10,7 @@ ghost use Rattle.oe_reasons.specs.declared.forms.Form.{Form};
 use crate::forms::{Column, Form};
 use crate::verbs::{Kind, Verb, is_word, read_kind};
 use crate::words::{word_at, words_in};
-use oe_rows::Table;
+use oe_rows::TABLES;
 use oe_values::fronts::{after, decimal, pair};
 use oe_values::texts::{FirstName, LastName};
 use oe_values::{Stamp, Text};
@@ -33,19 +33,6 @@ pub struct WrongWord {
     pub column: Column,
     pub fault: WordFault,
 }
-
-/// The nine tables.
-const TABLES: [Table; 9] = [
-    Table::Warehouse,
-    Table::District,
-    Table::Customer,
-    Table::History,
-    Table::NewOrder,
-    Table::Order,
-    Table::OrderLine,
-    Table::Item,
-    Table::Stock,
-];
 
 /// Gives the number of at most 15 digits that a word is.
 #[tactic(auto, unfolding(crate::specs::Columns::number_in))]

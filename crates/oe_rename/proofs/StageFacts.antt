@@ -4,7 +4,6 @@ use Rattle.std.specs.Prelude.{option_map}
 use Rattle.std.specs.FinMap.{get}
 use Rattle.oe_theory.specs.Machine.{Ask, Stop, Take, Go, Exclusive}
 use Rattle.oe_theory.specs.Machine as theory
-use Rattle.oe_theory.specs.World.{IsEnough}
 use Rattle.oe_theory.specs.Next.{held_after}
 use Rattle.oe_theory.proofs.Sets.{some_inj}
 use Rattle.oe_rows.specs.declared.locks.Name.{Name}

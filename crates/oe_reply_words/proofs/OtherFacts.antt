@@ -1,5 +1,5 @@
 -- The first part that differs.
-use Rattle.std.proofs.Common.{◌≡◌, ℕ, ◌+◌, true, false, cond, List, [], ◌∷◌, ap, ◌∙◌, refl}
+use Rattle.std.proofs.Common.{◌≡◌, ℕ, ◌+◌, true, cond, List, [], ◌∷◌, ap, ◌∙◌, refl}
 use Rattle.oe_reply_words.specs.Parts.{parts_of, is_same, first_word}
 use Rattle.oe_reply_words.specs.Others.{first_other}
 
@@ -12,11 +12,6 @@ module _ (m k : ℕ) (theirs ours w v : List ℕ) (ws vs : List (List ℕ)) (t :
   pub same_first : is_same w v ≡ true
       → first_other k (parts_of m theirs) (parts_of m ours) ≡ first_other (k + 1) ws vs
   same_first e =
-      both ∙ ap (λ b. cond b (first_other (k + 1) ws vs) (record { place = k; theirs = w; ours = v })) e
-
-  pub other_first : is_same w v ≡ false
-      → first_other k (parts_of m theirs) (parts_of m ours) ≡ record { place = k; theirs = w; ours = v }
-  other_first e =
       both ∙ ap (λ b. cond b (first_other (k + 1) ws vs) (record { place = k; theirs = w; ours = v })) e
 
 -- nothing is left of one of the two

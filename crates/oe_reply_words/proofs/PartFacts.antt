@@ -1,11 +1,11 @@
 -- Where a byte parts bytes, and parts of texts between marks.
-use Rattle.std.proofs.Common.{◌≡◌, ◌≢◌, ℕ, zero, suc, ◌+◌, ◌<◌, ◌≤◌, ◌==◌, cond, true, false, List, [], ◌∷◌, ◌++◌}
+use Rattle.std.proofs.Common.{◌≡◌, ◌≢◌, ℕ, ◌+◌, ◌<◌, ◌≤◌, ◌==◌, cond, true, false, List, [], ◌∷◌, ◌++◌}
 use Rattle.std.proofs.Common.{length, take, drop, get_or, Some, None, sym, ap, subst, ◌∙◌, refl, append_assoc, arith}
 use Rattle.std.proofs.lemmas.List.{drop_more, get_or-take, get_or_default, length-take-le, take-append-drop, append-nil}
 use Rattle.std.proofs.lemmas.List.Elements.{All-head, All-tail}
 use Rattle.std.proofs.lemmas.Bool.{eqb-true, eq-eqb, ne_eqb}
 use Rattle.memchr.specs.Find.{IsFirstByte, Nowhere, Passes, is_byte}
-use Rattle.oe_reply_words.specs.Parts.{IsWithout, IsParted, parts_from, parts_of, parts_behind, word_at}
+use Rattle.oe_reply_words.specs.Parts.{IsWithout, IsParted, parts_from, parts_of, parts_behind}
 
 -- TEXTS
 
@@ -101,15 +101,3 @@ pub unparted : (m : ℕ) (text : List ℕ) → IsWithout m text → parts_of m t
 unparted m text h = parts_none m [] text h
 
 -- ONE PART
-
-pub part_here : (m n : ℕ) (text p : List ℕ) (ps : List (List ℕ)) → parts_of m text ≡ p ∷ ps → n ≡ 0
-    → word_at m n text ≡ p
-part_here m n text p ps e z = rw (e, z) refl
-
-pub part_behind : (m n k : ℕ) (text rest p : List ℕ) → parts_of m text ≡ p ∷ parts_of m rest → n ≡ suc k
-    → word_at m k rest ≡ word_at m n text
-part_behind m n k text rest p e s = rw (e, s) refl
-
-pub no_part : (m n : ℕ) (text p : List ℕ) → parts_of m text ≡ p ∷ [] → n ≢ 0 → word_at m n text ≡ []
-no_part m zero text p e z = absurd (z refl)
-no_part m (suc n) text p e z = rw e refl

@@ -8,6 +8,6 @@ pub mod rows;
 pub mod told;
 
 pub use others::other_line;
-pub use parts::{decimal, parted_at};
+pub use parts::parted_at;
 pub use rows::{Change, changes};
 pub use told::row_told;

@@ -7,9 +7,9 @@ ghost use Rattle.oe_reply_words.specs.Others.{seen_of, other_part, answered_by};
 ghost use Rattle.oe_reply_words.specs.Others.{payment_word, order_word, delivery_word, deliveries_word, rename_word, status_word, other_word};
 ghost use Rattle.oe_reply_words.specs.Others.{word_name, numbered_from, place_text, part_name, has_parts, both_text, word_text, other_line};
 
-use crate::parts::{decimal, first_of, is_same, next_part};
+use crate::parts::{first_of, is_same, next_part};
 use crate::rows::{Change, last_line};
-use oe_texts::{Pending, SIZE, text};
+use oe_texts::{Pending, SIZE, decimal, text};
 
 /// What a line is answered, by the first word.
 #[derive(Clone, Copy)]

@@ -1,21 +1,9 @@
 //! Parts of texts between marks. Nothing here takes memory or can fail.
-ghost use Rattle.std.specs.Prelude.{◌≡◌, ◌≤◌, ◌<◌, ◌+◌, ◌++◌, ◌∷◌, [], length, None, IfSome, MatchOption, option_map, decimal};
-ghost use Rattle.arrayvec.specs.ArrayVec.{array_vec_len};
+ghost use Rattle.std.specs.Prelude.{◌≡◌, ◌≤◌, ◌<◌, ◌+◌, ◌∷◌, length, None, IfSome, MatchOption, option_map, decimal};
 ghost use Rattle.oe_reply_words.specs.Parts.{IsWithout, IsParted, is_same, parts_of, parts_behind, first_word, word_at};
 
 use itoa::Buffer;
 use memchr::memchr;
-use oe_texts::{Pending, SIZE, text};
-
-/// Appends a number in decimal.
-pub fn decimal(out: &mut Pending, number: u128)
-    requires { array_vec_len out.old + 39 ≤ SIZE }
-    ensures items { out.new.items ≡ out.old.items ++ decimal number }
-    ensures len { array_vec_len out.new ≤ array_vec_len out.old + 39 }
-{
-    let mut buffer = Buffer::new();
-    text(out, buffer.format(number).as_bytes());
-}
 
 /// Parts bytes where a byte stands first: what is before it, and what is behind it.
 pub fn parted_at(bytes: &[u8], mark: u8) -> Option<(&[u8], &[u8])>

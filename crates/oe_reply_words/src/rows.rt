@@ -5,10 +5,10 @@ ghost use Rattle.std.specs.List.{list_any};
 ghost use Rattle.arrayvec.specs.ArrayVec.{array_vec_len};
 ghost use Rattle.oe_reply_words.specs.Rows.{is_in, is_chosen, is_ordered, is_delivered, are_delivered, changes_district, changes_customer, changes_stock, changes, change_text, last_text};
 
-use crate::parts::{decimal, is_number, is_same, next_part, part_at};
+use crate::parts::{is_number, is_same, next_part, part_at};
 use oe_requests::{CustomerChoice, Request, RequestLine};
 use oe_rows::{CustomerKey, DistrictKey, Key, StockKey};
-use oe_texts::{Pending, SIZE, keys, text};
+use oe_texts::{Pending, SIZE, decimal, keys, text};
 
 /// A row, and the line whose transaction changed it last.
 #[derive(Clone, Copy)]

@@ -1,7 +1,6 @@
 -- The first of conditions 1 to 4 that fails, if one does.
 use Rattle.std.specs.Prelude.{◌≡◌, ◌≤◌, ◌<◌, Bool, true, false, Option, Some, None}
 use Rattle.oe_requests.specs.declared.audits.Condition.{Condition}
-use Rattle.oe_requests.specs.declared.audits.Condition.TheVariants as condition
 use Rattle.oe_requests.specs.Condition.{condition_number}
 use Rattle.oe_machine.specs.Verdict.{condition_of}
 use Rattle.oe_model.specs.Audits as model

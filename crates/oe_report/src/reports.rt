@@ -6,16 +6,7 @@ ghost use Rattle.oe_report.specs.Reports.{condition_line, population_line, repor
 
 use itoa::Buffer;
 use oe_requests::Condition;
-use oe_texts::{LONGEST, Pending, SIZE};
-
-// Appends these bytes.
-fn text(out: &mut Pending, bytes: &[u8])
-    requires { array_vec_len out.old + length bytes.now ≤ SIZE }
-    ensures items { out.new.items ≡ out.old.items ++ bytes.now }
-    ensures len { array_vec_len out.new ≡ array_vec_len out.old + length bytes.now }
-{
-    out.try_extend_from_slice(bytes).unwrap();
-}
+use oe_texts::{LONGEST, Pending, SIZE, text};
 
 // Appends `condition N fails`.
 fn failing_line(out: &mut Pending, number: Condition)

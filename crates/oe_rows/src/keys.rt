@@ -106,6 +106,19 @@ pub enum Table {
     Stock,
 }
 
+/// The nine tables, in the order of clause 1.3.1.
+pub const TABLES: [Table; 9] = [
+    Table::Warehouse,
+    Table::District,
+    Table::Customer,
+    Table::History,
+    Table::NewOrder,
+    Table::Order,
+    Table::OrderLine,
+    Table::Item,
+    Table::Stock,
+];
+
 impl DistrictKey {
     /// The warehouse that the district is of.
     #[inline]

@@ -32,7 +32,7 @@ pub use histories::History;
 pub use items::{Item, Stock, StockCounters};
 pub use keys::{
     CustomerKey, DistrictKey, HistoryKey, ItemKey, Key, NewOrderKey, OrderKey, OrderLineKey,
-    StockKey, Table, WarehouseKey,
+    StockKey, TABLES, Table, WarehouseKey,
 };
 pub use layouts::Layout;
 pub use locks::{Mode, Name};

@@ -1,5 +1,5 @@
 -- What a listener hears of a line.
-use Rattle.std.proofs.Common.{◌≡◌, ℕ, ◌≤◌, ◌<◌, Bool, true, false, List, [], ◌∷◌, ◌++◌, length, None, Some}
+use Rattle.std.proofs.Common.{◌≡◌, ℕ, ◌≤◌, ◌<◌, false, List, [], ◌∷◌, ◌++◌, length, None, Some}
 use Rattle.std.proofs.Common.{sym, ap, ◌∙◌, subst, refl, inl, inr, arith}
 use Rattle.std.specs.Prelude.{◌⊎◌}
 use Rattle.oe_script.specs.declared.listeners.Place.{Place}
@@ -17,9 +17,6 @@ module _ {L : Type 0} (hears : L → Heard → L → Type 0) where
       → HearsEach hears m b n → HearsEach hears l (a ++ b) n
   each_append l [] m b n p q = subst (λ z. HearsEach hears z b n) p q
   each_append l (x ∷ xs) m b n p q = (p.0, p.1, each_append p.0 xs m b n p.2 q)
-
-  pub heard_taken : (s : State) (n : ℕ) (line : List ℕ) (l : L) → Takes true s line → IsHeard hears s n line l l
-  heard_taken s n line l t = ([], inl (t, refl), refl)
 
   pub heard_bad : (s : State) (n : ℕ) (line : List ℕ) (l l' : L) (p : Place) → length line ≤ 1_024
       → Takes false s line → p ≡ place_of s → hears l (record { number = n; line = line; place = p }) l'

@@ -1,6 +1,6 @@
 -- Each line is answered.
-use Rattle.std.proofs.Common.{◌≡◌, Result, Ok, Err, ℕ, ◌+◌, ◌<◌, ◌≤◌, Bool, true, false, Option, None, Some, List, []}
-use Rattle.std.proofs.Common.{zero, suc, ◌∷◌, ◌++◌, length, refl, sym, ap, ◌∙◌, subst, inl, inr, arith}
+use Rattle.std.proofs.Common.{◌≡◌, Result, Ok, Err, ℕ, ◌+◌, ◌<◌, ◌≤◌, true, Option, None, Some, List, []}
+use Rattle.std.proofs.Common.{zero, suc, ◌∷◌, ◌++◌, length, refl, sym, ◌∙◌, subst, inl, inr, arith}
 use Rattle.std.specs.Prelude.{◌⊎◌, ◌≢◌}
 use Rattle.std.proofs.lemmas.Bool.{cases_order}
 use Rattle.oe_theory.specs.Next.{Next}
@@ -43,7 +43,7 @@ use Rattle.oe_admission.proofs.LiveFacts.{next_live}
 use Rattle.oe_io.specs.Ports.{Sink, Sent, Cut, Streams}
 use Rattle.oe_script.specs.Hearing.{Takes}
 use Rattle.oe_script.specs.Outcome.{IsAnswer, Replies, Sorts}
-use Rattle.oe_io.proofs.Streaming.{sent_waits, sent_then, sent_cut, cut_more}
+use Rattle.oe_io.proofs.Streaming.{sent_waits, cut_more}
 use Rattle.oe_script.proofs.AnswerFacts.{IsTold, told_advance, told_save, told_back, told_rollback, told_begin}
 use Rattle.oe_script.proofs.AnswerFacts.{told_audit, told_read, told_purge, told_rewind, told_run}
 
@@ -274,16 +274,6 @@ pub live_replied : {T E : Type 0} (s : State) (n : ℕ) (line : List ℕ) (s' : 
     (waited waits : List ℕ) (r : Result T E) → IsLive s → Replies s n line s' old waited new waits r → IsLive s'
 live_replied s n line s' old new waited waits (Ok x) l h = live_line s n line h.0 s' l h.1
 live_replied s n line s' old new waited waits (Err e) l h = subst IsLive (sym h.0) l
-
--- room was made before it
-pub replied_after : {T E : Type 0} (s : State) (n : ℕ) (line : List ℕ) (s' : State) (old mid new : Option Sink)
-    (waited between waits : List ℕ) (r : Result T E)
-    → Sent old waited mid between [] → Replies s n line s' mid between new waits r
-    → Replies s n line s' old waited new waits r
-replied_after s n line s' old mid new waited between waits (Ok x) m h =
-    (h.0, h.1, sent_then old mid new waited between waits [] h.0 m h.2)
-replied_after s n line s' old mid new waited between waits (Err e) m h =
-    (h.0, h.1, h.2, h.3, sent_cut old mid new waited between [] h.1 m h.4)
 
 -- there was no room, and none could be made
 pub replied_never : (s : State) (n : ℕ) (line : List ℕ) (old new : Option Sink) (waited : List ℕ) → IsLive s

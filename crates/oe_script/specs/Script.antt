@@ -28,7 +28,7 @@ use Rattle.oe_lines.specs.declared.commands.MomentChoice.{MomentChoice}
 use Rattle.oe_lines.specs.declared.commands.MomentChoice.TheVariants as moment
 use Rattle.oe_lines.specs.Grammar.{Says}
 use Rattle.oe_machine.specs.Steps.{step_in, answer_in}
-use Rattle.oe_io.specs.Dump.{dump_text}
+use Rattle.oe_dumps.specs.Dump.{dump_text}
 use Rattle.oe_waits.specs.Texts.{locks_text, waits_text}
 use Rattle.oe_io.specs.Lines.{bad_line}
 

@@ -19,7 +19,7 @@ ghost use Rattle.oe_admission.specs.Programs.{IsLive};
 ghost use Rattle.oe_script.specs.Hearing.{Takes};
 ghost use Rattle.oe_script.specs.Outcome.{IsAnswer, Tells, TellsRun, Sorts};
 
-use oe_io::dumps::dump;
+use oe_dumps::dump;
 use oe_io::output::{bad, make_room};
 use oe_io::ports::{Failed, Outlet};
 use oe_lines::commands::RingChoice;

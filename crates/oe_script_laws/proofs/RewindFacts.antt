@@ -3,10 +3,10 @@ use Rattle.std.proofs.Common.{◌≡◌, ℕ, suc, ◌≤◌, ◌<◌, Some, Lis
 use Rattle.std.proofs.Common.{subst, inl, inr, arith}
 use Rattle.oe_theory.specs.World.{World, total, version, horizon, newest, at, tables}
 use Rattle.oe_theory.specs.Next as theory
-use Rattle.oe_theory.specs.Next.{Next, IsQuiet, IsPast, count_open, begins, goes_on, commits, saves, goes_back}
-use Rattle.oe_theory.specs.Next.{rolls_back, reads, audits, purges, rewinds, stops, fails, is_busy, is_full}
-use Rattle.oe_theory.specs.Next.{is_rejected, is_open, number_is_rejected, query_is_rejected, misses, not_open, too_old}
-use Rattle.oe_theory.specs.Next.{future, not_quiet, lacks_memory_at_begin, lacks_memory}
+use Rattle.oe_theory.specs.Next.{Next, IsQuiet, IsPast, count_open, commits}
+use Rattle.oe_theory.specs.Next.{rewinds}
+use Rattle.oe_theory.specs.Next.{not_open, too_old}
+use Rattle.oe_theory.specs.Next.{future, not_quiet}
 use Rattle.oe_theory.specs.Theorems.{IsReached, world_at_opening}
 use Rattle.oe_theory.proofs.Sets.{some_inj, some_none}
 use Rattle.oe_theory.proofs.Theorems.{rewind_restores}

@@ -2,12 +2,15 @@
 //! files of tables and runs drives.
 //!
 //! This file is trusted: it has no contract. It opens what the command line names, and hands it to
-//! `oe_answers` and `oe_drive_answer`, whose contracts say what is answered, with which status.
+//! `oe_answers` and `oe_drive_answer`, whose contracts say what is answered, with which status. Here
+//! alone the machine of all commands is chosen: it is a `Core`.
 use oe_answers::{
     Audited, Progress, Replies, answer_audit, answer_following, answer_load, explain, open_audited,
     open_before, open_script, opened_script, refuse, script, serial, tell_usage,
 };
 use oe_command_line::{AuditOptions, LoadOptions, Separator, Task, job};
+use oe_core::Core;
+use oe_core::crossing::core_crosses;
 use oe_drive_answer::files::{Written, unmade};
 use oe_drive_answer::progress::Shown;
 use oe_drive_answer::{answer_drive, answer_drive_to};
@@ -60,10 +63,16 @@ fn answer<
     let out = &mut Printed::new(rt);
     let explainer = &mut Explainer::new(Printed::new(errors));
     match task {
-        Task::Script => script(rt, "-", &mut Ok(Standard(rt.reader())), out),
-        Task::File(name) => script(rt, name, &mut open_script(rt, name), out),
-        Task::Explain(None) => explain(rt, "-", &mut Ok(Standard(rt.reader())), out, explainer),
-        Task::Explain(Some(name)) => explain(rt, name, &mut open_script(rt, name), out, explainer),
+        Task::Script => script::<Core, _, _, _>(rt, "-", &mut Ok(Standard(rt.reader())), out),
+        Task::File(name) => script::<Core, _, _, _>(rt, name, &mut open_script(rt, name), out),
+        Task::Explain(None) => {
+            let input = &mut Ok(Standard(rt.reader()));
+            explain::<Core, _, _, _, _>(rt, "-", input, out, explainer)
+        }
+        Task::Explain(Some(name)) => {
+            let input = &mut open_script(rt, name);
+            explain::<Core, _, _, _, _>(rt, name, input, out, explainer)
+        }
         Task::Opened {
             directory,
             extents,
@@ -81,7 +90,7 @@ fn answer<
             before,
             options,
         } => audit(rt, errors, source, *before, options),
-        Task::Load { numbers, options } => answer_load(rt, numbers, options, out),
+        Task::Load { numbers, options } => answer_load::<Core, _, _>(rt, numbers, options, out),
         Task::Following {
             directory,
             numbers,
@@ -107,12 +116,16 @@ fn drive<R: Threads + Wait + Files<File = File> + Clock + Print + Eprint + Alloc
         progress: errors.is_terminal(),
         busy: is_busy,
     };
+    core_crosses();
     let out = &mut Printed::new(rt);
     let Some(name) = commits else {
-        return answer_drive(rt, numbers, shown, out);
+        return answer_drive::<Core, _, _>(rt, numbers, shown, out);
     };
     match File::create(rt, name) {
-        Ok(file) => answer_drive_to(rt, numbers, shown, &mut Written::new(file), out),
+        Ok(file) => {
+            let file = &mut Written::new(file);
+            answer_drive_to::<Core, _, _, _>(rt, numbers, shown, file, out)
+        }
         Err(cause) => unmade(rt, name, &cause),
     }
 }
@@ -128,7 +141,7 @@ fn follow<R: Files + Clock + Print + Eprint + AllocGlobal>(
     let pace = Pace::begin(rt, errors.is_terminal())?;
     let from = &mut open_tables(rt, directory, &pace);
     let (out, notes) = (&mut Printed::new(rt), &mut Printed::new(errors));
-    answer_following(rt, from, numbers, options, out, notes)
+    answer_following::<Core, _, _, _, _>(rt, from, numbers, options, out, notes)
 }
 
 /// Opens the tables in a directory and a script, and answers it from them.
@@ -145,10 +158,12 @@ fn answer_from<R: Files + Clock + Input + Print + Eprint + AllocGlobal>(
     let (out, notes) = (&mut Printed::new(rt), &mut Printed::new(errors));
     let Some(name) = file else {
         let input = &mut Ok(Standard(rt.reader()));
-        return opened_script(rt, from, extents, layout, "-", input, out, notes);
+        return opened_script::<Core, _, _, _, _, _>(
+            rt, from, extents, layout, "-", input, out, notes,
+        );
     };
     let input = &mut open_script(rt, name);
-    opened_script(rt, from, extents, layout, name, input, out, notes)
+    opened_script::<Core, _, _, _, _, _>(rt, from, extents, layout, name, input, out, notes)
 }
 
 /// Opens a file of replies, and the tables in the directories that stand beside it, and decides.
@@ -165,7 +180,7 @@ fn decide<R: Files + Clock + Print + Eprint + AllocGlobal>(
     let mut tables = open_named(rt, tables, &pace);
     let replies = &Replies::read(rt, name);
     let (out, notes) = (&mut Printed::new(rt), &mut Printed::new(errors));
-    serial(rt, separator, replies, &mut from, &mut tables, out, notes)
+    serial::<Core, _, _, _, _>(rt, separator, replies, &mut from, &mut tables, out, notes)
 }
 
 /// Opens what an audit reads, and the earlier directory where one is named, and audits.

@@ -14,7 +14,7 @@ use Rattle.oe_sources.specs.declared.readings.Reading.{Reading}
 use Rattle.oe_sources.specs.declared.lines.SoFar as lines
 use Rattle.oe_sources.specs.Dump as dump
 use Rattle.oe_sources.specs.Fault.{Told, in_64_bits, with_fault, with_each_fault}
-use Rattle.oe_sources.specs.Reading.{Says, Nothing, Row, Fault, step, long_says}
+use Rattle.oe_sources.specs.Reading.{Says, Row, Fault, step, long_says}
 use Rattle.oe_sources.specs.Taken.{Got, Spelled, spelling, rows_said, faults_said}
 use Rattle.oe_sources.specs.Tables.{Read, begun_read, next, all_next, Stands, StandsBehind, file_step}
 use Rattle.oe_sources.specs.Text.{text_of}
@@ -43,14 +43,6 @@ module _ {L B : Type 0} (holds : B → L → List RowFact → Type 0) (start : t
     held = λ begun before h. subst (λ fs. holds begun start.ledger fs) (sym (append-nil before)) h;
     told = refl;
   }
-
-  pub got_nothing : (rows : List Spelled) (faults : List SourceFault) (now : taken.Taken L) (t : Table)
-      (n : ℕ) (s : Says) → s ≡ Nothing → Got holds start rows faults now
-      → Got holds start (rows ++ rows_said s) (faults ++ faults_said t n s) now
-  got_nothing rows faults now t n s e g =
-      got_as rows (rows ++ rows_said s) faults (faults ++ faults_said t n s) now
-      (sym (ap (λ s. rows ++ rows_said s) e ∙ append-nil rows))
-      (sym (ap (λ s. faults ++ faults_said t n s) e ∙ append-nil faults)) g
 
   pub got_row : (rows : List Spelled) (faults : List SourceFault) (old now : taken.Taken L) (t : Table)
       (n : ℕ) (s : Says) (f : RowFact) → s ≡ Row (table_of f.fact) (fact_values f.fact) f.print

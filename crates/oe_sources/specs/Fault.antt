@@ -1,8 +1,7 @@
 -- Faults: the first three of each table, and how many each has.
 use Rattle.std.specs.Prelude.{ℕ, ◌+◌, ◌-◌, ◌^◌, min, List, [], ◌∷◌, ◌++◌, nat_lt, slice_index, slice_set, replicate}
 use Rattle.std.specs.Prelude.{if◌then◌else◌}
-use Rattle.oe_facts.specs.declared.tables.Table.{Table}
-use Rattle.oe_facts.specs.declared.tables.Table.TheVariants as table
+use Rattle.oe_facts.specs.Table.{place_of}
 use Rattle.oe_sources.specs.declared.faults.SourceFault.{SourceFault}
 use Rattle.oe_sources.specs.declared.faults.TheConstants.{KEPT}
 
@@ -10,17 +9,6 @@ use Rattle.oe_sources.specs.declared.faults.TheConstants.{KEPT}
 pub record Told : Type 0 where
   pub kept : List SourceFault
   pub counts : List ℕ
-
-abbrev pub place_of : Table → ℕ
-place_of table.Warehouse = 0
-place_of table.District = 1
-place_of table.Customer = 2
-place_of table.History = 3
-place_of table.NewOrder = 4
-place_of table.Order = 5
-place_of table.OrderLine = 6
-place_of table.Item = 7
-place_of table.Stock = 8
 
 abbrev pub no_faults : Told
 no_faults = record { kept = []; counts = replicate 9 0 }

@@ -1,6 +1,7 @@
 //! What is wrong with lines. Of each table the first three faults are kept, and all are counted.
 ghost use Rattle.std.specs.Prelude.{◌≡◌, ◌<◌, ◌≤◌, take, length, slice_index, OnOk, IfOk};
-ghost use Rattle.oe_sources.specs.Fault.{place_of, no_faults, with_fault};
+ghost use Rattle.oe_facts.specs.Table.{place_of};
+ghost use Rattle.oe_sources.specs.Fault.{no_faults, with_fault};
 
 use arrayvec::ArrayVec;
 use oe_columns::{LayoutFault, Misfit};
@@ -103,24 +104,6 @@ impl Model for Faults {
     ghost view = { λ f. record { kept = f.kept.items; counts = f.counts } };
 }
 
-/// Gives the place of a table's count.
-fn place_of(table: Table) -> usize
-    ensures value { result ≡ place_of table }
-    ensures below { result < 9 }
-{
-    match table {
-        Table::Warehouse => 0,
-        Table::District => 1,
-        Table::Customer => 2,
-        Table::History => 3,
-        Table::NewOrder => 4,
-        Table::Order => 5,
-        Table::OrderLine => 6,
-        Table::Item => 7,
-        Table::Stock => 8,
-    }
-}
-
 impl Faults {
     /// Nothing is wrong so far.
     pub fn new(alloc: Global) -> Faults
@@ -136,7 +119,7 @@ impl Faults {
     pub(crate) fn push(&mut self, fault: SourceFault) -> Result<(), AllocError>
         ensures { OnOk result (self.new ≡ with_fault fault self.old) }
     {
-        let at = place_of(fault.table);
+        let at = fault.table.place();
         let count = self.counts[at];
         self.counts[at] = count.saturating_add(1);
         if count < KEPT {
@@ -158,6 +141,6 @@ impl Faults {
     pub fn count(&self, table: Table) -> u64
         ensures { result ≡ slice_index self.now.counts (place_of table) }
     {
-        self.counts[place_of(table)]
+        self.counts[table.place()]
     }
 }

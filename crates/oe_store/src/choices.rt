@@ -32,8 +32,8 @@ fn is_named(
         && name.last.as_str().cmp(last.as_str()) == Ordering::Equal
 }
 
-/// Tells whether a customer comes before another, by C_FIRST, and where that ties by C_ID.
-fn is_before(
+/// Tells whether a customer comes before another, by C_FIRST, and if that ties by C_ID.
+pub fn is_before(
     first: &Text<0, 16>,
     customer: CustomerNumber,
     own_first: &Text<0, 16>,

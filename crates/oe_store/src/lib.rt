@@ -15,6 +15,7 @@
 pub mod choices;
 pub mod columns;
 pub mod columns_back;
+pub mod copies;
 pub mod inserts;
 pub mod key_walks;
 pub mod purges;

@@ -6,7 +6,7 @@ use Rattle.std.specs.List.Sorted.{IsStrictlySortedBy}
 use Rattle.std.specs.Map.{keys_of}
 use Rattle.std.specs.Ordering.{is_lt, is_le, is_gt, ordering_reverse}
 use Rattle.std.specs.BTreeMap.Range.{IsLeBy, range_contains, entries_between}
-use Rattle.std.specs.declared.ops.Bound.TheVariants.{Included, Excluded}
+use Rattle.std.specs.declared.ops.Bound.TheVariants.{Included}
 use Rattle.std.specs.Cmp.{IsTotalOrder, alike_right}
 use Rattle.std.specs.declared.cmp.Ordering.{Ordering}
 use Rattle.std.specs.declared.cmp.Ordering.TheVariants.{Less, Equal, Greater}
@@ -346,29 +346,10 @@ module _ {K : Type 0} (cmp : K → K → Ordering) (total : IsTotalOrder cmp) (s
 module _ {K X : Type 0} (cmp : K → K → Ordering) (total : IsTotalOrder cmp) (shelf_of : K → ℕ)
     (ascends : (j k : K) → shelf_of j < shelf_of k → cmp j k ≡ Less) (from to : K) (forward : IsLeBy cmp from to)
     (ss : List (List (K × X))) where
-  pub cuts-before : (a b : ℕ) → a ≡ b → lower cmp (get_or ss a []) from ≤ lower cmp (get_or ss b []) to
-  cuts-before a b e = rw e
-      (front-mono (λ k. is_lt (cmp k from)) (λ k. is_lt (cmp k to))
-      (goes-before cmp total shelf_of ascends from to forward) (get_or ss b []))
-
   pub cuts-up_to : (a b : ℕ) → a ≡ b → lower cmp (get_or ss a []) from ≤ upper cmp (get_or ss b []) to
   cuts-up_to a b e = rw e
       (front-mono (λ k. is_lt (cmp k from)) (λ k. is_le (cmp k to))
       (goes-up_to cmp total shelf_of ascends from to forward) (get_or ss b []))
-
-  pub places-before : AreShelves cmp shelf_of 0 ss
-      → cut_between ss (shelf_of from) (lower cmp (get_or ss (shelf_of from) []) from) (shelf_of to)
-      (lower cmp (get_or ss (shelf_of to) []) to) ≡ entries_between cmp (Included from) (Excluded to) (whole_list ss)
-  places-before h =
-      cut-is cmp shelf_of ascends (λ k. is_lt (cmp k from)) (λ k. is_lt (cmp k to)) from to (lower-end cmp total from)
-      (lower-end cmp total to) (goes-before cmp total shelf_of ascends from to forward) ss h
-      (shelf-forward cmp total shelf_of ascends from to forward)
-      ∙ filter_agree (λ e. not (is_lt (cmp e.0 from)) && is_lt (cmp e.0 to))
-      (λ e. range_contains cmp (Included from) (Excluded to) e.0)
-      (λ e. ap (λ b. b && is_lt (cmp e.0 to)) (sym (is_from (cmp e.0 from))
-      ∙ ap is_le (sym (reversed cmp total from e.0)))
-      ∙ ap (λ b. is_le (cmp from e.0) && b) (sym (is_under (cmp e.0 to))
-      ∙ ap (λ r. not (is_le r)) (sym (reversed cmp total to e.0)))) (whole_list ss)
 
   pub places-up_to : AreShelves cmp shelf_of 0 ss
       → cut_between ss (shelf_of from) (lower cmp (get_or ss (shelf_of from) []) from) (shelf_of to)

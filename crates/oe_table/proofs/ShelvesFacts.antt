@@ -12,7 +12,7 @@ use Rattle.std.specs.Ordering.{is_eq}
 use Rattle.std.specs.declared.cmp.Ordering.{Ordering}
 use Rattle.std.specs.FinMap.{IsAntisymmetric, insert}
 use Rattle.std.proofs.lemmas.List.{get_or-set_same, get_or-set_other, get_or_past, set-get_or, append_assoc}
-use Rattle.std.proofs.lemmas.List.{length-append, replicate_more}
+use Rattle.std.proofs.lemmas.List.{replicate_more}
 use Rattle.std.proofs.lemmas.Map.{keys-set_value}
 use borrow.Author.Tests.{eqb-true, eqb-false}
 use lib.Dec.{eqb}
@@ -330,11 +330,6 @@ pub padded-more : {A : Type 0} (old mid new : List (List A)) (n : ℕ) → mid �
     → new ≡ mid ++ [] ∷ [] → new ≡ old ++ replicate (n + 1) []
 padded-more old mid new n is more = more ∙ ap (λ t. t ++ [] ∷ []) is ∙ append_assoc old (replicate n []) ([] ∷ [])
     ∙ ap (λ t. old ++ t) (replicate_more n [])
-
-pub padded-long : {A : Type 0} (old new : List (List A)) (n : ℕ) → new ≡ old ++ replicate n [] → length old ≤ length new
-padded-long {A} old new n is =
-    let e : length new ≡ length old + length {A = List A} (replicate n []) = ap length is
-    ∙ length-append old (replicate n []) in omega (arith, e)
 
 pub shelves-after : {K X : Type 0} (cmp : K → K → Ordering) (shelf_of : K → ℕ) (old new : List (List (K × X))) (n : ℕ)
     → AreShelves cmp shelf_of 0 old → new ≡ old ++ replicate n [] → AreShelves cmp shelf_of 0 new

@@ -7,7 +7,7 @@ use Rattle.std.specs.declared.cmp.Ordering.{Ordering}
 use Rattle.std.specs.declared.cmp.Ordering.TheVariants.{Less, Equal, Greater}
 use Rattle.std.specs.Cmp.{IsTotalOrder, eq_by_cmp_equiv}
 use Rattle.std.specs.FinMap.{FinMap, IsAntisymmetric, get, get-empty, get-insert, get-remove, get_tied, same_map}
-use Rattle.oe_table.specs.Table.{place, HasPlace, IsBlanked, SetsPlace, put, rows_of}
+use Rattle.oe_table.specs.Table.{place, SetsPlace, put, rows_of}
 
 -- the row of a place
 abbrev pub row_in : {R : Type 0} → Option (Option R) → Option R
@@ -39,17 +39,6 @@ module _ {R : Type 0} where
   still true p old new set had = (p, set)
   still false p old new set had = (had.0, set ∙ had.1)
 
-module _ {K R : Type 0} (cmp : K → K → Ordering) where
-  -- a place that was set leaves the others: each key that had a place has one
-  pub HasPlace-kept : (old new : List (K × Option R)) (key : K) (p : Option R) → SetsPlace cmp old new key p → (q : K)
-      → HasPlace cmp old q → HasPlace cmp new q
-  HasPlace-kept old new key p set q had = still (is_eq (cmp key q)) p (place cmp old q) (place cmp new q) (set q) had
-
-  -- and a key that does not tie with it is blanked as before
-  pub IsBlanked-kept : (old new : List (K × Option R)) (key : K) (p : Option R) → SetsPlace cmp old new key p → (q : K)
-      → is_eq (cmp key q) ≡ false → IsBlanked cmp old q → IsBlanked cmp new q
-  IsBlanked-kept old new key p set q apart blank = set q ∙ rw apart blank
-
 module _ {K R : Type 0} {cmp : K → K → Ordering} (total : IsTotalOrder cmp) where
   -- a place that was set is the one at its key
   pub place-set : (old new : List (K × Option R)) (key : K) (p : Option R) → SetsPlace cmp old new key p
@@ -69,13 +58,6 @@ module _ {K R : Type 0} {cmp : K → K → Ordering} (total : IsTotalOrder cmp) 
   -- a key with a row, a blanked key, and a key with a place and no row
   pub has_row : (t : List (K × Option R)) (q : K) → IsSome (get (rows_of cmp t) q) → IsSome (row_in (place cmp t q))
   has_row t q h = subst IsSome (get-rows_of t q) h
-
-  pub get-IsBlanked : (t : List (K × Option R)) (q : K) → IsBlanked cmp t q → get (rows_of cmp t) q ≡ None
-  get-IsBlanked t q blank = get-rows_of t q ∙ ap row_in blank
-
-  pub IsBlanked-from_place : (t : List (K × Option R)) (q : K) → HasPlace cmp t q → get (rows_of cmp t) q ≡ None
-      → IsBlanked cmp t q
-  IsBlanked-from_place t q had none = had.1 ∙ ap Some (sym (ap row_in had.1) ∙ sym (get-rows_of t q) ∙ none)
 
   module _ (exact : IsAntisymmetric cmp) where
     -- tables with the same row at each key have the same rows
@@ -99,14 +81,6 @@ module _ {K R : Type 0} {cmp : K → K → Ordering} (total : IsTotalOrder cmp) 
         ∙ ap (cond (eq_by_cmp cmp q key) (get m key)) (get-put m key row q)
         ∙ again (eq_by_cmp cmp q key) row (get m key) (get m q)
         (λ e. sym (get_tied total m q key (tied (cmp q key) e))))
-
-    -- and of the places
-    pub place_back : (old mid new : List (K × Option R)) (key : K) (p own : Option R) → place cmp old key ≡ Some own
-        → SetsPlace cmp old mid key p → SetsPlace cmp mid new key own
-        → (q : K) → place cmp new q ≡ place cmp old q
-    place_back old mid new key p own here set back q =
-        replaced (is_eq (cmp key q)) p own (place cmp old q) (place cmp mid q) (place cmp new q)
-        (λ e. rw (← exact key q (tied (cmp key q) e)) here) (set q) (back q)
 
 -- what stands at a key, by the finite map
 pub ruleset at_keys = (has_row, get-rows_of)

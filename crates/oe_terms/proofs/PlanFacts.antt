@@ -1,7 +1,6 @@
 -- Shares of kinds, and lines whose items are there.
-use Rattle.std.proofs.Common.{◌≡◌, ◌+◌, ◌<◌, ◌≤◌, ℕ, List, [], ◌∷◌, ◌++◌, length, take, get_or}
-use Rattle.std.proofs.Common.{map, min, sym, ap, ◌∙◌, arith}
-use Rattle.std.proofs.lemmas.List.{map_more, take_more}
+use Rattle.std.proofs.Common.{◌≡◌, ◌+◌, ◌<◌, ◌≤◌, ℕ, [], ◌∷◌, ◌++◌}
+use Rattle.std.proofs.Common.{min, ◌∙◌, arith}
 use Rattle.oe_rows.specs.declared.scales.Scale.{Scale}
 use Rattle.oe_requests.specs.declared.requests.RequestLine.{RequestLine}
 use Rattle.std.specs.Prelude.{Bool, true, false}
@@ -30,11 +29,3 @@ min_low m n h = omega (arith, h)
 -- a line whose item is there
 used_same : (s : Scale) (l : RequestLine) → l.item ≤ s.items → used_line s l ≡ l
 used_same s l h = λ i. record { supply = l.supply; item = min_low l.item s.items h i; quantity = l.quantity }
-
--- one line more whose item is there
-pub used_more : (s : Scale) (ls : List RequestLine) (i : ℕ) (d l : RequestLine) → i < length ls → get_or ls i d ≡ l
-    → l.item ≤ s.items → map (used_line s) (take i ls) ≡ take i ls
-    → map (used_line s) (take (i + 1) ls) ≡ take (i + 1) ls
-used_more s ls i d l h e low so_far =
-    map_more (used_line s) ls i d h ∙ ap (λ xs. xs ++ used_line s (get_or ls i d) ∷ []) so_far
-    ∙ ap (λ x. take i ls ++ x ∷ []) (ap (used_line s) e ∙ used_same s l low ∙ sym e) ∙ sym (take_more ls i d h)

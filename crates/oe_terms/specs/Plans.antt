@@ -1,5 +1,5 @@
 -- What each terminal of a load asks for: its r-th request is drawn from a generator of its own.
-use Rattle.std.specs.Prelude.{ℕ, ◌+◌, ◌*◌, ◌==◌, min, nat_le, Bool, true, not, ◌||◌, if◌then◌else◌, map}
+use Rattle.std.specs.Prelude.{ℕ, ◌+◌, ◌*◌, ◌==◌, min, nat_le, Bool, not, ◌||◌, if◌then◌else◌, map}
 use Rattle.rand_pcg.specs.Lcg.{Lcg, advance}
 use Rattle.rand_pcg.specs.Pcg.{multiplier_64}
 use Rattle.oe_rows.specs.declared.scales.Scale.{Scale}

@@ -3,11 +3,12 @@
 ghost use Rattle.std.specs.Prelude.{◌≡◌, ◌<◌, ◌≤◌};
 ghost use Rattle.oe_terms.specs.Columns.{home, other, stamp_of, district_in, customer_number, name_number, name_drawn, item_number, choice, residence};
 
-use crate::draws::{number, number_in, nurand, random};
+use crate::draws::{number_in, nurand, random};
 use crate::errands::RequestPlace;
 use crate::names::name_of;
 use oe_requests::CustomerChoice;
 use oe_rows::{DistrictKey, Scale};
+use oe_values::known::number;
 use oe_values::{CustomerNumber, ItemNumber, LastName, Stamp, Terminal, WarehouseNumber};
 use rand_pcg::Lcg64Xsh32;
 

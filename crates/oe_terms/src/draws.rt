@@ -2,6 +2,7 @@
 ghost use Rattle.std.specs.Prelude.{◌≡◌, ◌+◌, ◌<◌, ◌≤◌, ◌^◌};
 ghost use Rattle.oe_terms.specs.Draws.{random, nurand, words_of};
 
+use oe_values::known::number;
 use oe_values::{Number, Terminal};
 use rand_core::utils::NextWord;
 use rand_pcg::Lcg64Xsh32;
@@ -45,16 +46,4 @@ pub fn number_in<const LOW: u32, const HIGH: u32>(words: &mut Lcg64Xsh32) -> Num
     ensures { (result, words.new) ≡ random LOW HIGH words.old }
 {
     number(random(words, LOW, HIGH))
-}
-
-/// Makes a number of a range that has it.
-pub(crate) fn number<const LOW: u32, const HIGH: u32>(value: u32) -> Number<LOW, HIGH>
-    requires low { LOW ≤ value }
-    requires high { value ≤ HIGH }
-    ensures { result ≡ value }
-{
-    match Number::new(value) {
-        Some(number) => number,
-        None => unreachable!(),
-    }
 }

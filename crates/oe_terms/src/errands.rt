@@ -4,11 +4,12 @@ ghost use Rattle.oe_model.specs.Population.{IsScale};
 ghost use Rattle.oe_terms.specs.Errands.{kind_of, errand_of_kind, errand_of, request_of};
 ghost use Rattle.oe_terms.specs.Ranges.{IsErrandOf};
 
-use crate::draws::{number, words};
+use crate::draws::words;
 use crate::orders::new_order;
 use crate::payments::{delivery, order_status, payment, stock_level};
 use oe_requests::{Errand, Query, Request};
 use oe_rows::Scale;
+use oe_values::known::number;
 use oe_values::{Number, Terminal};
 use rand_pcg::Lcg64Xsh32;
 

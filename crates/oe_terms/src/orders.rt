@@ -3,10 +3,11 @@ ghost use Rattle.std.specs.Prelude.{◌≡◌, ◌<◌, length};
 ghost use Rattle.oe_terms.specs.Errands.{line, used_lines, lines, new_order};
 
 use crate::columns::{customer_number, district_in, home, item_number, other, stamp_of};
-use crate::draws::{number, number_in, random};
+use crate::draws::{number_in, random};
 use crate::errands::RequestPlace;
 use oe_requests::{NewOrderRequest, RequestLine, RequestLines};
 use oe_rows::Scale;
+use oe_values::known::number;
 use oe_values::{LineCount, Lines, Terminal, WarehouseNumber};
 use rand_pcg::Lcg64Xsh32;
 

@@ -3,11 +3,12 @@ ghost use Rattle.std.specs.Prelude.{◌≡◌};
 ghost use Rattle.oe_terms.specs.Errands.{payment, order_status, delivery, stock_level};
 
 use crate::columns::{choice, district_in, home, residence, stamp_of};
-use crate::draws::{number, number_in};
+use crate::draws::number_in;
 use crate::errands::RequestPlace;
 use oe_requests::{DeliveriesRequest, LevelQuery, PaymentRequest, StatusQuery};
 use oe_rows::{DistrictKey, Scale, WarehouseKey};
 use oe_values::Terminal;
+use oe_values::known::number;
 use rand_pcg::Lcg64Xsh32;
 
 /// Draws a payment, of 1.00 to 5,000.00 (clause 2.5.1.3).

@@ -19,4 +19,4 @@ pub use dumps::{
 };
 pub use keys::name;
 pub use laws::stamps_are_read;
-pub use pending::{LONGEST, Pending, SIZE, has_room, text};
+pub use pending::{LONGEST, Pending, SIZE, decimal, has_room, text};

@@ -1,8 +1,9 @@
 //! The buffer that texts are appended to, and whether the longest answer has room in it.
-ghost use Rattle.std.specs.Prelude.{◌≡◌, ◌≤◌, ◌+◌, ◌++◌, ◌↔◌, length, IsTrue};
+ghost use Rattle.std.specs.Prelude.{◌≡◌, ◌≤◌, ◌+◌, ◌++◌, ◌↔◌, length, decimal, IsTrue};
 ghost use Rattle.arrayvec.specs.ArrayVec.{array_vec_len};
 
 use arrayvec::ArrayVec;
+use itoa::Buffer;
 
 /// How many bytes a buffer holds.
 pub const SIZE: usize = 8192;
@@ -27,4 +28,14 @@ pub fn text(out: &mut Pending, bytes: &[u8])
     ensures len { array_vec_len out.new ≡ array_vec_len out.old + length bytes.now }
 {
     out.try_extend_from_slice(bytes).unwrap();
+}
+
+/// Appends a number in decimal.
+pub fn decimal(out: &mut Pending, number: u128)
+    requires { array_vec_len out.old + 39 ≤ SIZE }
+    ensures items { out.new.items ≡ out.old.items ++ decimal number }
+    ensures len { array_vec_len out.new ≤ array_vec_len out.old + 39 }
+{
+    let mut buffer = Buffer::new();
+    text(out, buffer.format(number).as_bytes());
 }

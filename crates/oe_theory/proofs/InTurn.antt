@@ -72,13 +72,6 @@ module _ (M : Machine) (L : Laws M) where
     goes_append l [] ys r h k = k
     goes_append l (b ∷ xs) ys r h k = (h.0, h.1, goes_append l xs ys (put_back b r) h.2 k)
 
-    -- the first records of a list that goes back
-    pub goes_front : (l : M.Layout) (xs ys : List Record) (r : Map) → GoesBack M l P (xs ++ ys) r
-        → GoesBack M l P xs r
-    goes_front l [] [] r h = h
-    goes_front l [] (b ∷ ys) r h = h.0
-    goes_front l (b ∷ xs) ys r h = (h.0, h.1, goes_front l xs ys (put_back b r) h.2)
-
     goes_by : (l : M.Layout) (r : Map) (cs : List Change) (m : Map) → Stand M L m cs → AreAccepted r cs
         → ((n : ℕ) → P (unwind M (take n (records_of M l r cs)) m)) → GoesBack M l P (records_of M l r cs) m
     goes_by l r [] m s a p = p 0

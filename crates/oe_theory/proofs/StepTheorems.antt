@@ -5,7 +5,7 @@ use Rattle.std.specs.Prelude.{◌⊎◌, ◌≢◌}
 use Rattle.std.proofs.lemmas.Bool.{cases_eq}
 use Rattle.oe_theory.specs.Machine.{Machine}
 use Rattle.oe_theory.specs.World.{set, Open, World, newest}
-use Rattle.oe_theory.specs.Next.{Step, Audit, Answer, Committed, after_commit, count_open, Next, begins, goes_on}
+use Rattle.oe_theory.specs.Next.{Step, Answer, after_commit, count_open, Next, begins, goes_on}
 use Rattle.oe_theory.specs.Next.{commits}
 use Rattle.oe_theory.specs.Next.{saves, goes_back, rolls_back, purges, rewinds, stops, fails}
 use Rattle.oe_theory.specs.Laws.{Sound, Laws}

@@ -400,16 +400,6 @@ module _ (k : Key) where
           )
       go false c i = i l c
 
-  -- where a terminal has records of the key, the link leads to one of its
-  sealed_moment : (t m : ℕ) (l : Option Link) → number l ≡ suc t
-      → with_holder (λ h. At m) l ≡ with_holder (holder_after_seal t m) l
-  sealed_moment t m None e = refl
-  sealed_moment t m (Some x) e = ap (λ (h : Holder). Some (record { address = x.address; holder = h })) (go x.holder e)
-    where
-      go : (h : Holder) → open_number h ≡ suc t → At m ≡ holder_after_seal t m h
-      go (Open s) q = sym (cond-true (s == t) (At m) (Open s) (eq-eqb s t (omega (arith, q))))
-      go (At n) q = absurd (omega (arith, q))
-
   pub sealed : (h m : ℕ) (f g : ℕ → List Logged) (t : ℕ) (ys : List Held) (l : Option Link) → h ≤ m → AreUpTo m ys
       → g t ≡ [] → ((s : ℕ) → s ≢ t → g s ≡ f s) → (n : ℕ) → t < n → IsChain h l (chain_open f n ys)
       → IsChain h (with_holder (holder_after_seal t (suc m)) l) (chain_open g n (own (At (suc m)) (f t) ++ ys))

@@ -18,7 +18,7 @@ use Rattle.oe_model.proofs.RowFacts.{key_refl}
 use Rattle.oe_theory.specs.Store.{all_below}
 use Rattle.oe_extent.specs.declared.extents.Address.{Address}
 use Rattle.oe_layout.specs.declared.links.Previous.{Previous}
-use Rattle.oe_layout.specs.declared.links.Previous.TheVariants.{Own, Committed}
+use Rattle.oe_layout.specs.declared.links.Previous.TheVariants.{Committed}
 use Rattle.oe_log.specs.Records.{Logged, log_entry, newest_of}
 use Rattle.oe_log.specs.Log.{SegmentLog, Open as OpenSegment, TerminalState, Committed as CommitSegment, idle}
 use Rattle.oe_log.specs.Log.{idle_terminals, active_at, records_at, count_at, total_count, commits_of, no_segments}
@@ -43,7 +43,7 @@ use Rattle.oe_undo.proofs.LinkFacts.{no_link}
 use Rattle.oe_undo.proofs.LeadFacts.{set_leads, given_links, given_up_links}
 use Rattle.oe_undo.specs.Owners.{MomentList, no_moments, moments_at, moments_of, holder_of, link_by_now, next_owner}
 use Rattle.oe_undo.specs.Owners.{IsOwner, AreOwned, AreIdle, AreMoments, IsLinked, IsMadeBy, IsMade}
-use Rattle.oe_undo.specs.Undo.{UndoState, link_above, GivesBack}
+use Rattle.oe_undo.specs.Undo.{link_above, GivesBack}
 use Rattle.oe_log.proofs.StateFacts.{some_of, known, pushed_popped}
 use Rattle.oe_undo.proofs.OwnerFacts as owner
 
@@ -167,16 +167,6 @@ module _ (u w : SegmentLog) (t : ℕ) (rs : List Logged) (is : w ≡ with_record
 
   pub replaced_owned : (links : Key → Option OwnedLink) → AreOwned u links → AreOwned w links
   replaced_owned links owned = same_owned u w links counts_are (λ s some. opens_are s ∙ some) owned
-
-  pub replaced_owner : (n : SegmentOwner) → IsOwner u n → IsOwner w n
-  replaced_owner n own =
-      let c = counts_are n.terminal in
-      let few = own.number in
-      record {
-        number = omega (arith, c, few);
-        is_open = λ less. opens_are n.terminal
-            ∙ own.is_open (omega (arith, c, less));
-      }
 
   pub replaced_moments : (ms : List MomentList) → AreMoments u ms → AreMoments w ms
   replaced_moments ms m = same_moments u w ms total_is commits_are (λ s some. sym (opens_are s) ∙ some) m
@@ -463,11 +453,6 @@ pub none_newest : (rs : List Logged) → None ≡ newest_of rs → rs ≡ []
 none_newest [] e = refl
 none_newest (r ∷ rs) e = cc
 
-pub none_given_back : (t : ℕ) (rs : List Logged) (s s' : UndoState) → None ≡ newest_of rs → s'.links ≡ s.links
-    → GivesBack s s' t rs
-none_given_back t [] s s' e same = same
-none_given_back t (r ∷ rs) s s' e same = cc
-
 module _ (u : SegmentLog) (old : LinkMaps) (t : ℕ) (p : Previous) (b : Record) (some : IsSome (active_at u t))
     (is : Some (p, b) ≡ newest_of (records_at u t)) where
   abbrev newest : IsNewest (records_at u t) p b
@@ -596,14 +581,6 @@ last_is [] n e = cc
 last_is (c ∷ cs) n e =
     let same : n ≡ owner_of c = owner.some_is n (owner_of c) e in
     record { newest = c; older = cs; are = refl; terminal = sym (ap (λ (x : SegmentOwner). x.terminal) same) }
-
-pub none_reopened : (u : SegmentLog) → None ≡ option_map owner_of (slice_get u.committed 0)
-    → with_reopening u u.committed ≡ u
-none_reopened u e = go u.committed e
-  where
-    go : (cs : List CommitSegment) → None ≡ option_map owner_of (slice_get cs 0) → with_reopening u cs ≡ u
-    go [] e = refl
-    go (c ∷ cs) e = cc
 
 none_past : (cs : List CommitSegment) (i : ℕ) → None ≡ option_map owner_of (slice_get cs i) → length cs ≤ i
 none_past [] i e = omega arith
@@ -772,18 +749,7 @@ module _ (u : SegmentLog) (links : Key → Option OwnedLink) (ms : List MomentLi
             (λ s ne now. subst (λ z. IsSome {T = OpenSegment} z)
             (owner.back_active u d last.older last.are whole some closed s (λ e. ne (e ∙ sym whose))) now);
       }
-
   -- ---- what became of a transaction
-
-  pub holder_found : (x : MomentList) (n : SegmentOwner) (later : ℕ) (m : Option ℕ) → n.terminal ≡ t
-      → n.number ≤ count_at u n.terminal → later ≡ count_at u n.terminal - n.number
-      → x ≡ get_or ms i x → m ≡ slice_get x.moments later → holder_of u n ≡ option_map At m
-  holder_found x n later m by made is read found =
-      owner.made_holder u n made
-      ∙ ap (λ s. option_map At
-      (slice_get (moments_of s (total_count u) u.committed) (count_at u n.terminal - n.number))) by
-      ∙ ap (λ xs. option_map At (slice_get xs (count_at u n.terminal - n.number))) (sym (moments_are x read))
-      ∙ ap (λ j. option_map At (slice_get x.moments j)) (sym is) ∙ ap (option_map At) (sym found)
 
 -- ---- a segment given up
 
@@ -859,19 +825,6 @@ none_linked_still u w links ms none is c =
 -- ---- the link where a previous one leads
 
 module _ (u : SegmentLog) (t : ℕ) (whole : IsWhole u) where
-  pub own_given : (a : Address) (n : SegmentOwner) → n ≡ next_owner u t
-      → link_by_now u (Some (record { address = a; owner = n })) ≡ link_above (horizon u) (link_from (Open t) (Own a))
-  own_given a n by = ap (λ (x : SegmentOwner). link_by_now u (Some (record { address = a; owner = x }))) by
-      ∙ next_followed u t a
-
-  pub none_given : (a : Address) (m later : ℕ) → m ≤ total_count u → later ≡ total_count u - m
-      → None ≡ option_map owner_of (slice_get u.committed later)
-      → None ≡ link_above (horizon u) (link_from (Open t) (Committed a m))
-  none_given a m later made is none =
-      let past = none_past u.committed later none in
-      let few = whole.commits in
-      sym (owner.ended (horizon u) a m (omega (arith, past, is, made, few)))
-
   pub committed_given : (a : Address) (m later : ℕ) (n : SegmentOwner) → m ≤ total_count u
       → later ≡ total_count u - m → Some n ≡ option_map owner_of (slice_get u.committed later)
       → n.number + commits_of n.terminal (take later u.committed) ≡ count_at u n.terminal
@@ -892,10 +845,6 @@ module _ (u : SegmentLog) (t : ℕ) (whole : IsWhole u) where
       ∙ ap (λ x. Some (At x)) moment in
       ap (λ (o : Option Holder). option_map {T = Holder} (λ h. record { address = a; holder = h }) o) holder
       ∙ sym (owner.not_ended (horizon u) a m (omega (arith, inside, is, made, few)))
-
-  pub committed_owner : (n : SegmentOwner) (later : ℕ) → n.number + later ≡ count_at u n.terminal → IsOwner u n
-  committed_owner n later sum =
-      record { number = omega (arith, sum); is_open = λ less. absurd (omega (arith, sum, less)) }
 
 pub of_some : {A : Type 0} (P : A → Type 0) (o : Option A) → IfSome o P → (x : A) → o ≡ Some x → P x
 of_some P None h x e = cc

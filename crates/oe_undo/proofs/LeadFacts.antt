@@ -9,8 +9,6 @@ use Rattle.oe_model.proofs.RowFacts.{key_true, key_refl}
 use Rattle.oe_undo.specs.declared.links.OwnedLink.{OwnedLink}
 use Rattle.oe_undo.specs.Links.{LinkMaps, link_in, place_of, links_of, HasPlace, comes_with, SetsLink, GivesPlaces}
 use Rattle.oe_undo.specs.Links.{InsertsLink, GivesUpLink, KeepsPlaces, Comes, LeadsTo}
-use Rattle.oe_undo.specs.Owners.{link_by_now}
-use Rattle.oe_undo.specs.Undo.{UndoState, link_seen}
 
 set_in : (b : Bool) (l : Option OwnedLink) (p : Option (Option OwnedLink))
     → link_in (cond b (Some l) p) ≡ cond b l (link_in p)
@@ -75,10 +73,6 @@ pub given_links : (old new : LinkMaps) (own : Key) → GivesPlaces old new own �
     → links_of new k ≡ links_of old k
 given_links old new own given k = ap link_in (given k) ∙ given_in (comes_with own k) (place_of old k)
 
-pub given_kept : (old new : LinkMaps) (own : Key) → GivesPlaces old new own → KeepsPlaces old new
-given_kept old new own given k h = subst IsSome (sym (given k))
-    (has_still (comes_with own k) (links_of old k) (place_of old k) h)
-
 -- a place alone was given up: each key's link is as it was
 left_in : (b : Bool) (p : Option (Option OwnedLink)) → link_in (cond b (left_of p) p) ≡ link_in p
 left_in true None = refl
@@ -89,27 +83,3 @@ left_in false p = refl
 pub given_up_links : (old new : LinkMaps) (own : Key) → GivesUpLink old new own → (k : Key)
     → links_of new k ≡ links_of old k
 given_up_links old new own given_up k = ap link_in (given_up k) ∙ left_in (is_key own k) (place_of old k)
-
--- a key that has a link keeps its place, and so does each other key
-left_there : (b : Bool) (p : Option (Option OwnedLink)) → IsSome (link_in p) → IsSome (cond b (left_of p) p)
-left_there true None h = h
-left_there true (Some None) h = h
-left_there true (Some (Some l)) h = refl
-left_there false None h = h
-left_there false (Some l) h = refl
-
-pub given_up_placed : (old new : LinkMaps) (own : Key) → GivesUpLink old new own → (k : Key) → IsSome (links_of old k)
-    → HasPlace new k
-given_up_placed old new own given_up k h = subst IsSome (sym (given_up k))
-    (left_there (is_key own k) (place_of old k) h)
-
-pub given_up_others : (old new : LinkMaps) (own : Key) → GivesUpLink old new own → (k : Key) → is_key own k ≡ false
-    → place_of new k ≡ place_of old k
-given_up_others old new own given_up k e = given_up k ∙ ap (λ b. cond b (left_of (place_of old k)) (place_of old k)) e
-
--- and each key is seen as it was
-pub given_up_seen : (old new : UndoState) (own : Key) → new.log ≡ old.log → GivesUpLink old.links new.links own
-    → (k : Key) → link_seen new k ≡ link_seen old k
-given_up_seen old new own same given_up k =
-    ap (λ l. link_by_now new.log l) (given_up_links old.links new.links own given_up k)
-    ∙ ap (λ u. link_by_now u (links_of old.links k)) same

@@ -35,7 +35,7 @@ use Rattle.oe_undo.specs.NumberLaws.{order_numbered, order_line_numbered, item_n
 use Rattle.oe_undo.specs.Tables.{LinkTable, link_in, link_by_number, with_number, SetsNumber, GivesNumbers}
 use Rattle.oe_undo.specs.Tables.{InsertsNumber}
 use Rattle.oe_undo.specs.Links.{LinkMaps, HasPlace, place_of, with_link, links_of, no_links, comes_with, SetsLink}
-use Rattle.oe_undo.specs.Links.{GivesPlaces, InsertsLink, GivesUpLink}
+use Rattle.oe_undo.specs.Links.{GivesPlaces, InsertsLink}
 use Rattle.oe_undo.proofs.NumberFacts.{sets_number, number_same, not_above_placed}
 
 -- what holds whether or not something was lent
@@ -82,19 +82,6 @@ history_given old own none k = history_inserted old own None k ∙ by (eq_by_cmp
     by true e = ap (λ o. Some (link_in o)) (sym none ∙ ap (get old) (is_same history_total exact_history own k e))
     by false e = refl
 
--- where it has one, nothing is given
-pub history_had : (old : FinMap history_cmp (Option OwnedLink)) (own : HistoryKey) → IsSome (get old own)
-    → GivesHistory old old own
-history_had old own some k = by (eq_by_cmp history_cmp own k) refl
-  where
-    there : (o : Option (Option OwnedLink)) → IsSome o → o ≡ Some (link_in o)
-    there None h = cc
-    there (Some x) h = refl
-
-    by : (b : Bool) → eq_by_cmp history_cmp own k ≡ b → get old k ≡ cond b (Some (link_in (get old k))) (get old k)
-    by true e = there (get old k) (subst (λ j. IsSome (get old j)) (is_same history_total exact_history own k e) some)
-    by false e = refl
-
 -- and that key has a place
 pub history_own : (old : FinMap history_cmp (Option OwnedLink)) (own : HistoryKey)
     → IsSome (get (insert old own None) own)
@@ -117,15 +104,6 @@ history_given_up old own empty k =
     by : (b : Bool) → eq_by_cmp history_cmp own k ≡ b
         → cond b None (get old k) ≡ cond b (left_of (get old k)) (get old k)
     by true e = ap left_of (sym empty ∙ ap (get old) (is_same history_total exact_history own k e))
-    by false e = refl
-
--- where it was not empty, nothing is given up
-pub history_stays : (old : FinMap history_cmp (Option OwnedLink)) (own : HistoryKey)
-    → left_of (get old own) ≡ get old own → GivesUpHistory old old own
-history_stays old own stays k = by (eq_by_cmp history_cmp own k) refl
-  where
-    by : (b : Bool) → eq_by_cmp history_cmp own k ≡ b → get old k ≡ cond b (left_of (get old k)) (get old k)
-    by true e = subst (λ j. get old j ≡ left_of (get old j)) (is_same history_total exact_history own k e) (sym stays)
     by false e = refl
 
 twice : {A : Type 0} (b : Bool) (x y z : A) → cond b x z ≡ cond b x (cond b y z)
@@ -240,12 +218,6 @@ pub give_stocks : (m : LinkMaps) (new : LinkTable) (own : StockKey)
     → GivesPlaces m (record m { stocks = new }) (key.Stock own)
 give_stocks m new own given (key.Stock k) = given k
 give_stocks m new own given _ = refl
-
--- a place is given up
-pub give_up_histories : (m : LinkMaps) (new : FinMap history_cmp (Option OwnedLink)) (own : HistoryKey)
-    → GivesUpHistory m.histories new own → GivesUpLink m (record m { histories = new }) (key.History own)
-give_up_histories m new own given_up (key.History k) = given_up k
-give_up_histories m new own given_up _ = refl
 
 -- a link is inserted in one table
 pub insert_warehouses : (m : LinkMaps) (new : LinkTable) (own : WarehouseKey) (l : Option OwnedLink)

@@ -616,10 +616,6 @@ newest_holder u n o = go (nat_lt (count_at u o.terminal) o.number)
           | inr ends ↦ inr (ap (option_map At) ends.0, gone _ ends.1)
         ]
 
-forgotten_later : (h k : ℕ) (x : Holder) → h ≤ k → IsForgotten h x → IsForgotten k x
-forgotten_later h k (Open t) le f = f
-forgotten_later h k (At m) le f = omega (arith, le, f)
-
 newest_followed : (u : SegmentLog) (n : ℕ) (l : Option OwnedLink)
     → (link_by_now (with_newest n u) l ≡ link_by_now u l)
     ⊎ (IsEnd (total_count u - n) (link_by_now u l) × (link_by_now (with_newest n u) l ≡ None))

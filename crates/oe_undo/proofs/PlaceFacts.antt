@@ -4,7 +4,6 @@ use Rattle.std.proofs.Common.{List, [], ◌∷◌, ◌++◌, length, set, get_or
 use Rattle.std.specs.Prelude.{slice_get, eqb, leb, ◌&&◌}
 use Rattle.std.proofs.lemmas.Bool.{cases_lt, leb-true, leb-false}
 use Rattle.std.proofs.lemmas.List.{append_assoc, append-nil, replicate_more, get_or-set_same, get_or-set_other}
-use Rattle.std.proofs.lemmas.List.{get_or_past}
 use Rattle.std.proofs.lemmas.Option.{slice_get_past}
 use borrow.Author.Tests.{eqb-true, eqb-false}
 use Rattle.oe_undo.specs.Shelf.{spread, content_in}
@@ -96,6 +95,3 @@ module _ {X : Type 0} where
   no_place old mid n s k is short =
       let same : get_or mid s [] ≡ get_or old s [] = ap (λ ss. get_or ss s []) is ∙ get_or-padded old n s in
       sym (ap (λ xs. slice_get xs k) same) ∙ slice_get_past (get_or mid s []) k short
-
-  pub no_shelf : (old : List (List (Option X))) (s k : ℕ) → length old ≤ s → place_at old s k ≡ None
-  no_shelf old s k short = ap (λ xs. slice_get xs k) (get_or_past old s [] short)

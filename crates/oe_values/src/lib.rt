@@ -6,6 +6,7 @@
 pub mod brands;
 pub mod fronts;
 mod held;
+pub mod known;
 pub mod lines;
 pub mod memory;
 pub mod numbers;

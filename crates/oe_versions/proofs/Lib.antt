@@ -1,8 +1,7 @@
 pub mod FoundFacts
 pub mod ReadFacts
 pub mod LastingFacts
-pub mod ChosenFacts
-pub mod ClimbFacts
-pub mod LineFacts
+pub mod PassedFacts
+pub mod QuietFacts
 pub mod LastFacts
 pub mod NameFacts

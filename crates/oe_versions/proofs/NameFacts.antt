@@ -28,8 +28,8 @@ use Rattle.oe_store.specs.Places as tables
 use Rattle.oe_log.specs.Log.{SegmentLog}
 use Rattle.oe_log.specs.Moments.{store_with}
 use Rattle.oe_versions.specs.Versions.{version, Stand}
-use Rattle.oe_versions.proofs.ChosenFacts.{rows_at, kept_is}
-use Rattle.oe_versions.proofs.ClimbFacts.{Climb, climb, lower, same_number}
+use Rattle.oe_rows_of.proofs.ChosenFacts.{rows_at, kept_is}
+use Rattle.oe_rows_of.proofs.ClimbFacts.{Climb, climb, lower, same_number}
 use Rattle.oe_versions.proofs.LastingFacts.{rows_last}
 use Rattle.oe_versions.proofs.ReadFacts.{customer_stands}
 

@@ -1,4 +1,3 @@
 -- What the clauses of this crate cite.
 pub mod Versions
-pub mod Columns
 pub mod Lasting

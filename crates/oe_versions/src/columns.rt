@@ -3,7 +3,7 @@ ghost use Rattle.std.specs.Prelude.{◌≡◌};
 ghost use Rattle.std.specs.FinMap.{get};
 ghost use Rattle.oe_store.specs.Places.{rows};
 ghost use Rattle.oe_versions.specs.Versions.{rows_of};
-ghost use Rattle.oe_versions.specs.Columns.{ytd_of_warehouse, ytd_of_district, next_order_of, balance_of, account_of, quantity_of};
+ghost use Rattle.oe_rows_of.specs.Columns.{ytd_of_warehouse, ytd_of_district, next_order_of, balance_of, account_of, quantity_of};
 
 use crate::moments::Version;
 use oe_rows::{Account, CustomerKey, DistrictKey, Key, Row, StockKey, WarehouseKey};

@@ -6,6 +6,7 @@ pub mod columns;
 pub mod last;
 pub mod laws;
 pub mod lines;
+mod looks;
 pub mod moments;
 pub mod names;
 mod namesakes;

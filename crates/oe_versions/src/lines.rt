@@ -6,25 +6,13 @@ ghost use Rattle.oe_model.specs.Delivery.{lines_of};
 ghost use Rattle.oe_model.specs.Queries.{status_line};
 ghost use Rattle.oe_store.specs.Places.{rows};
 ghost use Rattle.oe_versions.specs.Versions.{rows_of, Stand};
-ghost use Rattle.oe_versions.specs.Columns.{item_of};
+ghost use Rattle.oe_rows_of.specs.Columns.{item_of};
 
 use crate::moments::Version;
 use oe_requests::{StatusLine, StatusLines};
 use oe_rows::{Key, OrderKey, OrderLine, OrderLineKey};
+use oe_rows_of::told;
 use oe_values::ItemNumber;
-
-/// Answers what Order-Status says of a line (clause 2.6.3).
-fn told(line: &OrderLine) -> StatusLine
-    ensures { result ≡ status_line line.now }
-{
-    StatusLine {
-        supply: line.supply,
-        item: line.item,
-        quantity: line.quantity,
-        amount: line.amount,
-        delivery: line.delivery,
-    }
-}
 
 impl<'a> Version<'a> {
     /// Answers what Order-Status says of the line that a key had, if it had one, by the row with

@@ -10,24 +10,8 @@ ghost use Rattle.oe_versions.specs.Versions.{rows_of, Stand};
 use crate::moments::Version;
 use crate::names::first_of;
 use oe_rows::{Customer, CustomerKey, DistrictKey, Key};
+use oe_store::choices::is_before;
 use oe_values::{CustomerNumber, Text};
-use std::cmp::Ordering;
-
-/// Tells whether a customer comes before another, by C_FIRST, and where that ties by C_ID.
-fn is_before(
-    first: &Text<0, 16>,
-    customer: CustomerNumber,
-    own_first: &Text<0, 16>,
-    own: CustomerNumber,
-) -> bool
-    ensures { result ≡ comes_before (first.now, customer) (own_first.now, own) }
-{
-    first
-        .as_str()
-        .cmp(own_first.as_str())
-        .then(customer.cmp(&own))
-        == Ordering::Less
-}
 
 /// How many customers of a last name there were, and how many of them came before one.
 #[derive(Drop)]

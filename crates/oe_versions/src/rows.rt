@@ -3,32 +3,14 @@
 ghost use Rattle.std.specs.Prelude.{◌≡◌, is_some};
 ghost use Rattle.std.specs.FinMap.{get};
 ghost use Rattle.oe_model.specs.Rows.{row_at};
-ghost use Rattle.oe_store.specs.Places.{rows};
 ghost use Rattle.oe_undo.specs.Held.{all_held, of_key, count_later};
 ghost use Rattle.oe_log.specs.Ticks.{ticks_with};
 ghost use Rattle.oe_versions.specs.Versions.{rows_of};
 
 use crate::moments::Version;
 use oe_rows::{HistoryKey, Key, NewOrderKey, Order, OrderKey, OrderLine, OrderLineKey, Row};
-use oe_store::Tables;
+use oe_store::copies::row_of;
 use oe_undo::Ticks;
-
-/// Gives a copy of the row of a key as it stands, if it has one.
-fn row_now(tables: &Tables, key: &Key) -> Option<Row>
-    ensures { result ≡ row_at (rows tables.now) key.now }
-{
-    match *key {
-        Key::Warehouse(key) => Some(Row::Warehouse(tables.warehouse(key)?.copied())),
-        Key::District(key) => Some(Row::District(tables.district(key)?.copied())),
-        Key::Customer(key) => Some(Row::Customer(tables.customer(key)?.copied())),
-        Key::History(key) => Some(Row::History(tables.history(key)?.copied())),
-        Key::NewOrder(key) => Some(Row::NewOrder(*tables.new_order(key)?)),
-        Key::Order(key) => Some(Row::Order(*tables.order(key)?)),
-        Key::OrderLine(key) => Some(Row::OrderLine(tables.order_line(key)?.copied())),
-        Key::Item(key) => Some(Row::Item(tables.item(key)?.copied())),
-        Key::Stock(key) => Some(Row::Stock(tables.stock(key)?.copied())),
-    }
-}
 
 // Each of these takes the row of a key from a copy of the row that stands, on which records are put
 // back. They are apart from the reads of what stands, which would clear the room of a row.
@@ -91,7 +73,7 @@ impl<'a> Version<'a> {
             (of_key key.now (all_held self.now.log))) }
     {
         self.undo.is_chained();
-        let now = row_now(self.tables(), key);
+        let now = row_of(self.tables(), key);
         self.undo.row_at(key, self.moment, now, ticks)
     }
 

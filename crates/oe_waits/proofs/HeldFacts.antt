@@ -336,13 +336,6 @@ line_went a b c h i j k w t p n range least s room e =
     (sent_as a c h j (shown_lines w t p ++ []) (shown_lines w t p) (append-nil (shown_lines w t p))
     (sent_then a b c h i j (shown_lines w t p) [] s room)) (sent_waits c j k (held_line w t n) e))
 
--- a terminal's lines go out behind those of the terminals before
-pub lines_went : (a b c : Option Sink) (h i j : List ℕ) (f : ℕ → List ℕ) (n m : ℕ) → m ≡ suc n
-    → Sent a h b i (texts_to f n) → Sent b i c j (f m) → Sent a h c j (texts_to f m)
-lines_went a b c h i j f n m one s more =
-    sent_as a c h j (texts_to f n ++ f m) (texts_to f m) (texts_step f n m one)
-    (sent_then a b c h i j (texts_to f n) (f m) s more)
-
 pub lines_cut : (a b c : Option Sink) (h i : List ℕ) (f : ℕ → List ℕ) (n m : ℕ) → m ≡ suc n → m ≤ 64
     → Sent a h b i (texts_to f n) → Cut b i c (f m) → Cut a h c (texts_to f last_terminal)
 lines_cut a b c h i f n m one small s k =

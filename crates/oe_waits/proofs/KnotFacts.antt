@@ -127,10 +127,6 @@ module _ (r : ℕ → ℕ → Bool) (n : ℕ) (inside : (t u : ℕ) → r t u �
   pub reaches_leads : (t u : ℕ) → Reaches r t u → leads_through r n t u ≡ true
   reaches_leads t u h = through_leads r n t u (h.0, all_inside t h.0 u h.1, h.1)
 
-  pub last_inside : (t : ℕ) (vs : List ℕ) (u : ℕ) → Chain r t vs u → IsTo n u
-  last_inside t [] u c = inside t u c
-  last_inside t (v ∷ vs) u c = last_inside v vs u c.1
-
   fewer : (f g : ℕ → Bool) (m : ℕ) → ((v : ℕ) → f v ≡ true → g v ≡ true) → count_to f m ≤ count_to g m
   fewer f g zero h = omega arith
   fewer f g (suc m) h =

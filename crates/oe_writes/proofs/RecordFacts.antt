@@ -131,22 +131,6 @@ no_row : {A B : Type 0} (g : A → B) (o : Option A) → option_map g o ≡ None
 no_row g None e = refl
 no_row g (Some x) e = cc
 
-pub unrecorded : (l : Layout) (w : Write) (r : Rows) → record_of_write l w r ≡ None → change_of w r ≡ None
-unrecorded l (WarehouseYtd k y) r e = no_row _ _ e
-unrecorded l (DistrictYtd k y) r e = no_row _ _ e
-unrecorded l (NextOrder k n) r e = no_row _ _ e
-unrecorded l (CustomerAccount k a) r e = no_row _ _ e
-unrecorded l (BadCredit k a m) r e = no_row _ _ e
-unrecorded l (CustomerNames k n m) r e = no_row _ _ e
-unrecorded l (StockCounters k n) r e = no_row _ _ e
-unrecorded l (Carrier k c) r e = no_row _ _ e
-unrecorded l (DeliveryDate k t) r e = no_row _ _ e
-unrecorded l (InsertHistory k x) r e = cc
-unrecorded l (InsertNewOrder k) r e = cc
-unrecorded l (InsertOrder k x) r e = cc
-unrecorded l (InsertOrderLine k x) r e = cc
-unrecorded l (DeleteNewOrder k) r e = cc
-
 -- and one with a record is a change
 a_row : {A B : Type 0} (g : A → B) (o : Option A) → IsSome (option_map g o) → IsSome o
 a_row g None h = h

@@ -1,5 +1,5 @@
 -- A row of which columns were set in its place.
-use Rattle.std.proofs.Common.{◌≡◌, refl, sym, ap, subst, inl, inr, Option, None, Some}
+use Rattle.std.proofs.Common.{◌≡◌, refl, sym, ap, subst, inl, Option, None, Some}
 use Rattle.std.specs.Prelude.{IsSome, IfSome, is_some, option_map}
 use Rattle.std.specs.Option.{IsSomeAnd}
 use Rattle.std.specs.FinMap.{get}
@@ -9,7 +9,6 @@ use Rattle.oe_rows.specs.declared.keys.CustomerKey.{CustomerKey}
 use Rattle.oe_rows.specs.declared.keys.OrderKey.{OrderKey}
 use Rattle.oe_rows.specs.declared.keys.OrderLineKey.{OrderLineKey}
 use Rattle.oe_rows.specs.declared.keys.StockKey.{StockKey}
-use Rattle.oe_rows.specs.declared.keys.Key.{Key}
 use Rattle.oe_rows.specs.declared.warehouses.Warehouse.{Warehouse}
 use Rattle.oe_rows.specs.declared.districts.District.{District}
 use Rattle.oe_rows.specs.declared.customers.Customer.{Customer}
@@ -23,7 +22,7 @@ use Rattle.oe_model.specs.Keys.{supply_of_line}
 use Rattle.oe_model.specs.Meets.{Accepts, Meets}
 use Rattle.oe_model.specs.Changes.{Change, rows_after, key_of, UpdateWarehouse, UpdateDistrict, UpdateCustomer}
 use Rattle.oe_model.specs.Changes.{UpdateOrder, UpdateOrderLine, UpdateStock}
-use Rattle.oe_store.specs.Places.{Places, rows, HasPlace, SamePlaces, AddsPlace}
+use Rattle.oe_store.specs.Places.{Places, rows, HasPlace, SamePlaces}
 use Rattle.oe_store.specs.Names.{SameNames}
 use Rattle.oe_store.proofs.PlaceFacts.{place_of_row}
 use Rattle.oe_change.specs.Applies.{GivesName}

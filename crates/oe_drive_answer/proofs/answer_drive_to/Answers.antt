@@ -1,4 +1,4 @@
-use Rattle.std.proofs.Common.{inl, inr, refl, Ok, Err}
+use Rattle.std.proofs.Common.{inl, refl, Ok, Err}
 use Rattle.oe_drive_answer.proofs.answer_drive_to.Goals as goal
 
 pub returns-in-Ok-run_drive : goal.returns-in-Ok-run_drive

@@ -2,13 +2,13 @@ use Rattle.std.proofs.Common.{◌≡◌, option_map, not}
 use Rattle.std.specs.Prelude.{find}
 use Rattle.oe_rows.specs.declared.keys.Key.TheVariants as key
 use Rattle.oe_model.specs.Audits.{First, verdict_of, passes_1, verdict}
-use Rattle.oe_audit.specs.AsOf.{rows_then, entries_then}
+use Rattle.oe_audit.specs.Walks.{entries_then}
 use Rattle.oe_audit.proofs.conditions.first.Given as goal
 
 -- the first row that failed is among those that are left
 abbrev pub invariant-loop-key : goal.invariant-loop-key
-invariant-loop-key l =
+invariant-loop-key g l =
     verdict_of key.Warehouse (option_map (λ e. e.0)
-    (find (λ e. not (passes_1 (rows_then l.tables l.when) e.0 e.1))
-    (entries_then l.when (rows_then l.tables l.when).warehouses l.key-iterator)))
-    ≡ verdict First (rows_then l.tables l.when)
+    (find (λ e. not (passes_1 (g.R.RowsOf.rows_of l.then) e.0 e.1))
+    (entries_then (g.R.RowsOf.are_now l.then) (g.R.RowsOf.rows_of l.then).warehouses l.key-iterator)))
+    ≡ verdict First (g.R.RowsOf.rows_of l.then)

@@ -6,9 +6,10 @@ use Rattle.oe_rows.specs.declared.keys.DistrictKey.{DistrictKey}
 use Rattle.oe_rows.specs.declared.districts.District.{District}
 use Rattle.oe_model.specs.Audits.{Verdict, verdict_of, verdict}
 use Rattle.oe_model.specs.Rows.{Rows}
+use Rattle.oe_store.specs.Places.{rows}
 use Rattle.oe_audit.specs.declared.conditions.DistrictCondition.{DistrictCondition}
 use Rattle.oe_audit.specs.declared.conditions.DistrictCondition.TheVariants as of_districts
-use Rattle.oe_audit.specs.AsOf.{rows_then, entries_then, passes, model_condition}
+use Rattle.oe_audit.specs.Walks.{entries_then, passes, model_condition}
 use Rattle.oe_audit.proofs.DistrictFacts.{agrees}
 use Rattle.oe_audit.proofs.StoodFacts.{districts_are}
 use Rattle.oe_audit.proofs.conditions.of_districts.Goals as goal
@@ -23,10 +24,12 @@ told_is of_districts.Fourth r = λ i. verdict_of key.District
     (option_map (λ e. e.0) (find (λ (e : DistrictKey × District). not (sym (agrees r e.0) i)) (entries r.districts)))
 
 pub loop-key-init : goal.loop-key-init
-loop-key-init c =
-    let past : Rows = rows_then c.args.tables.now c.args.when.now in
+loop-key-init g c =
+    let t = c.args.then.now in
+    let past : Rows = g.R.RowsOf.rows_of t in
     ap (λ (es : List (DistrictKey × District)). verdict_in c.args.condition.now past
-    (entries_then c.args.when.now past.districts es)) (c.into_iter-key-iterator.ensures.into_iter_gives
-    ∙ c.districts-key-items.ensures)
-    ∙ ap (verdict_in c.args.condition.now past) (sym (districts_are c.args.tables.now c.args.when.now c.requires))
+    (entries_then (g.R.RowsOf.are_now t) past.districts es)) (c.into_iter-key-iterator.ensures.into_iter_gives
+    ∙ c.districts-key-items.ensures ∙ ap (λ ts. entries (rows ts).districts) c.tables.ensures)
+    ∙ ap (verdict_in c.args.condition.now past) (sym (districts_are (rows (g.R.RowsOf.tables_of t))
+    past (g.R.RowsOf.are_now t) (g.met.R.RowsOf.same t) c.requires))
     ∙ told_is c.args.condition.now past

@@ -3,8 +3,11 @@ use Rattle.oe_rows.specs.declared.keys.OrderKey.{OrderKey}
 use Rattle.oe_rows.specs.declared.keys.NewOrderKey.{NewOrderKey}
 use Rattle.oe_rows.specs.declared.orders.NewOrder.{NewOrder}
 use Rattle.oe_rows.specs.declared.orders.Order.{Order}
+use Rattle.oe_rows.specs.Key.{district_cmp}
 use Rattle.oe_model.specs.Rows.{Rows}
-use Rattle.oe_audit.specs.AsOf.{rows_then, stood_among}
+use Rattle.oe_model.specs.Keys.{district_of_order}
+use Rattle.oe_store.specs.Places.{entries_of, rows}
+use Rattle.oe_audit.specs.Walks.{stood_among}
 use Rattle.oe_audit.proofs.StoodFacts.{as_new, new_orders_are}
 use Rattle.oe_audit.proofs.NumberFacts.{has_no_gap}
 use Rattle.oe_audit.proofs.DistrictFacts.{third_is}
@@ -14,10 +17,13 @@ abbrev numbers : List (NewOrderKey × NewOrder) → List ℕ
 numbers es = map (λ e. e.0.order) es
 
 pub loop-order-init : goal.loop-order-init
-loop-order-init c =
-    let past : Rows = rows_then c.args.tables.now c.args.when.now in
+loop-order-init g c =
+    let t = c.args.then.now in
+    let past : Rows = g.R.RowsOf.rows_of t in
     ap (λ (es : List (OrderKey × Order)). has_no_gap None (numbers (stood_among past.new_orders (as_new es))))
-    (c.into_iter-order-iterator.ensures.into_iter_gives ∙ c.orders_of-order-items.ensures)
+    (c.into_iter-order-iterator.ensures.into_iter_gives ∙ c.orders_of-order-items.ensures
+    ∙ ap (λ ts. entries_of district_cmp district_of_order c.args.key.now (rows ts).orders) c.tables.ensures)
     ∙ ap (λ es. has_no_gap None (numbers es))
-    (sym (new_orders_are c.args.tables.now c.args.when.now c.requires c.args.key.now))
+    (sym (new_orders_are (rows (g.R.RowsOf.tables_of t)) past (g.R.RowsOf.are_now t)
+    (g.met.R.RowsOf.same t) c.requires c.args.key.now))
     ∙ third_is past c.args.key.now

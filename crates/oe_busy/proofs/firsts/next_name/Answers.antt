@@ -1,5 +1,4 @@
 use Rattle.std.proofs.Common.{◌+◌, take, option_map, sym, ap, ◌∙◌, subst, arith}
-use Rattle.std.specs.Map.{keys_of}
 use Rattle.oe_locks.specs.Listed.{stands}
 use Rattle.oe_busy.specs.Happenings.{count_in}
 use Rattle.oe_busy.specs.Firsts.{is_left, sooner}

@@ -1,6 +1,5 @@
 use Rattle.std.proofs.Common.{◌≡◌, ◌∙◌, sym, ap, subst, nat_eq}
 use Rattle.std.specs.Prelude.{pos}
-use Rattle.std.specs.Option.{option_map}
 use Rattle.std.specs.Map.{lookup}
 use Rattle.oe_tally.specs.Tallies.{total, IsSettled}
 use Rattle.oe_tally.specs.Counting.{counts_joined}

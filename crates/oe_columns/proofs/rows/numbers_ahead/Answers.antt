@@ -1,7 +1,5 @@
 use Rattle.std.proofs.Common.{◌≡◌, ◌+◌, ◌∙◌, ap, refl, sym, arith, length, get_or}
-use Rattle.std.specs.Prelude.{slice_get}
 use Rattle.oe_fields.specs.Parting.{fields_of}
-use Rattle.oe_fields.specs.Spelling.{number_in}
 use Rattle.oe_columns.proofs.RowFacts.{first_more}
 use Rattle.oe_columns.proofs.rows.numbers_ahead.Goals as goal
 

@@ -1,4 +1,4 @@
-use Rattle.std.proofs.Common.{◌≡◌, ℕ, ◌+◌, ◌-◌, ◌<◌, ◌≤◌, length, ◌∙◌, rules, arith}
+use Rattle.std.proofs.Common.{◌≡◌, ℕ, ◌+◌, ◌-◌, ◌<◌, ◌≤◌, ◌∙◌, rules, arith}
 use Rattle.oe_drive.proofs.SlotFacts.{free_before, if_ok, if_ok_so}
 use Rattle.oe_drive.proofs.driving.drive_all.Goals as goal
 

@@ -1,4 +1,4 @@
-use Rattle.std.proofs.Common.{◌≡◌, ◌+◌, List, [], map, sym, subst, true, rules}
+use Rattle.std.proofs.Common.{◌≡◌, ◌+◌, [], map, sym, subst, true, rules}
 use Rattle.oe_hall.specs.Desks.{TheDesk}
 use Rattle.oe_drive.specs.Posts.{station_of}
 use Rattle.oe_drive.specs.Stations.{HaveCarriedOut}

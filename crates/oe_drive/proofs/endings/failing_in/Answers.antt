@@ -5,11 +5,11 @@ use Rattle.oe_drive.proofs.EndFacts.{none_fails}
 use Rattle.oe_drive.proofs.endings.failing_in.Goals as goal
 
 pub returns-clause-first : goal.returns-clause-first
-returns-clause-first c =
+returns-clause-first g c =
     subst (λ (r : Rows). IsFirstFailing r c.first_failing.result) c.tables.ensures c.first_failing.ensures
 
 pub returns-clause-none : goal.returns-clause-none
-returns-clause-none c =
+returns-clause-none g c =
     let quiet = c.open_count-open.ensures.quiet.0 (c.open_count-open.ensures.count ∙ c.requires) in
     none_fails _ c.first_failing.result (c.conditions_hold.ensures.when_quiet _ c.is_reached.ensures quiet)
     (subst (λ (r : Rows). IsFirstFailing r c.first_failing.result) c.tables.ensures c.first_failing.ensures)

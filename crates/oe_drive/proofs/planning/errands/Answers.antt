@@ -1,4 +1,4 @@
-use Rattle.std.proofs.Common.{◌≡◌, ℕ, ◌+◌, List, [], ◌∷◌, ◌++◌, ap, ◌∙◌, rules}
+use Rattle.std.proofs.Common.{◌≡◌, ℕ, ◌+◌, [], ◌∷◌, ◌++◌, ap, ◌∙◌, rules}
 use Rattle.oe_terms.proofs.ChainFacts.{words_more}
 use Rattle.oe_drive.specs.Plans.{errands_of}
 use Rattle.oe_drive.proofs.PlanFacts.{errands_more}

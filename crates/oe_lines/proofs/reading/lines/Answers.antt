@@ -1,7 +1,5 @@
-use Rattle.std.proofs.Common.{◌≡◌, ℕ, ◌<◌, ◌∷◌, [], ◌++◌, List, length, Option, Some, None, codes, sym, ap, ◌∙◌, arith}
+use Rattle.std.proofs.Common.{◌≡◌, ℕ, ◌<◌, ◌∷◌, [], ◌++◌, length, sym, ap, ◌∙◌, arith}
 use Rattle.std.proofs.Common.{rules}
-use Rattle.oe_values.specs.Front.{after_of}
-use Rattle.oe_lines.specs.Reading.{line_of}
 use Rattle.oe_lines.proofs.OrderFacts.{lines_after, five, stopped, at_last, parted, went_on, at_end, none_of, some_of}
 use Rattle.oe_lines.proofs.OrderFacts.{read_five}
 use Rattle.oe_lines.proofs.reading.lines.Goals as goal

@@ -1,4 +1,4 @@
-use Rattle.std.proofs.Common.{◌<◌, ◌≡◌, [], refl, sym, ap, ◌∙◌, add-one, length, drop, codes, false, arith}
+use Rattle.std.proofs.Common.{◌<◌, ◌≡◌, [], sym, ap, ◌∙◌, add-one, length, codes, false, arith}
 use Rattle.std.proofs.lemmas.List.{drop_all}
 use Rattle.oe_values.specs.Text.{occurs_in}
 use Rattle.oe_values.proofs.BrandFacts.{stands_later, stands_here}

@@ -1,4 +1,4 @@
-use Rattle.std.proofs.Common.{suc, arith}
+use Rattle.std.proofs.Common.{arith}
 use Rattle.oe_busy.proofs.MetFacts.{met_is, on_ok}
 use Rattle.oe_busy.proofs.names.NameCounts.add.Goals as goal
 

@@ -1,4 +1,4 @@
-use Rattle.std.proofs.Common.{suc, arith}
+use Rattle.std.proofs.Common.{arith}
 use Rattle.oe_busy.proofs.WaitFacts.{waits_more}
 use Rattle.oe_busy.proofs.waits.Waits.note.Goals as goal
 

@@ -1,4 +1,4 @@
-use Rattle.std.proofs.Common.{Some, None, arith}
+use Rattle.std.proofs.Common.{None, arith}
 use Rattle.std.proofs.lemmas.Int.{to_z-of_z}
 use Rattle.oe_columns.proofs.RowFacts.{amount_column, amount_some}
 use Rattle.oe_columns.proofs.rows.Row.amount.Goals as goal

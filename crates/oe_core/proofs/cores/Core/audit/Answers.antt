@@ -1,5 +1,5 @@
 use Rattle.oe_machine.specs.Verdict.{verdict_of}
-use Rattle.oe_audit.proofs.PassedFacts.{passed_at}
+use Rattle.oe_versions.proofs.PassedFacts.{passed_at}
 use Rattle.oe_core.proofs.AuditFacts.{audited_here, refused_here}
 use Rattle.oe_core.proofs.LentFacts.{stands_here}
 use Rattle.oe_core.proofs.MoveFacts.{reached_here}

@@ -1,4 +1,4 @@
-use Rattle.std.proofs.Common.{◌≡◌, None, Some, sym, ap, ◌∙◌}
+use Rattle.std.proofs.Common.{◌≡◌, sym, ap, ◌∙◌}
 use Rattle.oe_model.specs.Requests.{query_rejection}
 use Rattle.oe_core.proofs.MoveFacts.{carries}
 use Rattle.oe_core.proofs.LentFacts.{stands_here}

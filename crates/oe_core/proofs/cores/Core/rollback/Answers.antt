@@ -1,4 +1,4 @@
-use Rattle.std.proofs.Common.{None, refl, slice_set}
+use Rattle.std.proofs.Common.{refl}
 use Rattle.oe_theory.specs.Next.{Rollback, Rolled_back}
 use Rattle.oe_core.specs.Core.{Moves}
 use Rattle.oe_core.proofs.MoveFacts.{carries, nothing_taken, taken_here, own_work, rolled_back_here}

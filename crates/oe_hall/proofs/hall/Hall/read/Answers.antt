@@ -1,4 +1,4 @@
-use Rattle.std.proofs.Common.{◌≡◌, ℕ, inr, refl, sym, ap, ◌∙◌}
+use Rattle.std.proofs.Common.{ℕ, inr, refl, ap, ◌∙◌}
 use Rattle.std.specs.Arc.{arc_value}
 use Rattle.oe_moments.specs.Pins.{TheKeeper}
 use Rattle.oe_requests.specs.declared.refusals.Refusal.TheVariants as refusal

@@ -1,6 +1,5 @@
 use Rattle.std.proofs.Common.{◌≡◌, ◌∙◌, ap, refl}
 use Rattle.oe_requests.specs.declared.steps.Step.TheVariants as step
-use Rattle.oe_core.specs.Core.{world_of}
 use Rattle.oe_history.specs.declared.views.Entry.{Entry}
 use Rattle.oe_history.specs.Views.{entry}
 use Rattle.oe_history.specs.Calls.{TheHistory}
@@ -15,8 +14,8 @@ invariant_of-self g c =
     let by = c.args.caller.now.by in
     let t = c.args.terminal in
     let w = g.J.Naming.names.opened in
-    let v = world_of c.self.inside.core in
-    let v' = world_of c.advance-advanced.new.core in
+    let v = g.M.Machine.world c.self.inside.core in
+    let v' = g.M.Machine.world c.advance-advanced.new.core in
     let h = c.self.inside.history in
     let h' = c.write.new.self in
     let e : Entry = entry by (step.Advance by) (advance_answer c.advance-advanced.result
@@ -35,8 +34,8 @@ returns-clause-run g c =
     let by = c.args.caller.now.by in
     let t = c.args.terminal in
     let w = g.J.Naming.names.opened in
-    let v = world_of c.self.inside.core in
-    let v' = world_of c.advance-advanced.new.core in
+    let v = g.M.Machine.world c.self.inside.core in
+    let v' = g.M.Machine.world c.advance-advanced.new.core in
     let h = c.self.inside.history in
     let h' = c.write.new.self in
     let e : Entry = entry by (step.Advance by) (advance_answer c.advance-advanced.result
@@ -56,8 +55,8 @@ returns-clause-open g c =
     let by = c.args.caller.now.by in
     let t = c.args.terminal in
     let w = g.J.Naming.names.opened in
-    let v = world_of c.self.inside.core in
-    let v' = world_of c.advance-advanced.new.core in
+    let v = g.M.Machine.world c.self.inside.core in
+    let v' = g.M.Machine.world c.advance-advanced.new.core in
     let h = c.self.inside.history in
     let h' = c.write.new.self in
     let e : Entry = entry by (step.Advance by) (advance_answer c.advance-advanced.result

@@ -1,7 +1,6 @@
 use Rattle.std.proofs.Common.{◌≡◌, ◌∙◌, ap, refl}
 use Rattle.oe_requests.specs.declared.steps.Step.TheVariants as step
 use Rattle.oe_machine.specs.Steps.{begin_answer}
-use Rattle.oe_core.specs.Core.{world_of}
 use Rattle.oe_history.specs.declared.views.Entry.{Entry}
 use Rattle.oe_history.specs.Views.{entry}
 use Rattle.oe_history.specs.Calls.{TheHistory}
@@ -15,8 +14,8 @@ invariant_of-self g c =
     let by = c.args.caller.now.by in
     let t = c.args.terminal in
     let w = g.J.Naming.names.opened in
-    let v = world_of c.self.inside.core in
-    let v' = world_of c.begin-begun.new.core in
+    let v = g.M.Machine.world c.self.inside.core in
+    let v' = g.M.Machine.world c.begin-begun.new.core in
     let h = c.self.inside.history in
     let h' = c.write.new.self in
     let e : Entry = entry by (step.Begin by c.args.request.now) (begin_answer c.begin-begun.result) in
@@ -33,8 +32,8 @@ returns-clause-run g c =
     let by = c.args.caller.now.by in
     let t = c.args.terminal in
     let w = g.J.Naming.names.opened in
-    let v = world_of c.self.inside.core in
-    let v' = world_of c.begin-begun.new.core in
+    let v = g.M.Machine.world c.self.inside.core in
+    let v' = g.M.Machine.world c.begin-begun.new.core in
     let h = c.self.inside.history in
     let h' = c.write.new.self in
     let e : Entry = entry by (step.Begin by c.args.request.now) (begin_answer c.begin-begun.result) in
@@ -52,8 +51,8 @@ returns-clause-open g c =
     let by = c.args.caller.now.by in
     let t = c.args.terminal in
     let w = g.J.Naming.names.opened in
-    let v = world_of c.self.inside.core in
-    let v' = world_of c.begin-begun.new.core in
+    let v = g.M.Machine.world c.self.inside.core in
+    let v' = g.M.Machine.world c.begin-begun.new.core in
     let h = c.self.inside.history in
     let h' = c.write.new.self in
     let e : Entry = entry by (step.Begin by c.args.request.now) (begin_answer c.begin-begun.result) in

@@ -1,6 +1,5 @@
 use Rattle.std.proofs.Common.{◌∙◌, ap, refl}
 use Rattle.oe_requests.specs.declared.steps.Step.TheVariants as step
-use Rattle.oe_core.specs.Core.{world_of}
 use Rattle.oe_history.specs.declared.views.Entry.{Entry}
 use Rattle.oe_history.specs.Views.{entry}
 use Rattle.oe_history.specs.Calls.{TheHistory}
@@ -14,8 +13,8 @@ invariant_of-self g c =
     let i = c.self.invariant in
     let by = c.args.caller.now.by in
     let w = g.J.Naming.names.opened in
-    let v = world_of c.self.inside.core in
-    let v' = world_of c.self.inside.core in
+    let v = g.M.Machine.world c.self.inside.core in
+    let v' = g.M.Machine.world c.self.inside.core in
     let h = c.self.inside.history in
     let h' = c.write.new.self in
     let e : Entry = entry by (step.Read c.args.moment c.args.query.now) (read_answer c.read-read.result) in
@@ -28,8 +27,8 @@ returns-clause-run g c =
     let i = c.self.invariant in
     let by = c.args.caller.now.by in
     let w = g.J.Naming.names.opened in
-    let v = world_of c.self.inside.core in
-    let v' = world_of c.self.inside.core in
+    let v = g.M.Machine.world c.self.inside.core in
+    let v' = g.M.Machine.world c.self.inside.core in
     let h = c.self.inside.history in
     let h' = c.write.new.self in
     let e : Entry = entry by (step.Read c.args.moment c.args.query.now) (read_answer c.read-read.result) in

@@ -1,4 +1,4 @@
-use Rattle.std.proofs.Common.{rules, ◌≡◌, ℕ, Ok, Err, inl, inr, refl, subst}
+use Rattle.std.proofs.Common.{rules, ◌≡◌, ℕ, Ok, Err, inl, subst}
 use Rattle.oe_hall.specs.Histories.{HasHappened}
 use Rattle.oe_hall.specs.Turns.{BeginCall}
 use Rattle.oe_hall.specs.Desks.{TheDesk}

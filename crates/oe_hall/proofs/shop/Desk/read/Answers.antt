@@ -1,4 +1,4 @@
-use Rattle.std.proofs.Common.{rules, ℕ, Bool, inl, sym, ◌∙◌, subst}
+use Rattle.std.proofs.Common.{rules, ℕ, inl, sym, ◌∙◌, subst}
 use Rattle.atomic_table.specs.Seated.{TableId}
 use Rattle.oe_hall.specs.Histories.{HasHappened}
 use Rattle.oe_hall.specs.Turns.{ReadCall}
@@ -8,15 +8,18 @@ use Rattle.oe_hall.proofs.shop.Desk.read.Goals as goal
 
 pub returns-clause-turn : goal.returns-clause-turn
 returns-clause-turn g c =
+    let world = g.M.Machine.world in
     let p = c.args.pin.now in
     let q = c.args.query.now in
     let r = c.read.result in
     inl (
       search rules,
-      subst (λ (d : TheDesk). ReadCall d.seat.words d.calls d.seat.terminal p q r c.read.new.caller) c.self.view_is
-          (subst (λ (z : TableId). ReadCall z c.self.inside.caller c.self.inside.seat.terminal p q r c.read.new.caller)
+      subst (λ (d : TheDesk). ReadCall world d.seat.words d.calls d.seat.terminal p q r c.read.new.caller)
+          c.self.view_is
+          (subst (λ (z : TableId). ReadCall world z c.self.inside.caller c.self.inside.seat.terminal p q r
+          c.read.new.caller)
           (sym c.self.invariant.0)
-          (subst (λ (t : ℕ). ReadCall g.J.Naming.names.words c.self.inside.caller t p q r c.read.new.caller)
+          (subst (λ (t : ℕ). ReadCall world g.J.Naming.names.words c.self.inside.caller t p q r c.read.new.caller)
           c.self.invariant.3 c.read.ensures.called)),
     )
 
@@ -29,8 +32,8 @@ invariant_of-self g c =
     let i = c.self.invariant in
     let here = c.read.ensures.here in
     let left =
-    read_leaves g.J.Naming.names.words c.self.inside.caller c.read.new.caller c.self.inside.caller.by c.args.pin.now
-    c.args.query.now c.read.result c.read.ensures.called in (
+    read_leaves g.M.Machine.world g.J.Naming.names.words c.self.inside.caller c.read.new.caller c.self.inside.caller.by
+    c.args.pin.now c.args.query.now c.read.result c.read.ensures.called in (
       i.0,
       i.1,
       here.0 ∙ i.2,

@@ -1,4 +1,4 @@
-use Rattle.std.proofs.Common.{◌≡◌, ◌∙◌, ap, sym, length, rules}
+use Rattle.std.proofs.Common.{◌≡◌, ◌∙◌, ap, sym, length}
 use Rattle.oe_index.proofs.ListFacts.{lists-same, cut-padded}
 use Rattle.oe_index.proofs.lists.Lists.add.Goals as goal
 

@@ -1,8 +1,7 @@
-use Rattle.std.proofs.Common.{◌+◌, ◌++◌, [], take, ◌∙◌, ap, arith, refl, subst, sym}
+use Rattle.std.proofs.Common.{◌+◌, ◌++◌, [], take, ◌∙◌, arith, refl}
 use Rattle.std.proofs.lemmas.List.{length-take}
 use Rattle.oe_script.specs.Hearing.{HearsEach}
 use Rattle.oe_script.specs.Session.{state_of}
-use Rattle.oe_admission.specs.Programs.{IsLive}
 use Rattle.oe_script.proofs.Ending.{standing_start, read_none, read_more, read_end, ran_unread, ran_long, ran_cut}
 use Rattle.oe_script.proofs.Ending.{broken_here, ran_whole}
 use Rattle.oe_script.proofs.session.Session.run.Goals as goal

@@ -1,0 +1,3 @@
+-- What the clauses of this crate cite.
+pub mod Columns
+pub mod Then
